@@ -1,0 +1,8 @@
+pub mod BlockLaws
+pub mod WriteLaws
+pub mod ReadLaws
+pub mod OneBlock
+pub mod LogThenList
+pub mod ListThenLog
+pub mod CopyLaws
+pub mod BadLaws

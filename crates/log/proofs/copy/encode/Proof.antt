@@ -1,0 +1,49 @@
+-- `encode` meets its contract: the log is written only where the answer is a count, and then every test was passed.
+use mathlib.Core.Path.{_∙_, sym, _≡_, ap}
+use native.Mathlib.Omega.{arith}
+use Rattle.log.specs.Log.{encodeAnswer, encodeLog, copied}
+use Rattle.log.proofs.CopyLaws.{Encoded, encoded}
+use borrow.Author.Needs.{needs}
+use Rattle.log.proofs.copy.encode.Statement.{statement}
+use Rattle.log.proofs.copy.encode.Tie as tie
+
+encode-answer-requires : tie.Need-encode-answer-requires
+encode-answer-requires c κs = search needs
+
+enum-told : tie.Need-enum-told
+enum-told c = search needs
+
+write-log-requires : tie.Need-write-log-requires
+write-log-requires c κs =
+    let p = encoded _ _ _ _ (sym (c .before .before .before .encode-answer .ensures) ∙ c .before .enum-told .given .1) in
+    (p .room-enough, p .number-fits)
+
+enum-told-2 : tie.Need-enum-told-2
+enum-told-2 c = search needs
+
+same-length : tie.Need-same-length
+same-length c = search needs
+
+returns : tie.Need-returns
+unfolding encodeLog copied
+returns c =
+    let d = c .before .before .before .before .before .before in
+    (d .encode-answer .ensures, rw (sym (d .encode-answer .ensures) ∙ c .before .before .before .before .enum-told .given .1) (c .before .before .write-log .ensures))
+
+returns-2 : tie.Need-returns-2
+unfolding encodeLog copied
+returns-2 c =
+    let d = c .before .before in
+    (d .encode-answer .ensures, rw (sym (d .encode-answer .ensures) ∙ c .enum-told2 .given .1))
+
+pub encode-spec : {M : Type 1} → statement M
+encode-spec =
+    tie.close
+    (tie.spec
+    encode-answer-requires
+    enum-told
+    write-log-requires
+    enum-told-2
+    same-length
+    returns
+    returns-2)

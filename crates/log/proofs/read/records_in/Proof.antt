@@ -1,0 +1,36 @@
+-- `log::read::records_in` meets its contract: every block but the last uses 15 records.
+use Prim.Native.Nat.{_-_}
+use native.Mathlib.Omega.{arith}
+use Rattle.log.specs.Block.{blocksIn}
+use Rattle.log.proofs.ReadLaws.{used-below, length-list, length-none}
+use borrow.Author.Needs.{needs}
+use Rattle.log.proofs.read.records_in.Statement.{statement}
+use Rattle.log.proofs.read.records_in.Tie as tie
+
+returns : tie.Need-returns
+returns c = omega (arith, length-none (c .before .before .args .log .now) (omega arith))
+
+sub-last : tie.Need-sub-last
+sub-last c = search needs
+
+mul-result : tie.Need-mul-result
+mul-result c = search needs
+
+used-at-requires : tie.Need-used-at-requires
+used-at-requires c κs = search needs
+
+add-result : tie.Need-add-result
+add-result c =
+    let s = c .before .before .before in
+    let log = s .args .log .now in
+    omega (arith, used-below log (s .pre) (blocksIn log - 1) (omega arith))
+
+returns-2 : tie.Need-returns-2
+returns-2 c =
+    let s = c .before .before .before in
+    let log = s .args .log .now in
+    omega (arith, length-list log (s .pre) (blocksIn log - 1) (omega arith))
+
+pub records-in-spec : {M : Type 1} → statement M
+records-in-spec =
+    tie.close (tie.spec returns sub-last mul-result used-at-requires add-result returns-2)

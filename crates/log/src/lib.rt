@@ -1,0 +1,14 @@
+// Blocks of 512 bytes, and logs of them (document 01, "Blocks").
+pub mod block;
+pub mod copy;
+pub mod read;
+pub mod sum;
+pub mod write;
+
+use record::Refusal;
+
+// What a call that copies answers: a refusal, or how many blocks or records it made.
+pub enum Copied {
+    Refused(Refusal),
+    Count(u64),
+}

@@ -1,0 +1,43 @@
+-- `num::put_u16` meets its contract: two stores side by side are one splice.
+use Prim.Native.Nat.{_+_, _/_, _%_}
+use mathlib.Core.Path.{_≡_, _∙_}
+use mathlib.Core.List.{[], _∷_}
+use native.Mathlib.Omega.{arith}
+use lib.ListN.{length, set, length-set}
+use Rattle.num.specs.Bytes.{bytes, splice}
+use Rattle.num.proofs.SpliceLaws.{splice-one, splice-more}
+use mathlib.Core.Path.{refl}
+use borrow.Author.Needs.{needs}
+use Rattle.num.proofs.put_u16.Statement.{statement}
+use Rattle.num.proofs.put_u16.Tie as tie
+
+cast-b : tie.Need-cast-b
+cast-b c = search needs
+
+slice-write-b : tie.Need-slice-write-b
+slice-write-b c = search needs
+
+cast-b-2 : tie.Need-cast-b-2
+cast-b-2 c = search needs
+
+add-b : tie.Need-add-b
+add-b c = search needs
+
+slice-write-b-2 : tie.Need-slice-write-b-2
+slice-write-b-2 c = simp length-set (omega arith)
+
+same-length : tie.Need-same-length
+same-length c = search needs
+
+returns : tie.Need-returns
+unfolding bytes
+returns c =
+    let l = c .args .b .now in
+    let a = c .args .at in
+    let x = c .args .x in
+    rw (splice-one (set l a (x % 256)) (a + 1) (x / 256 % 256) (simp length-set (omega arith)), splice-one l a (x % 256) (omega arith))
+    (splice-more l a (x % 256 ∷ []) (x / 256 % 256 ∷ []) 1 refl (omega arith))
+
+pub put-u16-spec : {M : Type 1} → statement M
+put-u16-spec =
+    tie.close (tie.spec cast-b slice-write-b cast-b-2 add-b slice-write-b-2 same-length returns)

@@ -1,0 +1,22 @@
+-- `encode_col` meets its contract: the test and the word are those of the definition.
+use Rattle.packet.specs.Col.{colCoded}
+use borrow.Author.Needs.{needs}
+use Rattle.packet.proofs.col.encode_col.Statement.{statement}
+use Rattle.packet.proofs.col.encode_col.Tie as tie
+
+col-fits-requires : tie.Need-col-fits-requires
+col-fits-requires c κs = search needs
+
+col-word-requires : tie.Need-col-word-requires
+col-word-requires c κs = search needs
+
+returns : tie.Need-returns
+unfolding colCoded
+returns c = rw (← c .before .before .col-fits .ensures, c .before .if1 .taken, c .col-word .ensures)
+
+returns-2 : tie.Need-returns-2
+unfolding colCoded
+returns-2 c = rw (← c .before .col-fits .ensures, c .if1 .left)
+
+pub encode-col-spec : {M : Type 1} → statement M
+encode-col-spec = tie.close (tie.spec col-fits-requires col-word-requires returns returns-2)

@@ -1,0 +1,41 @@
+-- `rdram_word_decode` meets its contract: each arm is a case of the definition.
+use mathlib.Core.Path.{_∙_, sym}
+use Rattle.rdram.specs.Words.{wordDecoded, packetUnder}
+use borrow.Author.Needs.{needs}
+use Rattle.rdram.proofs.words.rdram_word_decode.Statement.{statement}
+use Rattle.rdram.proofs.words.rdram_word_decode.Tie as tie
+
+read-settings-requires : tie.Need-read-settings-requires
+read-settings-requires c κs = search needs
+
+enum-told : tie.Need-enum-told
+enum-told c = search needs
+
+no-packet-requires : tie.Need-no-packet-requires
+no-packet-requires c κs = search needs
+
+enum-known-s : tie.Need-enum-known-s
+enum-known-s c = search needs
+
+packet-answer-requires : tie.Need-packet-answer-requires
+packet-answer-requires c κs = search needs
+
+returns : tie.Need-returns
+unfolding wordDecoded packetUnder
+returns c = rw (sym (c .before .before .before .read-settings .ensures) ∙ c .before .enum-told .given .1) (c .no-packet .ensures)
+
+returns-2 : tie.Need-returns-2
+unfolding wordDecoded packetUnder
+returns-2 c = rw (sym (c .before .before .before .before .read-settings .ensures) ∙ c .before .before .s .given .1) (c .packet-answer .ensures)
+
+pub rdram-word-decode-spec : {M : Type 1} → statement M
+rdram-word-decode-spec =
+    tie.close
+    (tie.spec
+    read-settings-requires
+    enum-told
+    no-packet-requires
+    enum-known-s
+    packet-answer-requires
+    returns
+    returns-2)

@@ -1,0 +1,54 @@
+-- `read_request` meets its contract: length, kind and spare bytes are tested in the definition's order.
+use mathlib.Core.Path.{sym, _∙_}
+use borrow.Author.Tests.{eq-eqb, ne-eqb, le-leb, lt-leb}
+use Rattle.record.specs.Request.{requestRead}
+use borrow.Author.Needs.{needs}
+use Rattle.record.proofs.requests.read_request.Statement.{statement}
+use Rattle.record.proofs.requests.read_request.Tie as tie
+
+returns : tie.Need-returns
+unfolding requestRead
+returns c = rw (ne-eqb _ 24 (c .if1 .taken))
+
+shared-slice-read-if2 : tie.Need-shared-slice-read-if2
+shared-slice-read-if2 c = search needs
+
+returns-2 : tie.Need-returns-2
+unfolding requestRead
+returns-2 c = rw (eq-eqb _ 24 (c .before .before .if1 .left), lt-leb _ 4 (c .if2 .taken))
+
+spare-right-requires : tie.Need-spare-right-requires
+spare-right-requires c κs = search needs
+
+request-of-requires : tie.Need-request-of-requires
+request-of-requires c κs = search needs
+
+returns-3 : tie.Need-returns-3
+unfolding requestRead
+returns-3 c =
+    rw (
+      eq-eqb _ 24 (c .before .before .before .before .before .if1 .left),
+      le-leb _ 4 (c .before .before .before .if2 .left),
+      sym (c .before .before .spare-right .ensures) ∙ c .before .if3 .taken,
+    ) (c .request-of .ensures)
+
+returns-4 : tie.Need-returns-4
+unfolding requestRead
+returns-4 c =
+    rw (
+      eq-eqb _ 24 (c .before .before .before .before .if1 .left),
+      le-leb _ 4 (c .before .before .if2 .left),
+      sym (c .before .spare-right .ensures) ∙ c .if3 .left,
+    )
+
+pub read-request-spec : {M : Type 1} → statement M
+read-request-spec =
+    tie.close
+    (tie.spec
+    returns
+    shared-slice-read-if2
+    returns-2
+    spare-right-requires
+    request-of-requires
+    returns-3
+    returns-4)

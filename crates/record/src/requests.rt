@@ -1,0 +1,119 @@
+// Requests as bytes.
+ghost use mathlib.Core.Path.{_≡_};
+ghost use lib.ListN.{length};
+ghost use Rattle.record.specs.Request.{usesByte, spareRight, placeOf, placed, requestOf, requestRead};
+use crate::Dualoct;
+use crate::Place;
+use crate::Refusal;
+use crate::Request;
+use crate::RequestRead;
+use settings::Settings;
+
+// Whether a kind uses byte i of a request.
+fn uses_byte(kind: u32, i: usize) -> bool
+    ensures { λ r. ⌜ r ≡ usesByte kind i ⌝ }
+{
+    if i == 0 {
+        return true;
+    }
+    if i <= 4 {
+        return kind <= 1;
+    }
+    if i == 5 {
+        return false;
+    }
+    if i <= 7 {
+        return kind == 1;
+    }
+    if i <= 11 {
+        return num::either(kind == 1, kind == 3);
+    }
+    kind == 1
+}
+
+// Whether every byte that the kind does not use is zero.
+fn spare_right(b: &[u8]) -> bool
+    requires { ⌜ length (now b) ≡ 24 ⌝ }
+    ensures { λ r. ⌜ r ≡ spareRight (now (b .entry)) ⌝ }
+{
+    let kind = num::wide(b[0]);
+    let mut i = 0;
+    while i < 24 {
+        if num::either(uses_byte(kind, i), b[i] == 0) {
+            i += 1;
+        } else {
+            return false;
+        }
+    }
+    true
+}
+
+// The bank, row and column of a request.
+fn place_of(b: &[u8]) -> Place
+    requires { ⌜ length (now b) ≡ 24 ⌝ }
+    ensures { λ r. ⌜ r ≡ placeOf (now (b .entry)) ⌝ }
+{
+    Place {
+        bank: num::wide(b[1]),
+        row: num::u16_at(b, 2),
+        column: num::wide(b[4]),
+    }
+}
+
+// The request, where its place is in range.
+fn placed(s: Settings, p: Place, q: Request) -> RequestRead
+    ensures { λ r. ⌜ r ≡ placed s p q ⌝ }
+{
+    if 32 <= p.bank {
+        return RequestRead::Refused(Refusal::Bank);
+    }
+    if s.rows <= p.row {
+        return RequestRead::Refused(Refusal::Row);
+    }
+    if s.columns <= p.column {
+        return RequestRead::Refused(Refusal::Column);
+    }
+    RequestRead::Accepted(q)
+}
+
+// The request of 24 bytes whose kind and spare bytes are right.
+fn request_of(s: Settings, b: &[u8]) -> RequestRead
+    requires { ⌜ length (now b) ≡ 24 ⌝ }
+    ensures { λ r. ⌜ r ≡ requestOf s (now (b .entry)) ⌝ }
+{
+    let kind = b[0];
+    let p = place_of(b);
+    if kind == 0 {
+        return placed(s, p, Request::Read(p));
+    }
+    if kind == 1 {
+        let data = Dualoct {
+            dqa: num::u64_at(b, 8),
+            dqb: num::u64_at(b, 16),
+        };
+        return placed(s, p, Request::Write(p, num::u16_at(b, 6), data));
+    }
+    if kind == 2 {
+        return RequestRead::Accepted(Request::Refresh);
+    }
+    if kind == 3 {
+        return RequestRead::Accepted(Request::Wait(num::u32_at(b, 8)));
+    }
+    RequestRead::Accepted(Request::Drain)
+}
+
+// The request that bytes say under the settings, or its refusal.
+pub fn read_request(s: Settings, b: &[u8]) -> RequestRead
+    ensures { λ r. ⌜ r ≡ requestRead s (now (b .entry)) ⌝ }
+{
+    if b.len() != 24 {
+        return RequestRead::Refused(Refusal::Length);
+    }
+    if 4 < b[0] {
+        return RequestRead::Refused(Refusal::Kind);
+    }
+    if spare_right(b) {
+        return request_of(s, b);
+    }
+    RequestRead::Refused(Refusal::Spare)
+}

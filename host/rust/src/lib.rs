@@ -1,0 +1,318 @@
+//! Direct RDRAM packet words and block logs: safe wrappers of `librdram.a`.
+//!
+//! ```
+//! use rdram::{log_decode, log_encode, packet_record, word_encode, Kind, Packet, Settings, MASK_FULL};
+//!
+//! let settings = Settings {
+//!     t_rc: 28, t_ras: 20, t_rp: 8, t_pp: 8, t_rr: 8, t_rcd: 9, t_rtr: 8, t_rdp: 4, t_rtp: 4,
+//!     t_cc: 4, t_cac: 8, t_cwd: 6, rows: 2, columns: 4, device: 0,
+//! };
+//! let word = word_encode(&settings, Packet::Rd { bank: 0, column: 1, mask: MASK_FULL })?;
+//! assert_eq!(word, 0x80_0026_0000);
+//!
+//! let list = packet_record(13, Kind::Col, word);
+//! let mut log = [0; 512];
+//! assert_eq!(log_encode(&settings, &list, &mut log)?, 1);
+//! let mut back = [0; 32];
+//! assert_eq!(log_decode(&settings, &log, &mut back)?, 1);
+//! assert_eq!(back, list);
+//! # Ok::<(), rdram::Refusal>(())
+//! ```
+#![no_std]
+
+pub mod raw;
+mod refusal;
+
+pub use refusal::Refusal;
+
+/// Bytes of the settings.
+pub const SETTINGS_BYTES: usize = 32;
+/// Bytes of a record: instant 4, kind 1 (0 ROW, 1 COL, 2 D), zero 3, word 8, data 16.
+pub const RECORD_BYTES: usize = 32;
+/// Bytes of a block.
+pub const BLOCK_BYTES: usize = 512;
+/// Most records of a block.
+pub const BLOCK_RECORDS: usize = 15;
+/// The mask of a COL packet that is sent without one (M = 0).
+pub const MASK_FULL: u16 = 0xFFFF;
+
+/// Timings in cycles, the size of the device and its number.
+///
+/// The nine timings from `t_rc` to `t_rtp` are 4 to 64, `t_cc` 4 to 16, `t_cac` 7 to 12, `t_cwd`
+/// 1 to `t_cac` − 1, `rows` 1 to 512, `columns` 1 to 128 and `device` 0 to 31. Every call tests
+/// this and answers [`Refusal::Settings`] otherwise.
+#[derive(Clone, Copy, Debug, PartialEq, Eq)]
+pub struct Settings {
+    pub t_rc: u16,
+    pub t_ras: u16,
+    pub t_rp: u16,
+    pub t_pp: u16,
+    pub t_rr: u16,
+    pub t_rcd: u16,
+    pub t_rtr: u16,
+    pub t_rdp: u16,
+    pub t_rtp: u16,
+    pub t_cc: u16,
+    pub t_cac: u16,
+    pub t_cwd: u16,
+    pub rows: u16,
+    pub columns: u16,
+    pub device: u16,
+}
+
+impl Settings {
+    /// The settings as the library reads them: sixteen numbers, low byte first.
+    ///
+    /// ```
+    /// # let settings = rdram::Settings {
+    /// #     t_rc: 28, t_ras: 20, t_rp: 8, t_pp: 8, t_rr: 8, t_rcd: 9, t_rtr: 8, t_rdp: 4, t_rtp: 4,
+    /// #     t_cc: 4, t_cac: 8, t_cwd: 6, rows: 512, columns: 4, device: 7,
+    /// # };
+    /// let bytes = settings.to_bytes();
+    /// assert_eq!(bytes[..4], [28, 0, 20, 0]);
+    /// assert_eq!(bytes[24..], [0, 0, 0, 2, 4, 0, 7, 0]); // 0, rows, columns, device
+    /// ```
+    pub fn to_bytes(&self) -> [u8; SETTINGS_BYTES] {
+        #[rustfmt::skip]
+        let figures = [
+            self.t_rc, self.t_ras, self.t_rp, self.t_pp, self.t_rr, self.t_rcd, self.t_rtr,
+            self.t_rdp, self.t_rtp, self.t_cc, self.t_cac, self.t_cwd, 0, self.rows, self.columns,
+            self.device,
+        ];
+        let mut bytes = [0; SETTINGS_BYTES];
+        for (pair, figure) in bytes.chunks_exact_mut(2).zip(figures) {
+            pair.copy_from_slice(&figure.to_le_bytes());
+        }
+        bytes
+    }
+}
+
+/// The kind of a word.
+#[derive(Clone, Copy, Debug, PartialEq, Eq)]
+pub enum Kind {
+    Row,
+    Col,
+}
+
+/// A ROW packet (`Act` to `Refp`) or a COL packet (`Nocop` to `Rd`).
+///
+/// `mask` is the mask that a COL packet carries; [`MASK_FULL`] is sent as M = 0. It governs the
+/// write that the packet retires, not the packet's own.
+#[derive(Clone, Copy, Debug, PartialEq, Eq)]
+pub enum Packet {
+    Act { bank: u8, row: u16 },
+    Prer { bank: u8 },
+    Refa { bank: u8 },
+    Refp { bank: u8 },
+    Nocop { mask: u16 },
+    Wr { bank: u8, column: u8, mask: u16 },
+    Rd { bank: u8, column: u8, mask: u16 },
+}
+
+impl Packet {
+    /// Command, bank, place and mask as the library counts them.
+    fn fields(self) -> (u32, u8, u16, u16) {
+        match self {
+            Packet::Act { bank, row } => (0, bank, row, 0),
+            Packet::Prer { bank } => (1, bank, 0, 0),
+            Packet::Refa { bank } => (2, bank, 0, 0),
+            Packet::Refp { bank } => (3, bank, 0, 0),
+            Packet::Nocop { mask } => (4, 0, 0, mask),
+            Packet::Wr { bank, column, mask } => (5, bank, column.into(), mask),
+            Packet::Rd { bank, column, mask } => (6, bank, column.into(), mask),
+        }
+    }
+
+    /// The packet of an accepted answer: its fields fit, since banks are below 32, rows below 512
+    /// and columns below 128.
+    fn of(answer: raw::Packet) -> Packet {
+        let (bank, mask) = (answer.bank as u8, answer.mask as u16);
+        let (row, column) = (answer.place as u16, answer.place as u8);
+        match answer.command {
+            0 => Packet::Act { bank, row },
+            1 => Packet::Prer { bank },
+            2 => Packet::Refa { bank },
+            3 => Packet::Refp { bank },
+            4 => Packet::Nocop { mask },
+            5 => Packet::Wr { bank, column, mask },
+            _ => Packet::Rd { bank, column, mask },
+        }
+    }
+}
+
+/// The word of a packet: 24 bits for a ROW packet, 40 for a COL packet.
+///
+/// Refused: [`Refusal::Settings`], then [`Refusal::Word`] for a bank above 31 and a row or column
+/// not below that of the settings.
+///
+/// ```
+/// # let settings = rdram::Settings {
+/// #     t_rc: 28, t_ras: 20, t_rp: 8, t_pp: 8, t_rr: 8, t_rcd: 9, t_rtr: 8, t_rdp: 4, t_rtp: 4,
+/// #     t_cc: 4, t_cac: 8, t_cwd: 6, rows: 2, columns: 4, device: 0,
+/// # };
+/// use rdram::{word_encode, Packet, Refusal};
+/// assert_eq!(word_encode(&settings, Packet::Act { bank: 0, row: 0 }), Ok(0x401000));
+/// // The settings have two rows.
+/// let refused = word_encode(&settings, Packet::Act { bank: 0, row: 2 });
+/// assert_eq!(refused, Err(Refusal::Word { place: None }));
+/// ```
+pub fn word_encode(settings: &Settings, packet: Packet) -> Result<u64, Refusal> {
+    let s = settings.to_bytes();
+    let (command, bank, place, mask) = packet.fields();
+    // SAFETY: the pointer and the length are those of `s`.
+    let answer = unsafe {
+        raw::rdram_word_encode(
+            s.as_ptr(),
+            s.len(),
+            command,
+            bank.into(),
+            place.into(),
+            mask.into(),
+        )
+    };
+    match answer.number {
+        0 => Ok(answer.word),
+        number => Err(Refusal::of_word(number)),
+    }
+}
+
+/// The packet of a word.
+///
+/// Refused: [`Refusal::Settings`], then [`Refusal::Word`] for a word that no packet has under the
+/// settings.
+///
+/// ```
+/// # let settings = rdram::Settings {
+/// #     t_rc: 28, t_ras: 20, t_rp: 8, t_pp: 8, t_rr: 8, t_rcd: 9, t_rtr: 8, t_rdp: 4, t_rtp: 4,
+/// #     t_cc: 4, t_cac: 8, t_cwd: 6, rows: 2, columns: 4, device: 0,
+/// # };
+/// use rdram::{word_decode, Kind, Packet, MASK_FULL};
+/// let packet = word_decode(&settings, Kind::Col, 0x80_0026_0000)?;
+/// assert_eq!(packet, Packet::Rd { bank: 0, column: 1, mask: MASK_FULL });
+/// assert!(word_decode(&settings, Kind::Row, 0x80_0026_0000).is_err());
+/// # Ok::<(), rdram::Refusal>(())
+/// ```
+pub fn word_decode(settings: &Settings, kind: Kind, word: u64) -> Result<Packet, Refusal> {
+    let s = settings.to_bytes();
+    // SAFETY: the pointer and the length are those of `s`.
+    let answer = unsafe { raw::rdram_word_decode(s.as_ptr(), s.len(), kind as u32, word) };
+    match answer.number {
+        0 => Ok(Packet::of(answer)),
+        number => Err(Refusal::of_word(number)),
+    }
+}
+
+/// Packs `list`, whole records of 32 bytes, into blocks of 512 bytes at the start of `log` and
+/// answers the number of blocks. The bytes of `log` after them are unchanged.
+///
+/// n records need n / 15 blocks, rounded up. Timing rules are not tested.
+///
+/// Refused, in this order: [`Refusal::Settings`]; [`Refusal::Length`] for a list that is not whole
+/// records; [`Refusal::Word`] with the first bad record; [`Refusal::Full`] for a log of fewer
+/// whole blocks than needed.
+///
+/// ```
+/// # let settings = rdram::Settings {
+/// #     t_rc: 28, t_ras: 20, t_rp: 8, t_pp: 8, t_rr: 8, t_rcd: 9, t_rtr: 8, t_rdp: 4, t_rtp: 4,
+/// #     t_cc: 4, t_cac: 8, t_cwd: 6, rows: 2, columns: 4, device: 0,
+/// # };
+/// use rdram::{log_encode, packet_record, Kind, Refusal};
+/// let list = [packet_record(4, Kind::Row, 0x401000), packet_record(13, Kind::Col, 0x80_0026_0000)];
+/// let mut log = [0; 512];
+/// assert_eq!(log_encode(&settings, list.as_flattened(), &mut log), Ok(1));
+/// assert_eq!(log_encode(&settings, list.as_flattened(), &mut []), Err(Refusal::Full));
+/// ```
+pub fn log_encode(settings: &Settings, list: &[u8], log: &mut [u8]) -> Result<usize, Refusal> {
+    let s = settings.to_bytes();
+    // SAFETY: each pointer and length are those of one slice; `log` is lent by `&mut`, so it
+    // overlaps neither `list` nor `s`.
+    let answer = unsafe {
+        raw::rdram_log_encode(
+            s.as_ptr(),
+            s.len(),
+            list.as_ptr(),
+            list.len(),
+            log.as_mut_ptr(),
+            log.len(),
+        )
+    };
+    copied(answer)
+}
+
+/// Unpacks `log`, whole blocks of 512 bytes, into records of 32 bytes at the start of `list` and
+/// answers the number of records. The bytes of `list` after them are unchanged.
+///
+/// A block has at most 15 records. Timing rules are not tested.
+///
+/// Refused, in this order: [`Refusal::Settings`]; [`Refusal::Length`] for a log that is not whole
+/// blocks; [`Refusal::Block`] with the first bad block; [`Refusal::Word`] with the first bad
+/// record; [`Refusal::Full`] for a list of fewer whole records than needed.
+///
+/// ```
+/// # let settings = rdram::Settings {
+/// #     t_rc: 28, t_ras: 20, t_rp: 8, t_pp: 8, t_rr: 8, t_rcd: 9, t_rtr: 8, t_rdp: 4, t_rtp: 4,
+/// #     t_cc: 4, t_cac: 8, t_cwd: 6, rows: 2, columns: 4, device: 0,
+/// # };
+/// use rdram::{log_decode, log_encode, packet_record, Kind, Refusal};
+/// let mut log = [0; 512];
+/// log_encode(&settings, &packet_record(4, Kind::Row, 0x401000), &mut log)?;
+/// let mut list = [0; 15 * 32];
+/// assert_eq!(log_decode(&settings, &log, &mut list), Ok(1));
+/// log[0] ^= 1;
+/// let refusal = log_decode(&settings, &log, &mut list).unwrap_err();
+/// assert_eq!(refusal, Refusal::Block { place: 0 });
+/// assert_eq!((refusal.number(), refusal.place()), (12, Some(0)));
+/// # Ok::<(), Refusal>(())
+/// ```
+pub fn log_decode(settings: &Settings, log: &[u8], list: &mut [u8]) -> Result<usize, Refusal> {
+    let s = settings.to_bytes();
+    // SAFETY: each pointer and length are those of one slice; `list` is lent by `&mut`, so it
+    // overlaps neither `log` nor `s`.
+    let answer = unsafe {
+        raw::rdram_log_decode(
+            s.as_ptr(),
+            s.len(),
+            log.as_ptr(),
+            log.len(),
+            list.as_mut_ptr(),
+            list.len(),
+        )
+    };
+    copied(answer)
+}
+
+/// A count is at most the length of a buffer, so it fits `usize`.
+fn copied(answer: raw::Copied) -> Result<usize, Refusal> {
+    match answer.number {
+        0 => Ok(answer.count as usize),
+        number => Err(Refusal::of_log(number, answer.place)),
+    }
+}
+
+/// The record of a ROW or COL packet.
+///
+/// ```
+/// let record = rdram::packet_record(4, rdram::Kind::Row, 0x401000);
+/// assert_eq!(record[..12], [4, 0, 0, 0, 0, 0, 0, 0, 0x00, 0x10, 0x40, 0]);
+/// ```
+pub fn packet_record(instant: u32, kind: Kind, word: u64) -> [u8; RECORD_BYTES] {
+    let mut record = [0; RECORD_BYTES];
+    record[..4].copy_from_slice(&instant.to_le_bytes());
+    record[4] = kind as u8;
+    record[8..16].copy_from_slice(&word.to_le_bytes());
+    record
+}
+
+/// The record of a D: the data of the WR before it.
+///
+/// ```
+/// let record = rdram::data_record(25, &[7; 16]);
+/// assert_eq!((record[0], record[4], record[16]), (25, 2, 7));
+/// ```
+pub fn data_record(instant: u32, data: &[u8; 16]) -> [u8; RECORD_BYTES] {
+    let mut record = [0; RECORD_BYTES];
+    record[..4].copy_from_slice(&instant.to_le_bytes());
+    record[4] = 2;
+    record[16..].copy_from_slice(data);
+    record
+}

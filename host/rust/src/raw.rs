@@ -1,0 +1,66 @@
+//! The C functions of `librdram.a`, as `rdram.h` declares them. Each slice is a pointer and a
+//! length; a null pointer is allowed with length 0; the buffers of one call must not overlap.
+
+/// The answer of [`rdram_word_encode`].
+#[repr(C)]
+#[derive(Clone, Copy, Debug, PartialEq, Eq)]
+pub struct Word {
+    pub number: u32,
+    pub word: u64,
+}
+
+/// The answer of [`rdram_word_decode`].
+#[repr(C)]
+#[derive(Clone, Copy, Debug, PartialEq, Eq)]
+pub struct Packet {
+    pub number: u32,
+    pub command: u32,
+    pub bank: u32,
+    pub place: u32,
+    pub mask: u32,
+}
+
+/// The answer of [`rdram_log_encode`] and [`rdram_log_decode`].
+#[repr(C)]
+#[derive(Clone, Copy, Debug, PartialEq, Eq)]
+pub struct Copied {
+    pub number: u32,
+    pub place: u64,
+    pub count: u64,
+}
+
+extern "C" {
+    pub fn rdram_word_encode(
+        settings: *const u8,
+        settings_len: usize,
+        command: u32,
+        bank: u32,
+        place: u32,
+        mask: u32,
+    ) -> Word;
+
+    pub fn rdram_word_decode(
+        settings: *const u8,
+        settings_len: usize,
+        kind: u32,
+        word: u64,
+    ) -> Packet;
+
+    pub fn rdram_log_encode(
+        settings: *const u8,
+        settings_len: usize,
+        list: *const u8,
+        list_len: usize,
+        log: *mut u8,
+        log_len: usize,
+    ) -> Copied;
+
+    pub fn rdram_log_decode(
+        settings: *const u8,
+        settings_len: usize,
+        log: *const u8,
+        log_len: usize,
+        list: *mut u8,
+        list_len: usize,
+    ) -> Copied;
+}

@@ -1,0 +1,103 @@
+//! Refusals and what they say.
+
+use core::fmt;
+
+/// Why a call was refused. A refused call has changed none of its buffers.
+#[derive(Clone, Copy, Debug, PartialEq, Eq)]
+#[non_exhaustive]
+pub enum Refusal {
+    /// 1: a figure of the settings is outside its range.
+    Settings,
+    /// 8: the buffer for the answer is too short.
+    Full,
+    /// 10: a packet, word or record has no coding under the settings. `place` is the first such
+    /// record of a list, from 0; a single packet or word has none.
+    Word { place: Option<u64> },
+    /// 12: a block is damaged or out of order. `place` is the first such block, from 0.
+    Block { place: u64 },
+    /// 13: a length is not one of whole records or blocks.
+    Length,
+    /// A number that this crate does not know: crate and archive are of different versions.
+    Other { number: u32 },
+}
+
+impl Refusal {
+    /// The number of the refusal in the table of `docs/01-scope.md`.
+    pub fn number(&self) -> u32 {
+        match *self {
+            Refusal::Settings => 1,
+            Refusal::Full => 8,
+            Refusal::Word { .. } => 10,
+            Refusal::Block { .. } => 12,
+            Refusal::Length => 13,
+            Refusal::Other { number } => number,
+        }
+    }
+
+    /// The first bad record or block, from 0, where the refusal names one.
+    pub fn place(&self) -> Option<u64> {
+        match *self {
+            Refusal::Word { place } => place,
+            Refusal::Block { place } => Some(place),
+            _ => None,
+        }
+    }
+
+    /// The refusal of a call on one packet or word.
+    pub(crate) fn of_word(number: u32) -> Refusal {
+        match number {
+            1 => Refusal::Settings,
+            10 => Refusal::Word { place: None },
+            number => Refusal::Other { number },
+        }
+    }
+
+    /// The refusal of a call on a list or log.
+    pub(crate) fn of_log(number: u32, place: u64) -> Refusal {
+        match number {
+            1 => Refusal::Settings,
+            8 => Refusal::Full,
+            10 => Refusal::Word { place: Some(place) },
+            12 => Refusal::Block { place },
+            13 => Refusal::Length,
+            number => Refusal::Other { number },
+        }
+    }
+}
+
+impl fmt::Display for Refusal {
+    fn fmt(&self, f: &mut fmt::Formatter<'_>) -> fmt::Result {
+        write!(f, "refusal {}: ", self.number())?;
+        match *self {
+            Refusal::Settings => {
+                f.write_str("a figure of the settings is outside its range; correct the settings")
+            }
+            Refusal::Full => f.write_str(
+                "the buffer for the answer is too short; pass a longer one, or a shorter list",
+            ),
+            Refusal::Word { place: None } => f.write_str(
+                "the packet or word has no coding under these settings; \
+                 check its fields, the device number, rows and columns",
+            ),
+            Refusal::Word { place: Some(place) } => write!(
+                f,
+                "record {place} (from 0) is not well formed under these settings; \
+                 correct the record, or use the settings under which it was written"
+            ),
+            Refusal::Block { place } => write!(
+                f,
+                "block {place} (from 0) is damaged or out of order; \
+                 restore the log, or pass only the blocks before it"
+            ),
+            Refusal::Length => f.write_str(
+                "the length is not one of whole records (32 bytes) or blocks (512 bytes); \
+                 pass whole ones",
+            ),
+            Refusal::Other { .. } => {
+                f.write_str("unknown number; use the crate and the archive of the same version")
+            }
+        }
+    }
+}
+
+impl core::error::Error for Refusal {}

@@ -1,0 +1,11 @@
+//! The library against an independent implementation (`reference`), on fixed-seed inputs. Each
+//! test prints how many cases it ran and how many had each answer number: see them with
+//! `cargo test -- --show-output`.
+
+mod calls;
+mod logs;
+mod random;
+mod reference;
+mod refusals;
+mod settings;
+mod words;

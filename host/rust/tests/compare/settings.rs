@@ -1,0 +1,97 @@
+//! Settings at and beyond the ends of every range, through all four calls.
+
+use crate::calls::{log_decode, log_encode, word_decode, word_encode, Seen};
+use crate::random::{bytes, Random};
+use crate::reference::{blocks, Fields, ACT, BOUNDS, RESERVED, T_CAC, T_CWD};
+
+/// ACT of bank 0, row 0, device 0: a packet, its word, a list and a log.
+fn all_calls(seen: &mut Seen, settings: &[u8]) {
+    let packet = Fields {
+        command: ACT,
+        bank: 0,
+        place: 0,
+        mask: 0,
+    };
+    word_encode(seen, settings, packet);
+    word_decode(seen, settings, 0, 0x401000);
+    let mut list = [0; 32];
+    list[8..12].copy_from_slice(&[0x00, 0x10, 0x40, 0]);
+    log_encode(seen, settings, &list, 512);
+    log_decode(seen, settings, &blocks(&list), 32);
+}
+
+#[test]
+fn ends_of_every_range() {
+    let (mut seen, mut random) = (Seen::default(), Random::new(1));
+    for _ in 0..200 {
+        let valid = random.numbers();
+        for (at, (low, high)) in BOUNDS.into_iter().enumerate() {
+            let any = random.word() as u16;
+            for value in [
+                low.wrapping_sub(1),
+                low,
+                low + 1,
+                high.wrapping_sub(1),
+                high,
+                high + 1,
+                high + 256,
+                any,
+            ] {
+                let mut numbers = valid;
+                numbers[at] = value;
+                all_calls(&mut seen, &bytes(&numbers));
+            }
+        }
+    }
+    seen.report("settings, ends of every range", &[0, 1, 10]);
+}
+
+#[test]
+fn column_delays() {
+    let (mut seen, mut random) = (Seen::default(), Random::new(2));
+    for cac in 5..=14 {
+        for cwd in 0..=15 {
+            let mut numbers = random.numbers();
+            (numbers[T_CAC], numbers[T_CWD]) = (cac, cwd);
+            all_calls(&mut seen, &bytes(&numbers));
+        }
+    }
+    seen.report("settings, tCAC and tCWD", &[0, 1, 10]);
+}
+
+#[test]
+fn reserved_number() {
+    let (mut seen, mut random) = (Seen::default(), Random::new(3));
+    for value in 0..=u16::MAX {
+        let mut numbers = random.numbers();
+        numbers[RESERVED] = value;
+        all_calls(&mut seen, &bytes(&numbers));
+    }
+    seen.report("settings, reserved number", &[0, 1, 10]);
+}
+
+#[test]
+fn lengths() {
+    let (mut seen, mut random) = (Seen::default(), Random::new(4));
+    for _ in 0..50 {
+        let mut long = bytes(&random.numbers());
+        long.extend(bytes(&random.numbers()));
+        for length in 0..=long.len() {
+            all_calls(&mut seen, &long[..length]);
+        }
+    }
+    seen.report("settings, lengths", &[0, 1, 10]);
+}
+
+#[test]
+fn random_bytes() {
+    let (mut seen, mut random) = (Seen::default(), Random::new(5));
+    for _ in 0..20_000 {
+        let any = random.bytes(32);
+        all_calls(&mut seen, &any);
+        let mut numbers = random.numbers();
+        numbers[random.below(16)] ^= 1 << random.below(16);
+        all_calls(&mut seen, &bytes(&numbers));
+    }
+    seen.report("settings, random bytes", &[0, 1, 10]);
+}
