@@ -1,0 +1,139 @@
+-- Short lists under set H (document 01, "Bench runs"): which record is the first bad one and which rules it breaks, by the rules
+-- over all earlier records and by the tests on the tracked state.
+-- Assumes nothing.
+use Prim.Native.Nat.{ℕ, zero, suc}
+use mathlib.Core.Path.{_≡_, refl}
+use mathlib.Core.Bool.{Bool, true, false, cond}
+use mathlib.Core.List.{List, [], _∷_, map}
+use lib.Dec.{ltb}
+use lib.ListN.{length}
+use Rattle.num.specs.Search.{allUpTo, firstFalse}
+use Rattle.settings.specs.declared.Settings.{Settings}
+use Rattle.packet.specs.declared.RowPacket.{RowPacket}
+use Rattle.packet.specs.declared.RowPacket.the-variants.{Act, Prer, Refa, Refp}
+use Rattle.packet.specs.declared.ColPacket.{ColPacket}
+use Rattle.packet.specs.declared.ColPacket.the-variants.{Nocop, Wr, Rd}
+use Rattle.record.specs.declared.Record.{Record}
+use Rattle.record.specs.declared.Record.the-variants.{RowAt, ColAt, DataOf}
+use Rattle.channel.specs.Neighbour.{split}
+use Rattle.channel.specs.Packets.{rowTraits, colTraits, traits, instant, isPacket}
+use Rattle.channel.specs.History.{bankBy, bankAfter, isClosed, isOpen, waitingBy, waitingAfter, eventOf, events, keeps}
+use Rattle.channel.specs.Rules.{bankCount, dataDelay, dueAfter, rules}
+use Rattle.channel.specs.Rules.{rule1, rule2, rule3, rule4, rule5, rule6, rule7, rule8, rule9, rule10, rule11, rule12, rule13, rule14, rule15, rule16}
+use Rattle.channel.specs.Broken.{earlier, recordOf, lowest, lowestRule, ruleAt, firstBroken, everyRule}
+use Rattle.channel.specs.Channel.{fresh, waitingOf, dueOf, bankNext, trackNext, settled, bufferBy, bufferNext, afterPacket, afterData, after}
+use Rattle.channel.specs.Checks.{maxUpTo, checks, judged, channelAfter, foundAt, firstFound}
+
+pub setH : Settings
+setH =
+    record {
+      rc = 28; ras = 20; rp = 8; pp = 8; rr = 8; rcd = 9; rtr = 8; rdp = 4; rtp = 4; cc = 4; cac = 8; cwd = 6; rows = 2; columns = 4; device = 0
+    }
+
+-- a packet at an instant, and data
+abbrev pub row : ℕ → RowPacket → Record
+row t p = RowAt (record { 0 = t }) p
+
+abbrev pub col : ℕ → ColPacket → Record
+col t p = ColAt (record { 0 = t }) p
+
+abbrev pub dat : ℕ → Record
+dat t = DataOf (record { 0 = t }) (record { dqa = 0; dqb = 0 })
+
+abbrev pub full : ℕ
+full = 0xFFFF
+
+-- the numbers of the tests that fail
+pub numbers : ℕ → List Bool → List ℕ
+numbers n [] = []
+numbers n (b ∷ l) = cond b (numbers (suc n) l) (n ∷ numbers (suc n) l)
+
+-- the first bad record; where there is one, also the lowest rule that it breaks and then all of them
+pub verdict : ℕ → ℕ → ℕ → List Bool → List ℕ
+verdict place size lowest tests = cond (ltb place size) (place ∷ lowest ∷ numbers 1 tests) (place ∷ [])
+
+pub byRules : List Record → List ℕ
+byRules l =
+    let j : ℕ = firstBroken setH split l in
+    verdict j (length l) (ruleAt setH split l j) (rules setH split (earlier l j) (recordOf l j))
+
+pub byTests : List Record → List ℕ
+byTests l =
+    let j : ℕ = firstFound setH split l in
+    verdict j (length l) (foundAt setH split l j) (checks setH split (channelAfter split l j) (recordOf l j))
+
+pub lists : List (List Record)
+lists =
+    -- run 1
+    (row 4 (Act 0 0) ∷ col 13 (Rd 0 1 full) ∷ col 19 (Wr 0 1 full) ∷ dat 25 ∷ col 27 (Nocop 3) ∷ col 31 (Rd 0 1 full) ∷ row 35 (Prer 0)
+      ∷ row 43 (Act 1 0) ∷ col 52 (Rd 1 0 full) ∷ row 63 (Prer 1) ∷ [])
+    -- "ACT at 4, RD at 12: refusal 11, rule 10, record 1"
+    ∷ (row 4 (Act 0 0) ∷ col 12 (Rd 0 1 full) ∷ [])
+    -- a packet in the place of a D: judged by all rules
+    ∷ (row 4 (Act 0 0) ∷ col 5 (Wr 0 0 full) ∷ col 6 (Nocop full) ∷ [])
+    -- each rule alone: 1 by order, by range, and by the instant of the data
+    ∷ (row 8 (Act 0 0) ∷ col 7 (Nocop full) ∷ [])
+    ∷ (row 3 (Act 0 0) ∷ [])
+    ∷ (row 4 (Act 0 0) ∷ col 999999993 (Rd 0 0 full) ∷ [])
+    ∷ (row 4 (Act 0 0) ∷ row 7 (Prer 5) ∷ [])
+    ∷ (col 4 (Nocop full) ∷ col 7 (Nocop full) ∷ [])
+    ∷ (row 4 (Act 0 0) ∷ row 32 (Act 1 0) ∷ [])
+    ∷ (row 4 (Act 0 0) ∷ row 8 (Act 2 0) ∷ [])
+    ∷ (row 4 (Refa 0) ∷ row 23 (Prer 1) ∷ [])
+    -- 7 by the bank, and by a neighbour of a bank that the PRER closed
+    ∷ (row 4 (Act 0 0) ∷ row 28 (Prer 0) ∷ row 35 (Act 0 1) ∷ [])
+    ∷ (row 4 (Act 1 0) ∷ row 28 (Prer 0) ∷ row 35 (Act 2 0) ∷ [])
+    ∷ (row 4 (Refp 0) ∷ row 11 (Prer 5) ∷ [])
+    ∷ (row 4 (Refa 0) ∷ col 13 (Rd 0 0 full) ∷ [])
+    ∷ (row 4 (Act 0 0) ∷ col 4 (Wr 0 0 full) ∷ [])
+    ∷ (row 4 (Act 0 0) ∷ col 13 (Rd 0 0 full) ∷ col 18 (Wr 0 0 full) ∷ [])
+    ∷ (row 4 (Act 0 0) ∷ col 10 (Wr 0 0 full) ∷ dat 16 ∷ col 17 (Nocop full) ∷ [])
+    -- 13 by an RD, and by a retire
+    ∷ (row 4 (Act 0 0) ∷ col 21 (Rd 0 0 full) ∷ row 24 (Prer 1) ∷ [])
+    ∷ (row 4 (Act 0 0) ∷ col 13 (Wr 0 0 full) ∷ dat 19 ∷ col 21 (Nocop full) ∷ row 24 (Prer 0) ∷ [])
+    ∷ (row 4 (Act 0 0) ∷ col 5 (Wr 0 0 full) ∷ dat 11 ∷ row 24 (Prer 1) ∷ [])
+    -- 15 by a packet in the place of the D, by its instant, and by a D elsewhere
+    ∷ (row 4 (Act 0 0) ∷ col 5 (Wr 0 0 full) ∷ col 13 (Nocop full) ∷ [])
+    ∷ (row 4 (Act 0 0) ∷ col 5 (Wr 0 0 full) ∷ dat 12 ∷ [])
+    ∷ (dat 4 ∷ [])
+    -- 16 with nothing buffered, and on an RD
+    ∷ (col 4 (Nocop 3) ∷ [])
+    ∷ (row 4 (Act 0 0) ∷ col 5 (Wr 0 0 full) ∷ dat 11 ∷ col 13 (Rd 0 1 3) ∷ [])
+    -- no rule broken: banks 15 and 16, a ROW and a COL packet at one instant, a packet before the instant of the D before it
+    ∷ (row 4 (Act 15 0) ∷ row 12 (Act 16 0) ∷ col 12 (Wr 15 0 full) ∷ dat 18 ∷ row 16 (Prer 3) ∷ [])
+    ∷ []
+
+pub verdicts : List (List ℕ)
+verdicts =
+    (10 ∷ [])
+    ∷ (1 ∷ 10 ∷ 10 ∷ [])
+    ∷ (2 ∷ 3 ∷ 3 ∷ 10 ∷ 12 ∷ 15 ∷ [])
+    ∷ (1 ∷ 1 ∷ 1 ∷ [])
+    ∷ (0 ∷ 1 ∷ 1 ∷ [])
+    ∷ (1 ∷ 1 ∷ 1 ∷ [])
+    ∷ (1 ∷ 2 ∷ 2 ∷ [])
+    ∷ (1 ∷ 3 ∷ 3 ∷ [])
+    ∷ (1 ∷ 4 ∷ 4 ∷ [])
+    ∷ (1 ∷ 5 ∷ 5 ∷ [])
+    ∷ (1 ∷ 6 ∷ 6 ∷ [])
+    ∷ (2 ∷ 7 ∷ 7 ∷ [])
+    ∷ (2 ∷ 7 ∷ 7 ∷ [])
+    ∷ (1 ∷ 8 ∷ 8 ∷ [])
+    ∷ (1 ∷ 9 ∷ 9 ∷ [])
+    ∷ (1 ∷ 10 ∷ 10 ∷ [])
+    ∷ (2 ∷ 11 ∷ 11 ∷ [])
+    ∷ (3 ∷ 12 ∷ 12 ∷ [])
+    ∷ (2 ∷ 13 ∷ 13 ∷ [])
+    ∷ (4 ∷ 13 ∷ 13 ∷ [])
+    ∷ (3 ∷ 14 ∷ 14 ∷ [])
+    ∷ (2 ∷ 15 ∷ 15 ∷ [])
+    ∷ (2 ∷ 15 ∷ 15 ∷ [])
+    ∷ (0 ∷ 15 ∷ 15 ∷ [])
+    ∷ (0 ∷ 16 ∷ 16 ∷ [])
+    ∷ (3 ∷ 16 ∷ 16 ∷ [])
+    ∷ (5 ∷ [])
+    ∷ []
+
+pub worked : (map byRules lists ≡ verdicts) × (map byTests lists ≡ verdicts)
+unfolding setH numbers verdict byRules byTests lists verdicts split rowTraits colTraits traits instant isPacket bankBy bankAfter isClosed isOpen waitingBy waitingAfter eventOf events keeps bankCount dataDelay dueAfter rules rule1 rule2 rule3 rule4 rule5 rule6 rule7 rule8 rule9 rule10 rule11 rule12 rule13 rule14 rule15 rule16 lowest lowestRule firstBroken everyRule fresh waitingOf dueOf bankNext trackNext settled bufferBy bufferNext afterPacket afterData after maxUpTo checks judged channelAfter firstFound allUpTo firstFalse
+worked = (refl, refl)
