@@ -78,7 +78,7 @@ last-suffices q gap t (e ∷ h) s = go (q e) (leb (e .at + gap) t) refl (last-su
     go true true ec ih =
         rw (since-later (e .at) gap (omega arith), ec, ih) (omega (arith, le-leb, leb-true, since-le (lastOf q h) gap, last-le-newest q h (s .2)))
 
-keeps-none : (q : Event → Bool) (t : ℕ) (h : List Event) → keeps (λ e. only (q e) none) t h ≡ true
+pub keeps-none : (q : Event → Bool) (t : ℕ) (h : List Event) → keeps (λ e. only (q e) none) t h ≡ true
 unfolding keeps
 keeps-none q t [] = refl
 keeps-none q t (e ∷ h) = go (q e) (keeps-none q t h)
