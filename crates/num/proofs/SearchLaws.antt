@@ -4,6 +4,8 @@ use mathlib.Core.Path.{_≡_, refl, ap, ap₂, _∙_, sym}
 use mathlib.Core.Bool.{Bool, true, false, cond, _&&_, and-eq-true-iff}
 use mathlib.Core.Logic.{_⊎_, ⊎-elim}
 use Prim.Native.Nat.{ℕ, zero, suc, _+_, _<_, _≤_}
+use lib.Dec.{eqb}
+use borrow.Author.Tests.{eq-eqb, ne-eqb}
 use native.Mathlib.Nat.{eq-or-lt-of-le, le-of-suc-le-suc}
 use native.Mathlib.Numerals.{add-one}
 use native.Mathlib.Omega.{arith}
@@ -80,8 +82,30 @@ first-fails f (suc n) l = go (λ m. first-fails (λ i. f (suc i)) n m) (f 0) ref
     go ih false e l = e
     go ih true e l = ih (omega arith)
 
+-- tests have the same first failure where they agree at each index before which the second holds
+pub first-agree : (f g : ℕ → Bool) (n : ℕ) → ((j : ℕ) → j < n → ((i : ℕ) → i < j → g i ≡ true) → f j ≡ g j) → firstFalse f n ≡ firstFalse g n
+first-agree f g n h = go (eq-or-lt-of-le (first-le g n))
+  where
+    agree : (j : ℕ) → j < n → j ≤ firstFalse g n → f j ≡ g j
+    agree j l m = h j l (λ i k. first-before g n i (omega arith))
+    holds : (i : ℕ) → i < firstFalse g n → f i ≡ true
+    holds i l = agree i (omega (arith, first-le g n)) (omega arith) ∙ first-before g n i l
+    go : (firstFalse g n ≡ n) ⊎ (firstFalse g n < n) → firstFalse f n ≡ firstFalse g n
+    go =
+        ⊎-elim
+        (λ e. first-none f n (λ i l. holds i (omega arith)) ∙ sym e)
+        (λ l. first-at f n (firstFalse g n) holds l (agree (firstFalse g n) l (omega arith) ∙ first-fails g n l))
+
 -- tests that agree below n have the same first failure
 pub first-same : (f g : ℕ → Bool) (n : ℕ) → ((i : ℕ) → i < n → f i ≡ g i) → firstFalse f n ≡ firstFalse g n
-unfolding firstFalse
-first-same f g zero h = refl
-first-same f g (suc n) h = rw (h 0 (omega arith), first-same (λ i. f (suc i)) (λ i. g (suc i)) n (λ i l. h (suc i) (omega arith)))
+first-same f g n h = first-agree f g n (λ i l p. h i l)
+
+-- there is no failure below n exactly where every index below n holds
+pub first-all : (f : ℕ → Bool) (n : ℕ) → eqb (firstFalse f n) n ≡ allUpTo f n
+first-all f n = go (eq-or-lt-of-le (first-le f n))
+  where
+    go : (firstFalse f n ≡ n) ⊎ (firstFalse f n < n) → eqb (firstFalse f n) n ≡ allUpTo f n
+    go =
+        ⊎-elim
+        (λ e. eq-eqb _ _ e ∙ sym (all-intro f n (λ k l. first-before f n k (omega arith))))
+        (λ l. ne-eqb (firstFalse f n) n (λ q. omega arith) ∙ sym (all-false f n (firstFalse f n) l (first-fails f n l)))
