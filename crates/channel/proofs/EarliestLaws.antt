@@ -1,0 +1,80 @@
+-- A record breaks no rule exactly where the state allows it, its instant is not before the largest of the bounds, and its data
+-- come in range: so that bound is the least instant that the rules allow.
+-- Assumes nothing.
+use Prim.Native.Nat.{ℕ, zero, suc, _+_, _-_, _≤_, _<_, max}
+use mathlib.Core.Path.{_≡_, refl, sym, ap, _∙_}
+use mathlib.Core.Bool.{Bool, true, false, not, _&&_, _||_, cond, and-true, and-false, and-assoc, and-comm}
+use mathlib.Core.List.{List, [], _∷_}
+use mathlib.Core.Option.{Option, none, some}
+use lib.Dec.{eqb, leb, leb·zero}
+use borrow.Author.Tests.{leb-true, le-leb, leb-false, lt-leb, ne-eqb}
+use native.Mathlib.Omega.{arith}
+use Rattle.settings.specs.declared.Settings.{Settings}
+use Rattle.settings.specs.Instants.{horizon, isInstant}
+use Rattle.record.specs.declared.Record.{Record}
+use Rattle.record.specs.declared.Record.the-variants.{RowAt, ColAt, DataOf}
+use Rattle.channel.specs.declared.Write.{Write}
+use Rattle.channel.specs.declared.Channel.{Channel}
+use Rattle.channel.specs.Neighbour.{Relation, Neighbours}
+use Rattle.channel.specs.Packets.{traits, instant, isPacket}
+use Rattle.channel.specs.History.{bankOf, retiredBy, closes, has}
+use Rattle.channel.specs.Rules.{freeFor, openFor, dataDelay, fromWrite, ofBank, dataRight}
+use Rattle.channel.specs.Broken.{lowest}
+use Rattle.channel.specs.Channel.{stateOf, waitingOf, dueOf}
+use Rattle.channel.specs.Checks.{boundIf, bound1, bound2, bound3, bound5, bound6, bound7, bound8, bound10, bound11, bound13Read, bound13Retire, checks, judged}
+use Rattle.channel.specs.Earliest.{placedAt, afterWrite, bound12, fits, earliest}
+use Rattle.channel.proofs.Bools.{iff-eq, and-left, and-right, leb-max}
+
+-- all tests pass
+abbrev pub every : List Bool → Bool
+every [] = true
+every (b ∷ l) = b && every l
+
+pub lowest-none : (n : ℕ) (l : List Bool) → eqb (lowest (suc n) l) 0 ≡ every l
+unfolding lowest
+lowest-none n [] = refl
+lowest-none n (true ∷ l) = lowest-none (suc n) l
+lowest-none n (false ∷ l) = ne-eqb (suc n) 0 (λ q. omega arith)
+
+and-left-comm : (a b c : Bool) → a && (b && c) ≡ b && (a && c)
+and-left-comm true true c = refl
+and-left-comm true false c = refl
+and-left-comm false true c = refl
+and-left-comm false false c = refl
+
+shuffle : (i d b1 b2 b3 r4 b5 b6 b7 b8 r9 x y z b11 b12 p q r14 r15 r16 : Bool)
+    → ((i && d) && b1) && (b2 && (b3 && (r4 && (b5 && (b6 && (b7 && (b8 && (r9 && ((x && (y && z)) && (b11 && (b12 && ((p && q) && (r14 && (r15 && (r16 && true)))))))))))))))
+      ≡ (r4 && (r9 && (r14 && (r15 && r16)))) && ((i && (b1 && (b2 && (b3 && (b5 && (b6 && (b7 && (b8 && (x && (y && (z && (b11 && (b12 && (p && q)))))))))))))) && d)
+shuffle i d b1 b2 b3 r4 b5 b6 b7 b8 r9 x y z b11 b12 p q r14 r15 r16 = simp (and-true, and-assoc, and-comm, and-left-comm)
+
+-- a packet whose data are in range is in range itself
+in-range : (t delay : ℕ) → isInstant t && leb (t + delay) horizon ≡ leb 4 t && leb (t + delay) horizon
+in-range t delay = go (leb (t + delay) horizon) refl
+  where
+    go : (b : Bool) → leb (t + delay) horizon ≡ b → isInstant t && b ≡ leb 4 t && b
+    go true e = let h : leb t horizon ≡ true = omega (arith, leb-true, le-leb) in rw h (and-true (leb 4 t && true))
+    go false e = simp and-false
+
+-- rule 12 as a bound
+write-bound : (n : Bool) (o : Option Write) (gap t : ℕ) → not n || fromWrite o gap t ≡ leb (boundIf n (afterWrite o gap)) t
+write-bound true none gap t = sym (leb·zero t)
+write-bound true (some w) gap t = refl
+write-bound false o gap t = sym (leb·zero t)
+
+module _ (s : Settings) (nbr : Relation) (ch : Channel) where
+  pub checks-split : (r : Record)
+      → eqb (judged s nbr ch r) 0 ≡ fits s nbr ch r && (leb (earliest s nbr ch r) (instant r) && leb (instant r + dataDelay s r) horizon)
+  unfolding judged checks fits earliest
+  checks-split r =
+      let t : ℕ = instant r in
+      let w : Option Write = waitingOf (ch .buffer) in
+      lowest-none 0 (checks s nbr ch r)
+      ∙ rw (in-range t (dataDelay s r), write-bound (traits r .notRead) w (s .rtr) t)
+      (shuffle (leb 4 t) (leb (t + dataDelay s r) horizon) (leb (bound1 s nbr ch r) t) (leb (bound2 s nbr ch r) t) (leb (bound3 s nbr ch r) t)
+        (freeFor nbr (stateOf ch) (traits r .opens)) (leb (bound5 s nbr ch r) t) (leb (bound6 s nbr ch r) t) (leb (bound7 s nbr ch r) t) (leb (bound8 s nbr ch r) t)
+        (openFor (stateOf ch) (traits r .reads) && (openFor (stateOf ch) (traits r .writes) && openFor (stateOf ch) (retiredBy w r)))
+        (leb (bound10 s nbr ch r (traits r .reads) (s .rcd)) t) (leb (bound10 s nbr ch r (retiredBy w r) (s .rcd)) t)
+        (leb (bound10 s nbr ch r (traits r .writes) (s .rcd - s .rtr)) t) (leb (bound11 s nbr ch r) t) (leb (bound12 s nbr ch r) t)
+        (leb (bound13Read s nbr ch r) t) (leb (bound13Retire s nbr ch r) t)
+        (not (ofBank (bankOf w) (closes nbr (stateOf ch) r))) (dataRight (dueOf s (ch .buffer)) r) (not (traits r .masked) || has (retiredBy w r))
+      ∙ sym (simp leb-max))
