@@ -2,13 +2,12 @@
 -- Assumes nothing.
 use Prim.Native.Nat.{ℕ, zero, suc, _+_, _≤_, _<_}
 use mathlib.Core.Path.{_≡_, refl, sym, ap, _∙_}
-use mathlib.Core.Bool.{Bool, true, false, _&&_, cond}
-use mathlib.Core.List.{List, [], _∷_}
+use mathlib.Core.Bool.{Bool, true, false, _&&_}
+use mathlib.Core.List.{List, _∷_}
 use lib.Dec.{eqb, leb}
 use lib.ListN.{length}
-use borrow.Author.Tests.{leb-true, eqb-true, eq-eqb}
+use borrow.Author.Tests.{leb-true, eqb-true}
 use native.Mathlib.Omega.{arith}
-use Rattle.num.specs.Search.{allUpTo, firstFalse}
 use Rattle.num.proofs.SearchLaws.{first-before, first-agree, first-all}
 use Rattle.settings.specs.declared.Settings.{Settings}
 use Rattle.settings.specs.Instants.{horizon, isInstant}
@@ -18,11 +17,11 @@ use Rattle.channel.specs.declared.Channel.{Channel}
 use Rattle.channel.specs.Neighbour.{Relation, Neighbours}
 use Rattle.channel.specs.Packets.{instant, isPacket}
 use Rattle.channel.specs.History.{events}
-use Rattle.channel.specs.Rules.{dataDelay, rules}
+use Rattle.channel.specs.Rules.{dataDelay}
 use Rattle.channel.specs.Broken.{earlier, recordOf, lowest, lowestRule, ruleAt, firstBroken, everyRule}
 use Rattle.channel.specs.Channel.{after}
 use Rattle.channel.specs.Checks.{bound1, checks, judged, channelAfter, foundAt, firstFound}
-use Rattle.channel.proofs.Bools.{not-both, and-left, and-right}
+use Rattle.channel.proofs.Bools.{and-left, and-right}
 use Rattle.channel.proofs.ListLaws.{earlier-next}
 use Rattle.channel.proofs.HistoryLaws.{newest}
 use Rattle.channel.proofs.Tracks.{Tracks, tracks-fresh, tracks-step}

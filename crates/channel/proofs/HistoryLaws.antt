@@ -1,9 +1,9 @@
 -- The newest event of a kind decides for all the older ones, since instants never fall: so a distance from every earlier event
 -- is a test on a last instant. By a kind of packet, by the banks, by the banks that a PRER closed, and by order.
 -- Assumes nothing.
-use Prim.Native.Nat.{ℕ, zero, suc, _+_, _≤_, _<_, zero-le}
+use Prim.Native.Nat.{ℕ, _+_, _≤_, _<_, zero-le}
 use mathlib.Core.Path.{_≡_, refl, sym, ap, ap₂, _∙_}
-use mathlib.Core.Bool.{Bool, true, false, not, _&&_, _||_, cond}
+use mathlib.Core.Bool.{Bool, true, false, _&&_, cond}
 use mathlib.Core.List.{List, [], _∷_}
 use mathlib.Core.Option.{Option, none, some}
 use lib.Dec.{leb, eqb, leb·zero}
@@ -71,6 +71,7 @@ last-suffices q gap t (e ∷ h) s = go (q e) (leb (e .at + gap) t) refl (last-su
   where
     rest : Bool
     rest = keeps (λ e. only (q e) (some gap)) t h
+
     go : (b c : Bool) → leb (e .at + gap) t ≡ c → rest ≡ leb (since (lastOf q h) gap) t
         → kept (only b (some gap)) (e .at) t && rest ≡ leb (since (cond b (e .at) (lastOf q h)) gap) t
     go false c ec ih = ih

@@ -1,8 +1,8 @@
 -- A function of index and element over a list, and the records before record j + 1 of a list.
 -- Assumes nothing.
-use Prim.Native.Nat.{ℕ, zero, suc, _+_, _≤_, _<_}
+use Prim.Native.Nat.{ℕ, zero, suc, _+_, _<_}
 use mathlib.Core.Path.{_≡_, refl, ap, _∙_}
-use mathlib.Core.List.{List, [], _∷_, _++_, reverse, reverse-append}
+use mathlib.Core.List.{List, [], _∷_, reverse, reverse-append}
 use lib.ListN.{length, getD, take}
 use lib.Seq.{take-suc}
 use native.Mathlib.Nat.{add-zero, zero-add}

@@ -1,8 +1,8 @@
 -- The split relation has what laws use of a relation; "same or neighbour" is symmetric for every such relation.
 -- Assumes nothing.
 use Prim.Native.Nat.{ℕ, _+_, _/_}
-use mathlib.Core.Path.{_≡_, refl}
-use mathlib.Core.Bool.{Bool, true, false, _&&_, _||_, or-comm}
+use mathlib.Core.Path.{_≡_}
+use mathlib.Core.Bool.{or-comm}
 use lib.Dec.{eqb}
 use borrow.Author.Tests.{ne-eqb}
 use native.Mathlib.Omega.{arith}
@@ -14,7 +14,7 @@ unfolding split
 split-neighbours =
     record {
       symmetric = λ x y. rw (or-comm (eqb (x + 1) y) (eqb (y + 1) x), eqb-sym (x / 16) (y / 16));
-      irreflexive = λ x. rw (ne-eqb (x + 1) x (λ q. omega arith))
+      irreflexive = λ x. rw (ne-eqb (x + 1) x (λ q. omega arith));
     }
 
 pub near-sym : (nbr : Relation) → Neighbours nbr → (x y : ℕ) → near nbr x y ≡ near nbr y x

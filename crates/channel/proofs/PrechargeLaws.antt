@@ -1,9 +1,9 @@
 -- Rule 7 by the banks: a PRER counts at the bank that it names and at every bank that it closed.
 -- Assumes nothing.
 use Prim.Native.Nat.{ℕ, _+_, _<_}
-use mathlib.Core.Path.{_≡_, refl, sym, ap, _∙_}
+use mathlib.Core.Path.{_≡_, refl, sym, _∙_}
 use mathlib.Core.Bool.{Bool, true, false, not, _&&_, _||_}
-use mathlib.Core.List.{List, [], _∷_}
+use mathlib.Core.List.{List}
 use mathlib.Core.Option.{Option, none, some}
 use lib.Dec.{leb, eqb, leb·zero}
 use borrow.Author.Tests.{eqb-true, eq-eqb, not-true, not-false}
@@ -13,7 +13,7 @@ use Rattle.channel.specs.Neighbour.{Relation, Neighbours, near}
 use Rattle.channel.specs.History.{Event, only, over, reaches, kept, keeps}
 use Rattle.channel.specs.Rules.{bankCount, gapNear, someBank}
 use Rattle.channel.specs.Channel.{inBank}
-use Rattle.channel.specs.Checks.{asks, maxUpTo, boundOf, boundBanks}
+use Rattle.channel.specs.Checks.{boundBanks}
 use Rattle.channel.proofs.Bools.{iff-eq, not-both, neither, all-ext}
 use Rattle.channel.proofs.NeighbourLaws.{near-sym}
 use Rattle.channel.proofs.HistoryLaws.{lastOf, Sorted, Within, All, keeps-none, lasts-law, swap-law}
@@ -63,25 +63,30 @@ module _ (nbr : Relation) (ns : Neighbours nbr) where
     where
       some-closed : Bool
       some-closed = someBank (λ x. nbr b x && cl x)
+
       other : (x : ℕ) → cl x ≡ true → near nbr b p ≡ false → (q : Bool) → eqb x b ≡ q → q ≡ false
       other x c f false e = refl
       other x c f true e = not-both (near nbr p b) (rw (← eqb-true x b e) (h x c)) (near-sym nbr ns p b ∙ f)
+
       into : not (near nbr b p || some-closed) ≡ true → allUpTo (λ x. not ((eqb x p || cl x) && near nbr b x)) bankCount ≡ true
       into k =
           let both = neither (near nbr b p) some-closed (not-true (near nbr b p || some-closed) k) in
           all-intro (λ x. not ((eqb x p || cl x) && near nbr b x)) bankCount (λ x m. apart-in (eqb x p) (cl x) (eqb x b) (nbr b x)
-            (λ q. rw (eqb-true x p q) (both .0))
-            (λ c. other x c (both .0) (eqb x b) refl)
-            (all-at (λ x. not (nbr b x && cl x)) bankCount x (not-false _ (both .1)) m))
+          (λ q. rw (eqb-true x p q) (both .0))
+          (λ c. other x c (both .0) (eqb x b) refl)
+          (all-at (λ x. not (nbr b x && cl x)) bankCount x (not-false _ (both .1)) m))
+
       out : allUpTo (λ x. not ((eqb x p || cl x) && near nbr b x)) bankCount ≡ true → not (near nbr b p || some-closed) ≡ true
       out k =
           let at : (x : ℕ) → x < bankCount → not ((eqb x p || cl x) && near nbr b x) ≡ true = λ x m. all-at (λ x. not ((eqb x p || cl x) && near nbr b x)) bankCount x k m in
-          rw (not-true (near nbr b p) (rw (eq-eqb p p refl) at (at p mp)),
-            all-intro (λ x. not (nbr b x && cl x)) bankCount (λ x m. apart-out (eqb x p) (cl x) (eqb x b) (nbr b x) (at x m)))
+          rw (
+            not-true (near nbr b p) (rw (eq-eqb p p refl) at (at p mp)),
+            all-intro (λ x. not (nbr b x && cl x)) bankCount (λ x m. apart-out (eqb x p) (cl x) (eqb x b) (nbr b x) (at x m)),
+          )
 
   one-precharge : (b gap a t : ℕ) (o : Option ℕ) (cl : ℕ → Bool) → Within bankCount o → ((x : ℕ) → cl x ≡ true → reaches nbr o x ≡ true)
       → kept (over o (λ p. only (near nbr b p || someBank (λ x. nbr b x && cl x)) (some gap))) a t
-        ≡ allUpTo (λ x. kept (only (inBank o x || cl x) (gapNear nbr gap b x)) a t) bankCount
+      ≡ allUpTo (λ x. kept (only (inBank o x || cl x) (gapNear nbr gap b x)) a t) bankCount
   one-precharge b gap a t none cl w h = sym (all-intro _ bankCount (λ x m. go x (cl x) refl))
     where
       go : (x : ℕ) (q : Bool) → cl x ≡ q → kept (only q (gapNear nbr gap b x)) a t ≡ true
@@ -91,6 +96,7 @@ module _ (nbr : Relation) (ns : Neighbours nbr) where
     where
       found : Bool
       found = near nbr b p || someBank (λ x. nbr b x && cl x)
+
       go : (l : Bool) → leb (a + gap) t ≡ l → kept (only found (some gap)) a t ≡ allUpTo (λ x. kept (only (eqb x p || cl x) (gapNear nbr gap b x)) a t) bankCount
       go true e = kept-late true found gap a t e ∙ sym (all-intro _ bankCount (λ x m. kept-late (eqb x p || cl x) (near nbr b x) gap a t e))
       go false e =
@@ -100,7 +106,7 @@ module _ (nbr : Relation) (ns : Neighbours nbr) where
   pub seven-law : (o : Option ℕ) (gap : ℕ) (l : ℕ → ℕ) (t : ℕ) (h : List Event) → Sorted h → All (Reaching nbr) h
       → ((x : ℕ) → x < bankCount → l x ≡ lastOf (touches x) h)
       → keeps (λ e. over o (λ b. over (e .traits .precharges) (λ p. only (near nbr b p || someBank (λ x. nbr b x && e .closed x)) (some gap)))) t h
-        ≡ leb (boundBanks o (gapNear nbr gap) l) t
+      ≡ leb (boundBanks o (gapNear nbr gap) l) t
   seven-law none gap l t h s f k = keeps-none (λ e. true) t h ∙ sym (leb·zero t)
   seven-law (some b) gap l t h s f k =
       swap-law bankCount _ touches (gapNear nbr gap b) t (Reaching nbr) h f

@@ -1,12 +1,11 @@
 -- Rule by rule, the tests on the tracked state are the rules over every earlier record.
 -- Assumes nothing.
-use Prim.Native.Nat.{ℕ, _+_, _-_, _≤_, _<_}
-use mathlib.Core.Path.{_≡_, refl, sym, ap, ap₂, _∙_}
-use mathlib.Core.Bool.{Bool, true, false, not, _&&_, _||_}
-use mathlib.Core.List.{List, [], _∷_}
+use Prim.Native.Nat.{ℕ, _+_, _-_, _<_}
+use mathlib.Core.Path.{_≡_, refl, sym, ap, ap₂}
+use mathlib.Core.Bool.{not, _&&_, _||_}
+use mathlib.Core.List.{List}
 use mathlib.Core.Option.{Option, none, some}
 use lib.Dec.{leb}
-use Rattle.num.specs.Search.{allUpTo}
 use Rattle.settings.specs.declared.Settings.{Settings}
 use Rattle.settings.specs.Instants.{horizon, isInstant}
 use Rattle.record.specs.declared.Record.{Record}
@@ -20,9 +19,9 @@ use Rattle.channel.specs.Rules.{rule1, rule2, rule3, rule4, rule5, rule6
 use Rattle.channel.specs.Channel.{inBank, trackOf, stateOf, waitingOf, dueOf}
 use Rattle.channel.specs.Checks.{boundBanks, bound1, bound2, bound3, bound5, bound6, bound7, bound8, bound10, bound11, bound13Read, bound13Retire, checks}
 use Rattle.channel.proofs.Bools.{all-ext}
-use Rattle.channel.proofs.HistoryLaws.{lastOf, Within, All, all-map, kind-law, order-law, bank-law}
+use Rattle.channel.proofs.HistoryLaws.{lastOf, Within, all-map, kind-law, order-law, bank-law}
 use Rattle.channel.proofs.PrechargeLaws.{Reaching, seven-law}
-use Rattle.channel.proofs.Tracks.{Fine, Lasts, Tracks}
+use Rattle.channel.proofs.Tracks.{Fine, Tracks}
 
 -- ---- tests on banks go by the states alone
 
@@ -94,8 +93,8 @@ module _ (s : Settings) (nbr : Relation) (ns : Neighbours nbr) (ch : Channel) (e
 
   is10 : rule10 s nbr es r
       ≡ leb (bound10 s nbr ch r (traits r .reads) (s .rcd)) (instant r)
-        && (leb (bound10 s nbr ch r (retiredBy (waitingOf (ch .buffer)) r) (s .rcd)) (instant r)
-        && leb (bound10 s nbr ch r (traits r .writes) (s .rcd - s .rtr)) (instant r))
+      && (leb (bound10 s nbr ch r (retiredBy (waitingOf (ch .buffer)) r) (s .rcd)) (instant r)
+      && leb (bound10 s nbr ch r (traits r .writes) (s .rcd - s .rtr)) (instant r))
   unfolding rule10
   is10 =
       rw (k .waiting)

@@ -1,20 +1,18 @@
 -- The tracked state is the summary of the earlier records: of a fresh channel and no records, and after each record that
 -- breaks no rule.
 -- Assumes nothing.
-use Prim.Native.Nat.{ℕ, zero, suc, _+_, _≤_, _<_}
+use Prim.Native.Nat.{ℕ, _≤_, _<_}
 use mathlib.Core.Path.{_≡_, refl, sym, ap, _∙_}
-use mathlib.Core.Bool.{Bool, true, false, not, _&&_, _||_, cond}
+use mathlib.Core.Bool.{Bool, true, false, _||_, cond}
 use mathlib.Core.List.{List, [], _∷_}
-use mathlib.Core.Option.{Option, none, some}
-use lib.Dec.{leb, ltb, eqb}
+use mathlib.Core.Option.{Option, none}
+use lib.Dec.{ltb}
 use lib.ListN.{length, getD, replicate, length-replicate, getD-replicate, List·getD-eq-default}
-use borrow.Author.Tests.{ltb-true, ltb-false, leb-true, ne-eqb}
+use borrow.Author.Tests.{ltb-true, ltb-false, ne-eqb}
 use native.Mathlib.Omega.{arith}
 use Rattle.settings.specs.declared.Settings.{Settings}
 use Rattle.settings.specs.declared.PacketAt.{PacketAt}
-use Rattle.packet.specs.declared.RowPacket.{RowPacket}
 use Rattle.packet.specs.declared.RowPacket.the-variants.{Act, Prer, Refa, Refp}
-use Rattle.packet.specs.declared.ColPacket.{ColPacket}
 use Rattle.packet.specs.declared.ColPacket.the-variants.{Nocop, Wr, Rd}
 use Rattle.packet.specs.Row.{rowFits}
 use Rattle.packet.specs.Col.{colFits}
@@ -26,14 +24,13 @@ use Rattle.channel.specs.declared.Bank.the-variants.{Closed}
 use Rattle.channel.specs.declared.BankTrack.{BankTrack}
 use Rattle.channel.specs.declared.Buffer.{Buffer}
 use Rattle.channel.specs.declared.Buffer.the-variants.{Empty, Waiting, Due}
-use Rattle.channel.specs.declared.Write.{Write}
 use Rattle.channel.specs.declared.Channel.{Channel}
 use Rattle.channel.specs.Neighbour.{Relation, near}
 use Rattle.channel.specs.Packets.{traits, rowTraits, colTraits, instant, isPacket}
-use Rattle.channel.specs.History.{bankBy, bankAfter, isClosed, waitingBy, waitingAfter, bankOf, only, retiredBy, Event, reaches, closes, eventOf, events, has}
+use Rattle.channel.specs.History.{bankBy, bankAfter, waitingBy, waitingAfter, bankOf, only, retiredBy, Event, reaches, closes, eventOf, events, has}
 use Rattle.channel.specs.Rules.{bankCount, dueAfter}
 use Rattle.channel.specs.Channel.{idle, fresh, trackOf, stateOf, waitingOf, dueOf, inBank, imap, bankNext, trackNext, settled, bufferBy, bufferNext, afterPacket, afterData, after}
-use Rattle.channel.proofs.Bools.{and-left, and-right}
+use Rattle.channel.proofs.Bools.{and-left}
 use Rattle.channel.proofs.ListLaws.{length-imap, getD-imap}
 use Rattle.channel.proofs.HistoryLaws.{lastOf, newest, Sorted, Within, All}
 use Rattle.channel.proofs.PrechargeLaws.{touches, Reaching}
@@ -121,13 +118,16 @@ module _ (nbr : Relation) (ch : Channel) (es : List Record) (k : Tracks nbr ch e
       let q : Lasts nbr ch (events nbr es) = k .lasts in
       record {
         sorted = (low, late, q .sorted);
-        fine = (record {
+        fine = (
+          record {
             opens-in = i .opens-in;
             acts-in = i .acts-in;
             reads-in = i .reads-in;
             retired-in = within-only (traits r .notRead) (bankOf (waitingAfter es)) (k .waiting-in);
-            reaching = record { precharges-in = i .precharges-in; closed-reached = λ x e. and-left (reaches nbr (traits r .precharges) x) _ e }
-          }, q .fine);
+            reaching = record { precharges-in = i .precharges-in; closed-reached = λ x e. and-left (reaches nbr (traits r .precharges) x) _ e };
+          },
+          q .fine,
+        );
         size = length-imap _ 0 (ch .banks) ∙ q .size;
         last = refl;
         row = cond-at (traits r .row) (instant r) _ _ (q .row);
@@ -138,7 +138,7 @@ module _ (nbr : Relation) (ch : Channel) (es : List Record) (k : Tracks nbr ch e
         acts = λ x m. at-next (λ y. y .act) (inBank (traits r .acts) x) x _ m refl (q .acts x m);
         pres = λ x m. at-next (λ y. y .pre) (inBank (traits r .precharges) x || closes nbr (bankAfter nbr es) r x) x _ m (rw (k .state x)) (q .pres x m);
         rds = λ x m. at-next (λ y. y .rd) (inBank (traits r .reads) x) x _ m refl (q .rds x m);
-        retires = λ x m. at-next (λ y. y .retire) (inBank (retiredBy (waitingAfter es) r) x) x _ m (rw (k .waiting)) (q .retires x m)
+        retires = λ x m. at-next (λ y. y .retire) (inBank (retiredBy (waitingAfter es) r) x) x _ m (rw (k .waiting)) (q .retires x m);
       }
 
 -- ---- the banks after a record
@@ -223,13 +223,24 @@ tracks-fresh nbr =
     let z : (x : ℕ) → x < bankCount → getD (replicate bankCount idle) x idle ≡ idle = λ x m. getD-replicate bankCount x idle idle m in
     record {
       lasts = record {
-          sorted = tt; fine = tt; size = length-replicate bankCount idle; last = refl; row = refl; col = refl; pre = refl; rd = refl;
-          opened = λ x m. rw (z x m); acts = λ x m. rw (z x m); pres = λ x m. rw (z x m); rds = λ x m. rw (z x m); retires = λ x m. rw (z x m)
-        };
+        sorted = tt;
+        fine = tt;
+        size = length-replicate bankCount idle;
+        last = refl;
+        row = refl;
+        col = refl;
+        pre = refl;
+        rd = refl;
+        opened = λ x m. rw (z x m);
+        acts = λ x m. rw (z x m);
+        pres = λ x m. rw (z x m);
+        rds = λ x m. rw (z x m);
+        retires = λ x m. rw (z x m);
+      };
       state = λ x. always x (ltb x bankCount) refl;
       waiting = refl;
       waiting-in = tt;
-      due = λ s. refl
+      due = λ s. refl;
     }
   where
     always : (x : ℕ) (b : Bool) → ltb x bankCount ≡ b → getD (replicate bankCount idle) x idle .bank ≡ Closed
@@ -242,8 +253,19 @@ lasts-data : (nbr : Relation) (ch : Channel) (h : List Event) → Lasts nbr ch h
 unfolding afterData
 lasts-data nbr ch h q =
     record {
-      sorted = q .sorted; fine = q .fine; size = q .size; last = q .last; row = q .row; col = q .col; pre = q .pre; rd = q .rd;
-      opened = q .opened; acts = q .acts; pres = q .pres; rds = q .rds; retires = q .retires
+      sorted = q .sorted;
+      fine = q .fine;
+      size = q .size;
+      last = q .last;
+      row = q .row;
+      col = q .col;
+      pre = q .pre;
+      rd = q .rd;
+      opened = q .opened;
+      acts = q .acts;
+      pres = q .pres;
+      rds = q .rds;
+      retires = q .retires;
     }
 
 module _ (nbr : Relation) (ch : Channel) (es : List Record) (k : Tracks nbr ch es) (s : Settings) where
@@ -256,7 +278,7 @@ module _ (nbr : Relation) (ch : Channel) (es : List Record) (k : Tracks nbr ch e
         state = state-next nbr ch es k s r f;
         waiting = waiting-next r (ch .buffer) es (k .waiting);
         waiting-in = waiting-in-next r es (fits-inside s r f) (k .waiting-in);
-        due = λ s. due-next s r (ch .buffer) es
+        due = λ s. due-next s r (ch .buffer) es;
       }
 
   -- the state after a record that fits, and that comes in its time where it is a packet
@@ -271,5 +293,5 @@ module _ (nbr : Relation) (ch : Channel) (es : List Record) (k : Tracks nbr ch e
         state = k .state;
         waiting = waiting-next (DataOf t d) (ch .buffer) es (k .waiting);
         waiting-in = waiting-in-next (DataOf t d) es (fits-inside s (DataOf t d) f) (k .waiting-in);
-        due = λ s. due-next s (DataOf t d) (ch .buffer) es
+        due = λ s. due-next s (DataOf t d) (ch .buffer) es;
       }

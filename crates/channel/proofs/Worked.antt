@@ -1,9 +1,9 @@
 -- Short lists under set H (document 01, "Bench runs"): which record is the first bad one and which rules it breaks, by the rules
 -- over all earlier records and by the tests on the tracked state.
 -- Assumes nothing.
-use Prim.Native.Nat.{ℕ, zero, suc}
+use Prim.Native.Nat.{ℕ, suc}
 use mathlib.Core.Path.{_≡_, refl}
-use mathlib.Core.Bool.{Bool, true, false, cond}
+use mathlib.Core.Bool.{Bool, cond}
 use mathlib.Core.List.{List, [], _∷_, map}
 use lib.Dec.{ltb}
 use lib.ListN.{length}
@@ -27,7 +27,21 @@ use Rattle.channel.specs.Checks.{maxUpTo, checks, judged, channelAfter, 
 pub setH : Settings
 setH =
     record {
-      rc = 28; ras = 20; rp = 8; pp = 8; rr = 8; rcd = 9; rtr = 8; rdp = 4; rtp = 4; cc = 4; cac = 8; cwd = 6; rows = 2; columns = 4; device = 0
+      rc = 28;
+      ras = 20;
+      rp = 8;
+      pp = 8;
+      rr = 8;
+      rcd = 9;
+      rtr = 8;
+      rdp = 4;
+      rtp = 4;
+      cc = 4;
+      cac = 8;
+      cwd = 6;
+      rows = 2;
+      columns = 4;
+      device = 0;
     }
 
 -- a packet at an instant, and data
@@ -66,7 +80,7 @@ pub lists : List (List Record)
 lists =
     -- run 1
     (row 4 (Act 0 0) ∷ col 13 (Rd 0 1 full) ∷ col 19 (Wr 0 1 full) ∷ dat 25 ∷ col 27 (Nocop 3) ∷ col 31 (Rd 0 1 full) ∷ row 35 (Prer 0)
-      ∷ row 43 (Act 1 0) ∷ col 52 (Rd 1 0 full) ∷ row 63 (Prer 1) ∷ [])
+    ∷ row 43 (Act 1 0) ∷ col 52 (Rd 1 0 full) ∷ row 63 (Prer 1) ∷ [])
     -- "ACT at 4, RD at 12: refusal 11, rule 10, record 1"
     ∷ (row 4 (Act 0 0) ∷ col 12 (Rd 0 1 full) ∷ [])
     -- a packet in the place of a D: judged by all rules

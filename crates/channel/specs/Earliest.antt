@@ -2,7 +2,7 @@
 -- instant, not before now, that the rules allow."
 -- Assumes nothing.
 use Prim.Native.Nat.{ℕ, _+_, _-_, max}
-use mathlib.Core.Bool.{Bool, true, false, not, _&&_, _||_}
+use mathlib.Core.Bool.{Bool, not, _&&_, _||_}
 use mathlib.Core.Option.{Option, none, some}
 use Rattle.settings.specs.declared.Settings.{Settings}
 use Rattle.record.specs.declared.Record.{Record}
@@ -10,7 +10,7 @@ use Rattle.record.specs.declared.Record.the-variants.{RowAt, ColAt, DataOf}
 use Rattle.channel.specs.declared.Write.{Write}
 use Rattle.channel.specs.declared.Channel.{Channel}
 use Rattle.channel.specs.Neighbour.{Relation}
-use Rattle.channel.specs.Packets.{traits, isPacket}
+use Rattle.channel.specs.Packets.{traits}
 use Rattle.channel.specs.History.{bankOf, retiredBy, closes, has}
 use Rattle.channel.specs.Rules.{freeFor, openFor, ofBank, dataRight}
 use Rattle.channel.specs.Channel.{stateOf, waitingOf, dueOf}

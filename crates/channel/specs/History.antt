@@ -1,7 +1,7 @@
 -- What earlier records did, read off the list. Lists of earlier records have the newest first.
 -- Assumes nothing.
-use Prim.Native.Nat.{ℕ, zero, suc, _+_, _≤_}
-use mathlib.Core.Bool.{Bool, true, false, not, _&&_, _||_, cond}
+use Prim.Native.Nat.{ℕ, _+_}
+use mathlib.Core.Bool.{Bool, true, false, not, _&&_, cond}
 use mathlib.Core.List.{List, [], _∷_}
 use mathlib.Core.Option.{Option, none, some}
 use lib.Dec.{eqb, leb}
@@ -15,7 +15,7 @@ use Rattle.channel.specs.declared.Bank.{Bank}
 use Rattle.channel.specs.declared.Bank.the-variants.{Closed, Open, Refresh}
 use Rattle.channel.specs.declared.Write.{Write}
 use Rattle.channel.specs.Neighbour.{Relation, near}
-use Rattle.channel.specs.Packets.{Traits, traits, instant, isPacket}
+use Rattle.channel.specs.Packets.{Traits, traits, instant}
 
 -- ---- banks
 

@@ -12,7 +12,7 @@ use Rattle.record.specs.declared.Record.{Record}
 use Rattle.record.specs.declared.Record.the-variants.{RowAt, ColAt, DataOf}
 
 -- opens: the bank of an ACT or REFA; acts: of an ACT; precharges: of a PRER or REFP; reads: of an RD; writes: of a WR;
--- row, col: which pins it takes; loads: a COL packet other than RD; masked: M = 1
+-- row, col: which pins it takes; notRead: a COL packet other than RD; masked: M = 1
 pub record Traits : Type 0 where
   pub opens : Option ℕ
   pub acts : Option ℕ

@@ -16,8 +16,8 @@ use Rattle.record.specs.declared.Record.the-variants.{RowAt, ColAt, DataOf}
 use Rattle.channel.specs.declared.Bank.{Bank}
 use Rattle.channel.specs.declared.Write.{Write}
 use Rattle.channel.specs.Neighbour.{Relation, near}
-use Rattle.channel.specs.Packets.{Traits, traits, instant, isPacket}
-use Rattle.channel.specs.History.{bankAfter, isClosed, isOpen, waitingAfter, bankOf, only, retiredBy, Event, closes, events, kept, keeps, over, has, pair}
+use Rattle.channel.specs.Packets.{traits, instant, isPacket}
+use Rattle.channel.specs.History.{bankAfter, isClosed, isOpen, waitingAfter, bankOf, only, retiredBy, closes, events, keeps, over, has, pair}
 
 -- "banks always 32"
 unfoldable pub bankCount : ℕ

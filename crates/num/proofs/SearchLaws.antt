@@ -88,8 +88,10 @@ first-agree f g n h = go (eq-or-lt-of-le (first-le g n))
   where
     agree : (j : ℕ) → j < n → j ≤ firstFalse g n → f j ≡ g j
     agree j l m = h j l (λ i k. first-before g n i (omega arith))
+
     holds : (i : ℕ) → i < firstFalse g n → f i ≡ true
     holds i l = agree i (omega (arith, first-le g n)) (omega arith) ∙ first-before g n i l
+
     go : (firstFalse g n ≡ n) ⊎ (firstFalse g n < n) → firstFalse f n ≡ firstFalse g n
     go =
         ⊎-elim
