@@ -7,7 +7,7 @@ use borrow.Author.Count.{below-more}
 use borrow.Author.Tests.{not-true, not-false}
 use Rattle.num.proofs.SearchLaws.{first-at, first-none}
 use Rattle.log.specs.Block.{blocksIn, firstBadBlock}
-use Rattle.log.proofs.ReadLaws.{rightAt}
+use Rattle.log.proofs.BlockLaws.{rightAt}
 use borrow.Author.Needs.{needs}
 use Rattle.log.proofs.block.first_bad_block.Statement.{statement}
 use Rattle.log.proofs.block.first_bad_block.Tie as tie

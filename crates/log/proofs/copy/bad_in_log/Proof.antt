@@ -1,12 +1,12 @@
 -- `bad_in_log` meets its contract: the records of every block passed so far are well formed.
-use Prim.Native.Nat.{ℕ, _+_, _-_, _*_, _<_, _≤_}
-use mathlib.Core.Path.{_≡_, sym, _∙_, ap}
+use Prim.Native.Nat.{ℕ, _-_, _*_, _<_, _≤_}
+use mathlib.Core.Path.{_≡_, sym, _∙_}
 use mathlib.Core.Bool.{true}
 use native.Mathlib.Omega.{arith}
 use Rattle.record.specs.Record.{wellFormed, recordAt, recordsIn, firstBad}
-use Rattle.log.specs.Block.{used, blocksIn, blockAt, firstBadBlock, listOf}
+use Rattle.log.specs.Block.{used, blocksIn, blockAt, listOf}
 use Rattle.log.proofs.ListThenLog.{recordsAt, used-most}
-use Rattle.log.proofs.BadLaws.{Before, bad-at, before-next, bad-none}
+use Rattle.log.proofs.BadLaws.{bad-at, before-next, bad-none}
 use borrow.Author.Needs.{needs}
 use Rattle.log.proofs.copy.bad_in_log.Statement.{statement}
 use Rattle.log.proofs.copy.bad_in_log.Tie as tie

@@ -1,5 +1,5 @@
 -- `decode_answer` meets its contract: the tests are the definition's, in their order.
-use mathlib.Core.Path.{_∙_, sym, _≡_, ap}
+use mathlib.Core.Path.{_∙_, sym}
 use borrow.Author.Tests.{eq-eqb, ne-eqb, le-leb, lt-leb}
 use Rattle.log.specs.Log.{decodeAnswer}
 use borrow.Author.Needs.{needs}
