@@ -29,8 +29,9 @@ use Rattle.packet.proofs.RowLaws.{row-decode-encode, row-encode-decode}
 use Rattle.packet.proofs.ColLaws.{col-decode-encode, col-encode-decode}
 use Rattle.record.specs.declared.Refusal.the-variants as refusal
 use Rattle.record.specs.Refusal.{answerOf}
+use Rattle.record.proofs.RefusalLaws.{refused-number}
 use Rattle.rdram.specs.declared.PacketAnswer.{PacketAnswer}
-use Rattle.rdram.specs.Words.{fieldsRight, rowCommand, colCommand, commandCoded, noWordAnswer, wordAnswer, wordUnder, wordEncoded, rowNumbers, colNumbers, noPacket, rowAnswer, colAnswer, packetAnswer, packetUnder, wordDecoded}
+use Rattle.rdram.specs.Words.{fieldsRight, rowCommand, colCommand, commandCoded, noWordAnswer, whyNoWord, wordAnswer, wordUnder, wordEncoded, rowNumbers, colNumbers, noPacket, rowAnswer, colAnswer, packetAnswer, packetUnder, wordDecoded}
 
 -- the kind of a command's word: ROW for 0 to 3, and else COL
 abbrev pub kindOf : ℕ → ℕ
@@ -97,9 +98,9 @@ pub word-decode-encode : (settings : List ℕ) (command bank place mask : ℕ) �
 unfolding wordEncoded wordDecoded wordUnder packetUnder wordAnswer noWordAnswer answerOf
 word-decode-encode settings command bank place mask e = go (settingsRead settings) refl e
   where
-    word : (s : Settings) → Bounds s → (c : Coded) → commandCoded s command bank place mask ≡ c → wordAnswer c .number ≡ 0
-        → packetAnswer s (kindOf command) (wordAnswer c .word) ≡ numbers command bank place mask
-    word s b NoWord q e = absurd (omega arith)
+    word : (s : Settings) → Bounds s → (c : Coded) → commandCoded s command bank place mask ≡ c → wordAnswer (whyNoWord s command bank place) c .number ≡ 0
+        → packetAnswer s (kindOf command) (wordAnswer (whyNoWord s command bank place) c .word) ≡ numbers command bank place mask
+    word s b NoWord q e = absurd (refused-number (whyNoWord s command bank place) e)
     word s b (Word w) q e = decoded s b command bank place mask w q
 
     go : (r : SettingsRead) → settingsRead settings ≡ r → wordUnder r command bank place mask .number ≡ 0
