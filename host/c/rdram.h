@@ -72,19 +72,19 @@ enum rdram_kind {
 /* Answer numbers. The calls below answer 0, 1, 8, 10, 12 and 13. */
 enum rdram_refusal {
     RDRAM_OK = 0,
-    RDRAM_SETTINGS = 1, /* settings not 32 bytes, or a figure out of range */
-    RDRAM_KIND = 2,     /* request kind too high */
-    RDRAM_SPARE = 3,    /* a request byte that its kind does not use is not 0 */
-    RDRAM_BANK = 4,     /* bank above 31 */
-    RDRAM_ROW = 5,      /* row not below rows */
-    RDRAM_COLUMN = 6,   /* column not below columns */
-    RDRAM_HORIZON = 7,  /* an instant would pass 1,000,000,000 */
-    RDRAM_FULL = 8,     /* too little room in the buffer for the answer */
-    RDRAM_STORE = 9,    /* wrong store length */
-    RDRAM_WORD = 10,    /* a packet, word or record that has no coding */
-    RDRAM_RULE = 11,    /* a timing rule is broken */
-    RDRAM_BLOCK = 12,   /* a damaged or misplaced block */
-    RDRAM_LENGTH = 13   /* not whole requests, records or blocks */
+    RDRAM_REFUSED_SETTINGS = 1,  /* settings not 32 bytes, or a figure out of range */
+    RDRAM_REFUSED_KIND = 2,      /* request kind too high */
+    RDRAM_REFUSED_SPARE = 3,     /* a request byte that its kind does not use is not 0 */
+    RDRAM_REFUSED_BANK = 4,      /* bank above 31 */
+    RDRAM_REFUSED_ROW = 5,       /* row not below rows */
+    RDRAM_REFUSED_COLUMN = 6,    /* column not below columns */
+    RDRAM_REFUSED_HORIZON = 7,   /* an instant would pass 1,000,000,000 */
+    RDRAM_REFUSED_FULL = 8,      /* too little room in the buffer for the answer */
+    RDRAM_REFUSED_STORE = 9,     /* wrong store length */
+    RDRAM_REFUSED_WORD = 10,     /* a packet, word or record that has no coding */
+    RDRAM_REFUSED_RULE = 11,     /* a timing rule is broken */
+    RDRAM_REFUSED_BLOCK = 12,    /* a damaged or misplaced block */
+    RDRAM_REFUSED_LENGTH = 13    /* not whole requests, records or blocks */
 };
 
 typedef struct {
@@ -114,10 +114,11 @@ typedef struct {
  *
  * Refusals, in this order:
  *    1  settings: correct the settings bytes.
- *   10  the packet has no word under these settings: unknown command, bank
- *       above 31, row or column not below that of the settings, mask above
- *       FFFF, or a field that the command does not use is not 0. Correct the
- *       fields.
+ *    4  bank above 31: correct the bank.
+ *    5  the row of ACT is not below rows: correct the row.
+ *    6  the column of WR or RD is not below columns: correct the column.
+ *   10  the packet has no word: unknown command, mask above FFFF, or a field
+ *       that the command does not use is not 0. Correct the fields.
  */
 rdram_word rdram_word_encode(const uint8_t *settings, size_t settings_len,
                              uint32_t command, uint32_t bank, uint32_t place,

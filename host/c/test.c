@@ -1,7 +1,7 @@
 /*
  * Tests of librdram.a through rdram.h. Prints one line for each failed check
  * and last the line 'N passed, M failed'. Expected words and blocks come from
- * the small coder below, written from docs/01-scope.md, and from literals.
+ * the small coder below, written from document 01, and from literals.
  */
 #include "rdram.h"
 #include <inttypes.h>
@@ -321,33 +321,38 @@ static void test_all_words(void)
 
 static void test_word_refusals(void)
 {
-    static const struct { const char *why; uint32_t command, bank, place, mask; } CASES[] = {
-        {"command 7", 7, 0, 0, 0},
-        {"command 7 with a full mask", 7, 0, 0, FULL},
-        {"command 2^32 - 1", UINT32_MAX, 0, 0, 0},
-        {"ACT bank 32", RDRAM_ACT, 32, 0, 0},
-        {"PRER bank 32", RDRAM_PRER, 32, 0, 0},
-        {"WR bank 32", RDRAM_WR, 32, 0, FULL},
-        {"RD bank 2^31", RDRAM_RD, 0x80000000u, 0, FULL},
-        {"ACT row 300 of 300", RDRAM_ACT, 0, 300, 0},
-        {"ACT row 512", RDRAM_ACT, 0, 512, 0},
-        {"WR column 100 of 100", RDRAM_WR, 0, 100, FULL},
-        {"RD column 128", RDRAM_RD, 0, 128, FULL},
-        {"RD mask 10000", RDRAM_RD, 0, 0, 0x10000},
-        {"NOCOP mask 2^32 - 1", RDRAM_NOCOP, 0, 0, UINT32_MAX},
-        {"ACT with a mask", RDRAM_ACT, 0, 0, 1},
-        {"ACT with a full mask", RDRAM_ACT, 0, 0, FULL},
-        {"PRER with a mask", RDRAM_PRER, 0, 0, FULL},
-        {"PRER with a row", RDRAM_PRER, 0, 1, 0},
-        {"REFA with a row", RDRAM_REFA, 0, 1, 0},
-        {"REFP with a row", RDRAM_REFP, 0, 1, 0},
-        {"NOCOP with a bank", RDRAM_NOCOP, 1, 0, FULL},
-        {"NOCOP with a column", RDRAM_NOCOP, 0, 1, FULL},
+    static const struct { const char *why; uint32_t number, command, bank, place, mask; } CASES[] = {
+        {"command 7", RDRAM_REFUSED_WORD, 7, 0, 0, 0},
+        {"command 7 with a full mask", RDRAM_REFUSED_WORD, 7, 0, 0, FULL},
+        {"command 2^32 - 1", RDRAM_REFUSED_WORD, UINT32_MAX, 0, 0, 0},
+        {"ACT bank 32", RDRAM_REFUSED_BANK, RDRAM_ACT, 32, 0, 0},
+        {"PRER bank 32", RDRAM_REFUSED_BANK, RDRAM_PRER, 32, 0, 0},
+        {"WR bank 32", RDRAM_REFUSED_BANK, RDRAM_WR, 32, 0, FULL},
+        {"RD bank 2^31", RDRAM_REFUSED_BANK, RDRAM_RD, 0x80000000u, 0, FULL},
+        {"ACT row 300 of 300", RDRAM_REFUSED_ROW, RDRAM_ACT, 0, 300, 0},
+        {"ACT row 512", RDRAM_REFUSED_ROW, RDRAM_ACT, 0, 512, 0},
+        {"WR column 100 of 100", RDRAM_REFUSED_COLUMN, RDRAM_WR, 0, 100, FULL},
+        {"RD column 128", RDRAM_REFUSED_COLUMN, RDRAM_RD, 0, 128, FULL},
+        {"RD mask 10000", RDRAM_REFUSED_WORD, RDRAM_RD, 0, 0, 0x10000},
+        {"NOCOP mask 2^32 - 1", RDRAM_REFUSED_WORD, RDRAM_NOCOP, 0, 0, UINT32_MAX},
+        {"ACT with a mask", RDRAM_REFUSED_WORD, RDRAM_ACT, 0, 0, 1},
+        {"ACT with a full mask", RDRAM_REFUSED_WORD, RDRAM_ACT, 0, 0, FULL},
+        {"PRER with a mask", RDRAM_REFUSED_WORD, RDRAM_PRER, 0, 0, FULL},
+        {"PRER with a row", RDRAM_REFUSED_WORD, RDRAM_PRER, 0, 1, 0},
+        {"REFA with a row", RDRAM_REFUSED_WORD, RDRAM_REFA, 0, 1, 0},
+        {"REFP with a row", RDRAM_REFUSED_WORD, RDRAM_REFP, 0, 1, 0},
+        {"NOCOP bank 32", RDRAM_REFUSED_BANK, RDRAM_NOCOP, 32, 0, FULL},
+        {"command 7 bank 32", RDRAM_REFUSED_BANK, 7, 32, 0, 0},
+        {"bank 32 before row 300", RDRAM_REFUSED_BANK, RDRAM_ACT, 32, 300, 0},
+        {"row 300 before a mask", RDRAM_REFUSED_ROW, RDRAM_ACT, 0, 300, 1},
+        {"column 100 before mask 10000", RDRAM_REFUSED_COLUMN, RDRAM_WR, 0, 100, 0x10000},
+        {"NOCOP with a bank", RDRAM_REFUSED_WORD, RDRAM_NOCOP, 1, 0, FULL},
+        {"NOCOP with a column", RDRAM_REFUSED_WORD, RDRAM_NOCOP, 0, 1, FULL},
     };
     use(300, 100, 5);
     for (size_t i = 0; i < sizeof CASES / sizeof CASES[0]; i++) {
         rdram_word w = word_of(CASES[i].command, CASES[i].bank, CASES[i].place, CASES[i].mask);
-        check(w.number == RDRAM_WORD && w.word == 0, "no word for %s", CASES[i].why);
+        check(w.number == CASES[i].number && w.word == 0, "no word for %s", CASES[i].why);
     }
     check(word_of(RDRAM_ACT, 31, 299, 0).number == 0, "row 299 of 300 has a word");
     check(word_of(RDRAM_RD, 31, 99, FULL).number == 0, "column 99 of 100 has a word");
@@ -394,7 +399,7 @@ static void test_packet_refusals(void)
     check(same_packet(packet_of(RDRAM_KIND_ROW, act), RDRAM_ACT, 3, 7, 0), "ACT 3/7 decodes");
     check(same_packet(packet_of(RDRAM_KIND_COL, rd), RDRAM_RD, 3, 7, FULL), "RD 3/7 decodes");
     for (size_t i = 0; i < sizeof CASES / sizeof CASES[0]; i++)
-        check(no_packet(packet_of(CASES[i].kind, CASES[i].word), RDRAM_WORD), "no packet for %s", CASES[i].why);
+        check(no_packet(packet_of(CASES[i].kind, CASES[i].word), RDRAM_REFUSED_WORD), "no packet for %s", CASES[i].why);
 }
 
 /* ---- Settings ---- */
@@ -403,7 +408,7 @@ static void test_packet_refusals(void)
 static int all_refuse(const uint8_t *bytes, size_t length, int refuse)
 {
     static const uint8_t none[1];
-    uint32_t number = refuse ? RDRAM_SETTINGS : RDRAM_OK;
+    uint32_t number = refuse ? RDRAM_REFUSED_SETTINGS : RDRAM_OK;
     rdram_word w = rdram_word_encode(bytes, length, RDRAM_ACT, 0, 0, 0);
     rdram_packet p = rdram_word_decode(bytes, length, RDRAM_KIND_ROW, w.word);
     rdram_copied e = rdram_log_encode(bytes, length, none, 0, NULL, 0);
@@ -464,15 +469,15 @@ static void test_null(void)
     check(accepted(rdram_log_decode(settings, sizeof settings, NULL, 0, NULL, 0), 0), "empty log, null buffers");
     check(accepted(encode(0, sizeof log_), 0) && unchanged(), "an empty list writes nothing");
     check(accepted(decode(0, sizeof list), 0) && unchanged(), "an empty log writes nothing");
-    check(refused(rdram_log_encode(settings, sizeof settings, list, 1, NULL, 0), RDRAM_LENGTH, 0), "1 byte, null log");
-    check(refused(rdram_log_decode(settings, sizeof settings, log_, 1, NULL, 0), RDRAM_LENGTH, 0), "1 byte, null list");
+    check(refused(rdram_log_encode(settings, sizeof settings, list, 1, NULL, 0), RDRAM_REFUSED_LENGTH, 0), "1 byte, null log");
+    check(refused(rdram_log_decode(settings, sizeof settings, log_, 1, NULL, 0), RDRAM_REFUSED_LENGTH, 0), "1 byte, null list");
     use(512, 128, 5);
     make_list(1);
     remember();
-    check(refused(rdram_log_encode(settings, sizeof settings, list, RECORD, NULL, 0), RDRAM_FULL, 0), "null log");
+    check(refused(rdram_log_encode(settings, sizeof settings, list, RECORD, NULL, 0), RDRAM_REFUSED_FULL, 0), "null log");
     make_log(1);
     remember();
-    check(refused(rdram_log_decode(settings, sizeof settings, log_, BLOCK, NULL, 0), RDRAM_FULL, 0), "null list");
+    check(refused(rdram_log_decode(settings, sizeof settings, log_, BLOCK, NULL, 0), RDRAM_REFUSED_FULL, 0), "null list");
 }
 
 /* The log is as expected, its tail and the list are unchanged. */
@@ -532,7 +537,7 @@ static void test_room(void)
     fill(log_, sizeof log_);
     int ok = 1;
     for (size_t room = 0; room < 3 * BLOCK; room++)
-        ok &= refused(encode(31 * RECORD, room), RDRAM_FULL, 0);
+        ok &= refused(encode(31 * RECORD, room), RDRAM_REFUSED_FULL, 0);
     check(ok, "31 records into a log of fewer than 3 blocks");
     ok = 1;
     for (size_t room = 3 * BLOCK; room <= sizeof log_; room++)
@@ -541,7 +546,7 @@ static void test_room(void)
     make_log(31);
     ok = 1;
     for (size_t room = 0; room < 31 * RECORD; room++)
-        ok &= refused(decode(3 * BLOCK, room), RDRAM_FULL, 0);
+        ok &= refused(decode(3 * BLOCK, room), RDRAM_REFUSED_FULL, 0);
     check(ok, "31 records out, into a shorter list");
     ok = 1;
     for (size_t room = 31 * RECORD; room <= 32 * RECORD + 5; room++)
@@ -557,13 +562,13 @@ static void test_lengths(void)
     int ok = 1;
     for (size_t length = 0; length <= 31 * RECORD; length++)
         if (length % RECORD != 0)
-            ok &= refused(encode(length, sizeof log_), RDRAM_LENGTH, 0);
+            ok &= refused(encode(length, sizeof log_), RDRAM_REFUSED_LENGTH, 0);
     check(ok, "lists that are not whole records");
     make_log(31);
     ok = 1;
     for (size_t length = 0; length <= 3 * BLOCK; length++)
         if (length % BLOCK != 0)
-            ok &= refused(decode(length, sizeof list), RDRAM_LENGTH, 0);
+            ok &= refused(decode(length, sizeof list), RDRAM_REFUSED_LENGTH, 0);
     check(ok, "logs that are not whole blocks");
 }
 
@@ -575,10 +580,10 @@ static void test_flipped_bytes(void)
         int ok = 1;
         for (size_t at = BLOCK * block; at < BLOCK * (block + 1); at++) {
             log_[at] ^= 0xFF;
-            ok &= refused(decode(3 * BLOCK, sizeof list), RDRAM_BLOCK, block);
+            ok &= refused(decode(3 * BLOCK, sizeof list), RDRAM_REFUSED_BLOCK, block);
             log_[at] ^= 0xFF;
             log_[at] ^= 0x01;
-            ok &= refused(decode(3 * BLOCK, sizeof list), RDRAM_BLOCK, block);
+            ok &= refused(decode(3 * BLOCK, sizeof list), RDRAM_REFUSED_BLOCK, block);
             log_[at] ^= 0x01;
         }
         check(ok, "each byte of block %zu flipped", block);
@@ -598,21 +603,21 @@ static rdram_copied decode_with(size_t at, int value)
 static void test_block_fields(void)
 {
     use(512, 128, 5);
-    check(refused(decode_with(480, 1), RDRAM_BLOCK, 0), "block 0 numbered 1");
-    check(refused(decode_with(BLOCK + 483, 1), RDRAM_BLOCK, 1), "high byte of the number of block 1");
-    check(refused(decode_with(484, 14), RDRAM_BLOCK, 0), "a count that leaves out a record");
-    check(refused(decode_with(484, 0), RDRAM_BLOCK, 0), "count 0");
-    check(refused(decode_with(484, 16), RDRAM_BLOCK, 0), "count 16");
-    check(refused(decode_with(487, 1), RDRAM_BLOCK, 0), "high byte of the count");
-    check(refused(decode_with(2 * BLOCK + 484, 0), RDRAM_BLOCK, 2), "count 0 in the last block");
-    check(refused(decode_with(2 * BLOCK + 484, 2), RDRAM_WORD, 31), "a count raised over zero records");
+    check(refused(decode_with(480, 1), RDRAM_REFUSED_BLOCK, 0), "block 0 numbered 1");
+    check(refused(decode_with(BLOCK + 483, 1), RDRAM_REFUSED_BLOCK, 1), "high byte of the number of block 1");
+    check(refused(decode_with(484, 14), RDRAM_REFUSED_BLOCK, 0), "a count that leaves out a record");
+    check(refused(decode_with(484, 0), RDRAM_REFUSED_BLOCK, 0), "count 0");
+    check(refused(decode_with(484, 16), RDRAM_REFUSED_BLOCK, 0), "count 16");
+    check(refused(decode_with(487, 1), RDRAM_REFUSED_BLOCK, 0), "high byte of the count");
+    check(refused(decode_with(2 * BLOCK + 484, 0), RDRAM_REFUSED_BLOCK, 2), "count 0 in the last block");
+    check(refused(decode_with(2 * BLOCK + 484, 2), RDRAM_REFUSED_WORD, 31), "a count raised over zero records");
     int ok = 1;
     for (size_t at = 488; at < 508; at++)
-        ok &= refused(decode_with(BLOCK + at, 1), RDRAM_BLOCK, 1);
+        ok &= refused(decode_with(BLOCK + at, 1), RDRAM_REFUSED_BLOCK, 1);
     check(ok, "each of the twenty zeros of block 1");
     ok = 1;
     for (size_t at = RECORD; at < 480; at++)
-        ok &= refused(decode_with(2 * BLOCK + at, 1), RDRAM_BLOCK, 2);
+        ok &= refused(decode_with(2 * BLOCK + at, 1), RDRAM_REFUSED_BLOCK, 2);
     check(ok, "each byte of the unused records of block 2");
 }
 
@@ -622,12 +627,12 @@ static void test_empty_blocks(void)
     use(512, 128, 5);
     make_log(0);
     memset(log_, 0, BLOCK);
-    check(refused(decode(BLOCK, sizeof list), RDRAM_BLOCK, 0), "a block of zeros");
+    check(refused(decode(BLOCK, sizeof list), RDRAM_REFUSED_BLOCK, 0), "a block of zeros");
     make_log(30);
     memset(log_ + 2 * BLOCK, 0, BLOCK);
     log_[2 * BLOCK + 480] = 2;
     seal(log_ + 2 * BLOCK);
-    check(refused(decode(3 * BLOCK, sizeof list), RDRAM_BLOCK, 2), "a last block without records");
+    check(refused(decode(3 * BLOCK, sizeof list), RDRAM_REFUSED_BLOCK, 2), "a last block without records");
 }
 
 static void test_block_order(void)
@@ -638,15 +643,15 @@ static void test_block_order(void)
     memcpy(spare, log_, BLOCK);
     memcpy(log_, log_ + BLOCK, BLOCK);
     memcpy(log_ + BLOCK, spare, BLOCK);
-    check(refused(decode(3 * BLOCK, sizeof list), RDRAM_BLOCK, 0), "blocks 0 and 1 exchanged");
+    check(refused(decode(3 * BLOCK, sizeof list), RDRAM_REFUSED_BLOCK, 0), "blocks 0 and 1 exchanged");
     make_log(31);
     memcpy(log_ + BLOCK, log_ + 2 * BLOCK, BLOCK);
-    check(refused(decode(2 * BLOCK, sizeof list), RDRAM_BLOCK, 1), "block 1 left out");
+    check(refused(decode(2 * BLOCK, sizeof list), RDRAM_REFUSED_BLOCK, 1), "block 1 left out");
     make_log(14);
     memcpy(log_ + BLOCK, log_, BLOCK);
     log_[BLOCK + 480] = 1;
     seal(log_ + BLOCK);
-    check(refused(decode(2 * BLOCK, sizeof list), RDRAM_BLOCK, 0), "a short block that is not the last");
+    check(refused(decode(2 * BLOCK, sizeof list), RDRAM_REFUSED_BLOCK, 0), "a short block that is not the last");
     make_log(31);
     check(accepted(decode(2 * BLOCK, sizeof list), 30), "a log without its last block");
 }
@@ -657,8 +662,8 @@ static int bad_record(size_t record, size_t byte, int value)
     make_list(31);
     fill(log_, sizeof log_);
     list[RECORD * record + byte] = (uint8_t)value;
-    int ok = refused(encode(31 * RECORD, sizeof log_), RDRAM_WORD, record);
-    return ok && refused(decode_with(BLOCK * (record / 15) + RECORD * (record % 15) + byte, value), RDRAM_WORD, record);
+    int ok = refused(encode(31 * RECORD, sizeof log_), RDRAM_REFUSED_WORD, record);
+    return ok && refused(decode_with(BLOCK * (record / 15) + RECORD * (record % 15) + byte, value), RDRAM_REFUSED_WORD, record);
 }
 
 static void test_bad_records(void)
@@ -699,20 +704,20 @@ static void test_order(void)
     make_list(31);
     fill(log_, sizeof log_);
     list[RECORD * 7 + 5] = list[RECORD * 20 + 5] = 1;
-    check(refused(encode(31 * RECORD, 0), RDRAM_WORD, 7), "encode: the first bad record, before the room");
-    check(refused(encode(31 * RECORD - 1, 0), RDRAM_LENGTH, 0), "encode: the length before a bad record");
+    check(refused(encode(31 * RECORD, 0), RDRAM_REFUSED_WORD, 7), "encode: the first bad record, before the room");
+    check(refused(encode(31 * RECORD - 1, 0), RDRAM_REFUSED_LENGTH, 0), "encode: the length before a bad record");
     settings[0] = 3;
-    check(refused(encode(31 * RECORD - 1, 0), RDRAM_SETTINGS, 0), "encode: the settings before the length");
+    check(refused(encode(31 * RECORD - 1, 0), RDRAM_REFUSED_SETTINGS, 0), "encode: the settings before the length");
     use(512, 128, 5);
     make_log(31);
     log_[5] = log_[BLOCK + 5] = 1;
     seal(log_);
-    check(refused(decode(3 * BLOCK, 0), RDRAM_BLOCK, 1), "decode: a bad block before an earlier bad record");
+    check(refused(decode(3 * BLOCK, 0), RDRAM_REFUSED_BLOCK, 1), "decode: a bad block before an earlier bad record");
     seal(log_ + BLOCK);
-    check(refused(decode(3 * BLOCK, 0), RDRAM_WORD, 0), "decode: the first bad record, before the room");
-    check(refused(decode(3 * BLOCK - 1, 0), RDRAM_LENGTH, 0), "decode: the length before the blocks");
+    check(refused(decode(3 * BLOCK, 0), RDRAM_REFUSED_WORD, 0), "decode: the first bad record, before the room");
+    check(refused(decode(3 * BLOCK - 1, 0), RDRAM_REFUSED_LENGTH, 0), "decode: the length before the blocks");
     settings[0] = 3;
-    check(refused(decode(3 * BLOCK - 1, 0), RDRAM_SETTINGS, 0), "decode: the settings before the length");
+    check(refused(decode(3 * BLOCK - 1, 0), RDRAM_REFUSED_SETTINGS, 0), "decode: the settings before the length");
 }
 
 /* Words that are right under other settings only. */
@@ -722,13 +727,13 @@ static void test_other_settings(void)
     make_list(31);
     fill(log_, sizeof log_);
     use(512, 128, 6);
-    check(refused(encode(31 * RECORD, sizeof log_), RDRAM_WORD, 0), "encode under another device");
+    check(refused(encode(31 * RECORD, sizeof log_), RDRAM_REFUSED_WORD, 0), "encode under another device");
     make_log(31);
-    check(refused(decode(3 * BLOCK, sizeof list), RDRAM_WORD, 0), "decode under another device");
+    check(refused(decode(3 * BLOCK, sizeof list), RDRAM_REFUSED_WORD, 0), "decode under another device");
     use(512, 6, 5); /* record 2 has column 6 */
-    check(refused(decode(3 * BLOCK, sizeof list), RDRAM_WORD, 2), "decode under fewer columns");
+    check(refused(decode(3 * BLOCK, sizeof list), RDRAM_REFUSED_WORD, 2), "decode under fewer columns");
     use(176, 128, 5); /* record 16 has row 176 */
-    check(refused(decode(3 * BLOCK, sizeof list), RDRAM_WORD, 16), "decode under fewer rows");
+    check(refused(decode(3 * BLOCK, sizeof list), RDRAM_REFUSED_WORD, 16), "decode under fewer rows");
 }
 
 int main(void)

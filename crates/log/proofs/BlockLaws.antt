@@ -1,15 +1,18 @@
--- Lengths of blocks and logs, and sums of words.
+-- Lengths of blocks and logs, sums of words, and one block more.
 -- Assumes nothing.
-use Prim.Native.Nat.{ℕ, zero, suc, _+_, _-_, _*_, _/_, _%_, _<_, _≤_}
-use mathlib.Core.Path.{_≡_, refl, sym, _∙_, ap, ap₂}
-use mathlib.Core.List.{List, [], _++_}
+use Prim.Native.Nat.{ℕ, zero, suc, _+_, _-_, _*_, _<_, _≤_}
+use mathlib.Core.Path.{_≡_, refl, ap₂}
+use mathlib.Core.Bool.{Bool}
+use mathlib.Core.List.{List, _++_}
 use native.Mathlib.Numerals.{add-one}
 use native.Mathlib.Omega.{arith}
-use lib.ListN.{length, take, drop, length-append, length-take, length-drop}
-use Rattle.num.specs.Bytes.{bytes, number, part, zeros}
+use lib.Dec.{eqb}
+use lib.ListN.{length, length-append}
+use Rattle.num.specs.Bytes.{part}
 use Rattle.num.proofs.ByteLaws.{length-bytes}
 use Rattle.num.proofs.SpliceLaws.{length-zeros}
-use Rattle.log.specs.Block.{wordAt, wordSum, blockBody, checkWord, block, logUpTo, listUpTo, blockAt, used}
+use Rattle.num.proofs.PartLaws.{length-part-le}
+use Rattle.log.specs.Block.{wordAt, wordSum, blockBody, block, logUpTo, listUpTo, blockAt, used, blockRight, blocksIn}
 
 pub length-body : (k : ℕ) (recs : List ℕ) → length recs ≤ 480 → length (blockBody k recs) ≡ 508
 unfolding blockBody
@@ -19,14 +22,10 @@ pub length-block : (k : ℕ) (recs : List ℕ) → length recs ≤ 480 → lengt
 unfolding block
 length-block k recs h = simp (length-append, length-body k recs h, length-bytes)
 
--- a part has at most as many elements as were asked for
-pub part-short : (l : List ℕ) (at n : ℕ) → length (part l at n) ≤ n
-part-short l at n = simp length-take (omega arith)
-
 pub length-log : (l : List ℕ) (n : ℕ) → length (logUpTo l n) ≡ 512 * n
 unfolding logUpTo
 length-log l zero = refl
-length-log l (suc n) = simp (length-append, length-log l n, length-block n (part l (480 * n) 480) (part-short l (480 * n) 480)) (omega arith)
+length-log l (suc n) = simp (length-append, length-log l n, length-block n (part l (480 * n) 480) (length-part-le l (480 * n) 480)) (omega arith)
 
 pub sum-next : (b : List ℕ) (n : ℕ) → wordSum b (n + 1) ≡ wordSum b n + wordAt b n
 unfolding wordSum
@@ -45,3 +44,7 @@ log-next l n = rw add-one
 pub list-next : (log : List ℕ) (n : ℕ) → listUpTo log (n + 1) ≡ listUpTo log n ++ part (blockAt log n) 0 (32 * used (blockAt log n))
 unfolding listUpTo
 list-next log n = rw add-one
+
+-- whether block k of a log is right there
+abbrev pub rightAt : List ℕ → ℕ → Bool
+rightAt log k = blockRight k (eqb (k + 1) (blocksIn log)) (blockAt log k)

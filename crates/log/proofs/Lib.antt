@@ -6,3 +6,4 @@ pub mod LogThenList
 pub mod ListThenLog
 pub mod CopyLaws
 pub mod BadLaws
+pub mod RoundTrip

@@ -11,12 +11,11 @@ use lib.Dec.{eqb}
 use lib.ListN.{length, take, length-append}
 use lib.Seq.{take-add, take-all}
 use borrow.Author.Tests.{ne-eqb}
-use Rattle.num.specs.Bytes.{number, part, Bytes}
-use Rattle.num.proofs.ByteLaws.{number-below}
+use Rattle.num.specs.Bytes.{part, Bytes}
 use Rattle.num.proofs.SearchLaws.{first-before}
-use Rattle.num.proofs.PartLaws.{length-part, part-all, part-left, part-seam, Bytes-part, Bytes-append, Bytes-zeros}
-use Rattle.log.specs.Block.{block, blockCount, logUpTo, logOf, blockAt, used, blockRight, blocksIn, firstBadBlock, listUpTo, listOf}
-use Rattle.log.proofs.BlockLaws.{list-next}
+use Rattle.num.proofs.PartLaws.{length-part, part-all, part-left, part-seam, Bytes-part, Bytes-append, Bytes-zeros, number-fits}
+use Rattle.log.specs.Block.{block, blockCount, logUpTo, logOf, blockAt, used, blocksIn, firstBadBlock, listUpTo, listOf}
+use Rattle.log.proofs.BlockLaws.{list-next, rightAt}
 use Rattle.log.proofs.OneBlock.{Right, right-of, block-back}
 
 -- the used records of block k of a log
@@ -45,9 +44,7 @@ module _ (log : List ℕ) (good : firstBadBlock log ≡ blocksIn log) where
   pub right-at : (k : ℕ) → k < blocksIn log → Right k (eqb (k + 1) (blocksIn log)) (blockAt log k)
   unfolding firstBadBlock
   right-at k h =
-      let m : ℕ = blocksIn log in
-      right-of k (eqb (k + 1) m) (blockAt log k)
-      (first-before (λ k. blockRight k (eqb (k + 1) m) (blockAt log k)) m k (omega arith))
+      right-of k (eqb (k + 1) (blocksIn log)) (blockAt log k) (first-before (rightAt log) (blocksIn log) k (omega arith))
 
   length-blockAt : (k : ℕ) → k < blocksIn log → length (blockAt log k) ≡ 512
   length-blockAt k h = length-part log (512 * k) 512 (omega arith)
@@ -75,8 +72,7 @@ module _ (log : List ℕ) (good : firstBadBlock log ≡ blocksIn log) where
           let b : List ℕ = blockAt log m in
           let r = right-at m (omega arith) .number-is in
           let s = length-blockAt m (omega arith) in
-          let p : length (part b 480 4) ≡ 4 = length-part b 480 4 (omega arith) in
-          let w : number (part b 480 4) < 256 ^ 4 = rw p at (number-below (part b 480 4) (Bytes-part b 480 4 (Bytes-part log (512 * m) 512 hb))) in
+          let w = number-fits b 480 4 (Bytes-part log (512 * m) 512 hb) (omega arith) in
           omega arith
 
   pub length-records : (k : ℕ) → k < blocksIn log → length (recordsAt log k) ≡ 32 * used (blockAt log k)
@@ -97,13 +93,16 @@ module _ (log : List ℕ) (good : firstBadBlock log ≡ blocksIn log) where
       let r = length-records n (omega arith) in
       simp (length-append, i, r) (omega arith)
 
+  pub length-next : (n : ℕ) → n < blocksIn log → length (listUpTo log (n + 1)) ≡ 32 * (15 * n + used (blockAt log n))
+  length-next n h =
+      let i = length-upTo n h in
+      let r = length-records n h in
+      rw (list-next log n, length-append, i, r) (omega arith)
+
   -- the length of the list, with m blocks before the last
   pub length-list : (m : ℕ) → blocksIn log ≡ m + 1 → length (listOf log) ≡ 32 * (15 * m + used (blockAt log m))
   unfolding listOf
-  length-list m e =
-      let i = length-upTo m (omega arith) in
-      let r = length-records m (omega arith) in
-      rw (e, list-next log m, length-append, i, r) (omega arith)
+  length-list m e = rw e (length-next m (omega arith))
 
   pub list-whole : length (listOf log) % 32 ≡ 0
   list-whole = go (blocksIn log) refl

@@ -15,7 +15,7 @@ use Rattle.num.specs.Bytes.{bytes, part, zeros, Bytes}
 use Rattle.num.proofs.SearchLaws.{first-none}
 use Rattle.num.proofs.PartLaws.{length-part-le, part-all, part-left, part-seam, Bytes-part, Bytes-append, Bytes-zeros, Bytes-bytes}
 use Rattle.log.specs.Block.{blockBody, checkWord, block, blockCount, logUpTo, logOf, blockAt, used, blockRight, blocksIn, firstBadBlock, listUpTo, listOf}
-use Rattle.log.proofs.BlockLaws.{length-block, length-log}
+use Rattle.log.proofs.BlockLaws.{length-block, length-log, rightAt}
 use Rattle.log.proofs.OneBlock.{block-right, records-block}
 
 -- ---- lengths
@@ -71,14 +71,14 @@ unfolding firstBadBlock
 log-right l hl hn =
     let e = log-blocks l in
     let n : ℕ = blockCount (length l / 32) in
-    let all : (k : ℕ) → k < blocksIn (logOf l) → blockRight k (eqb (k + 1) (blocksIn (logOf l))) (blockAt (logOf l) k) ≡ true =
+    let all : (k : ℕ) → k < blocksIn (logOf l) → rightAt (logOf l) k ≡ true =
     λ k h.
     let m : k < blockCount (length l / 32) = omega arith in
     ap₂ (λ (c : ℕ) (b : List ℕ). blockRight k (eqb (k + 1) c) b) e (blockAt-log l k m)
     ∙ block-right k (part l (480 * k) 480) (length-part-le l (480 * k) 480) (eqb (k + 1) n)
     (omega arith) (records-whole l hl k m) (records-some l hl k m) (records-full l hl k m)
     in
-    first-none (λ k. blockRight k (eqb (k + 1) (blocksIn (logOf l))) (blockAt (logOf l) k)) (blocksIn (logOf l)) all
+    first-none (rightAt (logOf l)) (blocksIn (logOf l)) all
 
 -- ---- what was encoded is decoded
 

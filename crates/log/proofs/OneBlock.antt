@@ -12,10 +12,10 @@ use lib.ListN.{length, getD, length-append, getD-replicate}
 use lib.Seq.{take-at}
 use borrow.Author.Tests.{leb-true, le-leb, eqb-true, eq-eqb}
 use Rattle.num.specs.Bytes.{bytes, number, part, zeros, Bytes}
-use Rattle.num.proofs.ByteLaws.{length-bytes, number-bytes, bytes-number, number-below}
+use Rattle.num.proofs.ByteLaws.{length-bytes, number-bytes}
 use Rattle.num.proofs.SpliceLaws.{length-zeros}
 use Rattle.num.proofs.SearchLaws.{all-at, all-intro}
-use Rattle.num.proofs.PartLaws.{length-part, getD-part, part-all, part-part, part-join, part-left, part-right, part-seam, part-zeros, Bytes-part}
+use Rattle.num.proofs.PartLaws.{length-part, getD-part, part-all, part-part, part-join, part-left, part-right, part-seam, part-zeros, number-fits, bytes-part}
 use Rattle.log.specs.Block.{wordAt, wordSum, blockBody, checkWord, block, used, allZero, numberRight, countRight, zerosRight, sumRight, blockRight}
 use Rattle.log.proofs.BlockLaws.{length-body, sum-next, sum-same}
 
@@ -47,20 +47,26 @@ full-or : (last t : Bool) → (last ≡ false → t ≡ true) → (last || t) �
 full-or false t h = h refl
 full-or true t h = refl
 
+-- the test of a count
+pub count-says : (last : Bool) (b : List ℕ) → countRight last b ≡ true → (1 ≤ used b) × (used b ≤ 15) × (last ≡ false → used b ≡ 15)
+count-says last b e =
+    let c = and-eq-true-iff (leb 1 (used b)) (leb (used b) 15 && (last || eqb (used b) 15)) .0 e in
+    let d = and-eq-true-iff (leb (used b) 15) (last || eqb (used b) 15) .0 (c .1) in
+    (leb-true 1 (used b) (c .0), leb-true (used b) 15 (d .0), λ h. eqb-true (used b) 15 (or-full last (eqb (used b) 15) (d .1) h))
+
 pub right-of : (k : ℕ) (last : Bool) (b : List ℕ) → blockRight k last b ≡ true → Right k last b
 unfolding blockRight
 right-of k last b e =
     let p = and-eq-true-iff (numberRight k b) (countRight last b && (zerosRight b && sumRight b)) .0 e in
     let q = and-eq-true-iff (countRight last b) (zerosRight b && sumRight b) .0 (p .1) in
     let r = and-eq-true-iff (zerosRight b) (sumRight b) .0 (q .1) in
-    let c = and-eq-true-iff (leb 1 (used b)) (leb (used b) 15 && (last || eqb (used b) 15)) .0 (q .0) in
-    let d = and-eq-true-iff (leb (used b) 15) (last || eqb (used b) 15) .0 (c .1) in
+    let c = count-says last b (q .0) in
     let z = and-eq-true-iff (allZero b 488 20) (allZero b (32 * used b) (480 - 32 * used b)) .0 (r .0) in
     record {
       number-is = eqb-true (number (part b 480 4)) k (p .0);
-      used-some = leb-true 1 (used b) (c .0);
-      used-most = leb-true (used b) 15 (d .0);
-      used-full = λ h. eqb-true (used b) 15 (or-full last (eqb (used b) 15) (d .1) h);
+      used-some = c .0;
+      used-most = c .1;
+      used-full = c .2;
       gap-zero = z .0;
       rest-zero = z .1;
       sum-zero = eqb-true (wordSum b 128 % 2 ^ 32) 0 (r .1);
@@ -205,9 +211,7 @@ cut-body b a h =
 
 module _ (k : ℕ) (last : Bool) (b : List ℕ) (h : length b ≡ 512) (hb : Bytes b) (r : Right k last b) where
   back : (at x : ℕ) → at + 4 ≤ 512 → number (part b at 4) ≡ x → bytes 4 x ≡ part b at 4
-  back at x m e =
-      let p = length-part b at 4 (omega arith) in
-      ap₂ bytes (sym p) (sym e) ∙ bytes-number (part b at 4) (Bytes-part b at 4 hb)
+  back at x m e = ap (bytes 4) (sym e) ∙ bytes-part b at 4 hb (omega arith)
 
   -- the first 508 bytes are the body that its used records make
   body-back : blockBody k (part b 0 (32 * used b)) ≡ part b 0 508
@@ -234,8 +238,7 @@ module _ (k : ℕ) (last : Bool) (b : List ℕ) (h : length b ≡ 512) (hb : Byt
       let s : wordSum d 127 ≡ wordSum b 127 =
       sum-same d b 127 (λ j l. ap number (part-part b 0 508 (4 * j) 4 (omega arith) ∙ ap (λ (i : ℕ). part b i 4) (zero-add (4 * j))))
       in
-      let p = length-part b 508 4 (omega arith) in
-      let w : number (part b 508 4) < 256 ^ 4 = rw p at (number-below (part b 508 4) (Bytes-part b 508 4 hb)) in
+      let w = number-fits b 508 4 hb (omega arith) in
       let n = sum-next b 127 in
       let t = r .sum-zero in
       rw s (omega arith)

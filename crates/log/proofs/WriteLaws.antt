@@ -4,22 +4,17 @@ use Prim.Native.Nat.{ℕ, _+_, _-_, _*_, _/_, _%_, _^_, _<_, _≤_, min}
 use mathlib.Core.Path.{_≡_, refl, sym, _∙_, ap}
 use mathlib.Core.Bool.{Bool, true, false}
 use mathlib.Core.List.{List, _++_, append-assoc}
-use native.Mathlib.Nat.{zero-add}
 use native.Mathlib.Omega.{arith}
 use lib.ListN.{length, take, drop, length-append, length-drop}
 use lib.Dec.{leb}
-use lib.Seq.{take-all, drop-drop, take-append-le, drop-append-le}
+use lib.Seq.{take-all, drop-drop}
 use borrow.Author.Tests.{leb-true, leb-false}
 use Rattle.num.specs.Bytes.{bytes, number, part, splice, zeros}
 use Rattle.num.proofs.ByteLaws.{length-bytes}
-use Rattle.num.proofs.SpliceLaws.{splice-more, length-splice, splice-whole, length-zeros}
+use Rattle.num.proofs.SpliceLaws.{splice-next, length-splice, splice-whole, length-zeros}
+use Rattle.num.proofs.PartLaws.{part-left}
 use Rattle.log.specs.Block.{wordSum, blockBody, checkWord, block, blockCount, logUpTo}
 use Rattle.log.proofs.BlockLaws.{length-body, length-log, log-next, sum-same}
-
--- what is put after the first elements of a list follows them
-pub splice-after : (l xs ys : List ℕ) (k : ℕ) → length xs ≡ k → k ≤ length l → splice (splice l 0 xs) k ys ≡ splice l 0 (xs ++ ys)
-splice-after l xs ys k e h =
-    ap (λ (n : ℕ). splice (splice l 0 xs) n ys) (sym (zero-add k)) ∙ splice-more l 0 xs ys k e (omega arith)
 
 -- the stores of a block but for its check word
 pub body-stores : (l : List ℕ) (k : ℕ) (recs : List ℕ) → length l ≡ 512 → length recs ≤ 480
@@ -35,22 +30,16 @@ body-stores l k recs e h =
     let ha : length (recs ++ z ++ a) ≡ 484 = simp (length-append, length-zeros, length-bytes) (omega arith) in
     let hb : length (recs ++ z ++ a ++ b) ≡ 488 = simp (length-append, length-zeros, length-bytes) (omega arith) in
     rw (
-      splice-after l recs z n refl (omega arith),
-      splice-after l (recs ++ z) a 480 hz (omega arith),
-      splice-after l (recs ++ z ++ a) b 484 ha (omega arith),
-      splice-after l (recs ++ z ++ a ++ b) (zeros 20) 488 hb (omega arith),
+      splice-next l recs z n refl (omega arith),
+      splice-next l (recs ++ z) a 480 hz (omega arith),
+      splice-next l (recs ++ z ++ a) b 484 ha (omega arith),
+      splice-next l (recs ++ z ++ a ++ b) (zeros 20) 488 hb (omega arith),
     )
     (simp append-assoc)
 
--- a part that ends within the first of two lists
-pub part-front : (xs ys : List ℕ) (at n : ℕ) → at + n ≤ length xs → part (xs ++ ys) at n ≡ part xs at n
-part-front xs ys at n h =
-    let l : n ≤ length (drop at xs) = rw length-drop (omega arith) in
-    rw (drop-append-le at xs ys (omega arith), take-append-le n (drop at xs) ys l)
-
 -- words within the first of two lists
 pub sum-front : (xs ys : List ℕ) (n : ℕ) → 4 * n ≤ length xs → wordSum (xs ++ ys) n ≡ wordSum xs n
-sum-front xs ys n h = sum-same (xs ++ ys) xs n (λ k l. ap number (part-front xs ys (4 * k) 4 (omega arith)))
+sum-front xs ys n h = sum-same (xs ++ ys) xs n (λ k l. ap number (part-left xs ys (4 * k) 4 (omega arith)))
 
 -- a word that takes the sum of the others to 0 is the check word
 pub check-store : (l : List ℕ) (k : ℕ) (recs : List ℕ) (w : ℕ) → length l ≡ 512 → length recs ≤ 480 → w < 2 ^ 32
@@ -63,7 +52,7 @@ check-store l k recs w e h m z =
     let s : wordSum (splice l 0 body) 127 ≡ wordSum body 127 = sum-front body (drop (0 + length body) l) 127 (omega arith) in
     let c : w ≡ (2 ^ 32 - wordSum body 127 % 2 ^ 32) % 2 ^ 32 = omega arith in
     let n : length (body ++ bytes 4 w) ≡ length l = simp (length-append, length-bytes) (omega arith) in
-    rw (splice-after l body (bytes 4 w) 508 hl (omega arith), splice-whole l (body ++ bytes 4 w) n, c)
+    rw (splice-next l body (bytes 4 w) 508 hl (omega arith), splice-whole l (body ++ bytes 4 w) n, c)
 
 -- a lent part that comes back changed is a splice
 pub part-back : (l : List ℕ) (at k : ℕ) (ys : List ℕ) → length ys ≡ k → take at l ++ (ys ++ drop k (drop at l)) ≡ splice l at ys
@@ -86,7 +75,7 @@ part-within l at n = go (leb (at + n) (length l)) refl
 -- one block more of the log of a list
 pub log-turn : (l list : List ℕ) (k : ℕ) → 512 * k ≤ length l
     → splice (splice l 0 (logUpTo list k)) (512 * k) (block k (part list (480 * k) 480)) ≡ splice l 0 (logUpTo list (k + 1))
-log-turn l list k h = rw (log-next list k) (splice-after l (logUpTo list k) (block k (part list (480 * k) 480)) (512 * k) (length-log list k) h)
+log-turn l list k h = rw (log-next list k) (splice-next l (logUpTo list k) (block k (part list (480 * k) 480)) (512 * k) (length-log list k) h)
 
 -- the bytes keep their number
 pub log-held : (l list : List ℕ) (k : ℕ) → 512 * k ≤ length l → length (splice l 0 (logUpTo list k)) ≡ length l

@@ -8,7 +8,6 @@ use lib.Dec.{eqb, leb}
 use lib.ListN.{length}
 use Rattle.num.specs.Bytes.{splice}
 use Rattle.settings.specs.declared.Settings.{Settings}
-use Rattle.record.specs.declared.Refusal.{Refusal}
 use Rattle.record.specs.declared.Refusal.the-variants.{Full, Word, Block, Length}
 use Rattle.record.specs.Record.{firstBad, recordsIn}
 use Rattle.log.specs.declared.Copied.{Copied}

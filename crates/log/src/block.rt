@@ -1,9 +1,9 @@
-// Whether a block is right, and the first block of a log that is not.
+// Whether a block is right.
 ghost use mathlib.Core.Path.{_≡_};
 ghost use Prim.Native.Nat.{_+_, _*_, _≤_, _<_};
 ghost use lib.Dec.{eqb};
 ghost use lib.ListN.{length};
-ghost use Rattle.log.specs.Block.{used, allZero, numberRight, countRight, zerosRight, sumRight, blockRight, blocksIn, blockAt, firstBadBlock};
+ghost use Rattle.log.specs.Block.{used, allZero, numberRight, countRight, zerosRight, sumRight, blockRight, blocksIn, blockAt};
 use crate::sum::word_sum;
 
 // Whether the n bytes from a place on are zero.
@@ -85,26 +85,11 @@ pub fn block_right(b: &[u8], k: u64, last: bool) -> bool
 }
 
 // Whether block k of a log is right there.
-fn right_at(log: &[u8], k: usize) -> bool
+pub fn right_at(log: &[u8], k: usize) -> bool
     requires { ⌜ k < blocksIn (now log) ⌝ }
     ensures { λ r. ⌜ r ≡ blockRight k (eqb (k + 1) (blocksIn (now (log .entry)))) (blockAt (now (log .entry)) k) ⌝ }
 {
     let at = 512 * k;
     let next = at + 512;
     block_right(&log[at..next], k as u64, k + 1 == log.len() / 512)
-}
-
-// The first block of a log that is not right, or the number of blocks where all are.
-pub fn first_bad_block(log: &[u8]) -> usize
-    ensures { λ r. ⌜ r ≡ firstBadBlock (now (log .entry)) ⌝ }
-{
-    let n = log.len() / 512;
-    let mut k = 0;
-    while k < n {
-        if !right_at(log, k) {
-            return k;
-        }
-        k += 1;
-    }
-    n
 }

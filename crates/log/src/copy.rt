@@ -1,12 +1,15 @@
 // A list of records to a log, and back.
 ghost use mathlib.Core.Path.{_≡_};
+ghost use mathlib.Core.Bool.{cond};
 ghost use Prim.Native.Nat.{_*_, _+_, _%_, _<_, _≤_};
+ghost use lib.Dec.{eqb};
 ghost use lib.ListN.{length};
 ghost use Rattle.num.specs.Bytes.{part};
 ghost use Rattle.record.specs.Record.{firstBad};
 ghost use Rattle.log.specs.Block.{used, blocksIn, blockAt, firstBadBlock, listOf};
 ghost use Rattle.log.specs.Log.{encodeAnswer, encodeLog, decodeAnswer, decodeLog};
 use crate::Copied;
+use crate::Faults;
 use record::Refusal;
 use settings::Settings;
 
@@ -50,21 +53,39 @@ fn bad_in_block(s: Settings, log: &[u8], k: usize) -> usize
     record::records::first_bad(s, &log[at..end])
 }
 
-// The first bad record of the list that a log of right blocks keeps, or how many records it has.
-fn bad_in_log(s: Settings, log: &[u8]) -> usize
-    requires { ⌜ firstBadBlock (now log) ≡ blocksIn (now log) ⌝ }
-    ensures { λ r. ⌜ r ≡ firstBad s (listOf (now (log .entry))) ⌝ }
+// The first bad record up to block k: bad is that of the blocks before it, or 15 * k where they have none.
+fn bad_up_to(s: Settings, log: &[u8], k: usize, bad: usize) -> usize
+    requires { ⌜ (k < blocksIn (now log)) × (used (blockAt (now log) k) ≤ 15) ⌝ }
+    ensures { λ r. ⌜ r ≡ cond (eqb bad (15 * k)) (15 * k + firstBad s (part (blockAt (now (log .entry)) k) 0 (32 * used (blockAt (now (log .entry)) k)))) bad ⌝ }
+{
+    let first = 15 * k;
+    if bad == first {
+        return first + bad_in_block(s, log, k);
+    }
+    bad
+}
+
+// The first bad block and the first bad record of a log, each block tested whole before the next one is read.
+fn faults(s: Settings, log: &[u8]) -> Faults
+    ensures { λ r. ⌜ (r .block ≡ firstBadBlock (now (log .entry))) × (r .block ≡ blocksIn (now (log .entry)) → r .record ≡ firstBad s (listOf (now (log .entry)))) ⌝ }
 {
     let n = log.len() / 512;
+    let mut bad = 0;
     let mut k = 0;
     while k < n {
-        let bad = bad_in_block(s, log, k);
-        if bad < crate::read::used_at(log, k) {
-            return 15 * k + bad;
+        if !crate::block::right_at(log, k) {
+            return Faults {
+                block: k,
+                record: bad,
+            };
         }
+        bad = bad_up_to(s, log, k, bad);
         k += 1;
     }
-    crate::read::records_in(log)
+    Faults {
+        block: n,
+        record: bad,
+    }
 }
 
 // What decoding a log into so many bytes answers.
@@ -74,14 +95,13 @@ fn decode_answer(s: Settings, log: &[u8], room: usize) -> Copied
     if log.len() % 512 != 0 {
         return Copied::Refused(Refusal::Length);
     }
-    let bad_block = crate::block::first_bad_block(log);
-    if bad_block != log.len() / 512 {
-        return Copied::Refused(Refusal::Block(bad_block as u64));
+    let found = faults(s, log);
+    if found.block != log.len() / 512 {
+        return Copied::Refused(Refusal::Block(found.block as u64));
     }
     let n = crate::read::records_in(log);
-    let bad = bad_in_log(s, log);
-    if bad != n {
-        return Copied::Refused(Refusal::Word(bad as u64));
+    if found.record != n {
+        return Copied::Refused(Refusal::Word(found.record as u64));
     }
     if n <= room / 32 {
         return Copied::Count(n as u64);

@@ -12,3 +12,9 @@ pub enum Copied {
     Refused(Refusal),
     Count(u64),
 }
+
+// The first bad block of a log and, where no block is bad, the first bad record of its list.
+pub struct Faults {
+    pub block: usize,
+    pub record: usize,
+}

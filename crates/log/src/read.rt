@@ -28,14 +28,25 @@ pub fn records_in(log: &[u8]) -> usize
     15 * last + used_at(log, last)
 }
 
-// Copies the used records of block k of a log to their place in the list.
+// How many records block k of a log of right blocks uses; only the last block is read for it.
+fn used_of(log: &[u8], k: usize) -> usize
+    requires { ⌜ (k < blocksIn (now log)) × (firstBadBlock (now log) ≡ blocksIn (now log)) ⌝ }
+    ensures { λ r. ⌜ r ≡ used (blockAt (now (log .entry)) k) ⌝ }
+{
+    if k + 1 < log.len() / 512 {
+        return 15;
+    }
+    used_at(log, k)
+}
+
+// Copies the used records of block k of a log of right blocks to their place in the list.
 fn read_at(log: &[u8], k: usize, list: &mut [u8])
-    requires { ⌜ (k < blocksIn (now log)) × (used (blockAt (now log) k) ≤ 15) ⌝ }
+    requires { ⌜ (k < blocksIn (now log)) × (firstBadBlock (now log) ≡ blocksIn (now log)) ⌝ }
     requires { ⌜ 480 * k + 32 * used (blockAt (now log) k) ≤ length (now list) ⌝ }
     ensures { λ _. ⌜ now (list .exit) ≡ splice (now (list .entry)) (480 * k) (part (blockAt (now (log .entry)) k) 0 (32 * used (blockAt (now (log .entry)) k))) ⌝ }
 {
     let at = 512 * k;
-    let end = at + 32 * used_at(log, k);
+    let end = at + 32 * used_of(log, k);
     num::put_bytes(list, 480 * k, &log[at..end]);
 }
 

@@ -4,11 +4,11 @@ use mathlib.Core.Path.{_≡_, refl, ap, ap₂, _∙_, sym}
 use mathlib.Core.Bool.{Bool, true, false, cond, _&&_, and-eq-true-iff}
 use mathlib.Core.Logic.{_⊎_, ⊎-elim}
 use Prim.Native.Nat.{ℕ, zero, suc, _+_, _<_, _≤_}
-use lib.Dec.{eqb}
 use borrow.Author.Tests.{eq-eqb, ne-eqb}
-use native.Mathlib.Nat.{eq-or-lt-of-le, le-of-suc-le-suc}
+use native.Mathlib.Nat.{eq-or-lt-of-le, le-of-suc-le-suc, zero-add, suc-add}
 use native.Mathlib.Numerals.{add-one}
 use native.Mathlib.Omega.{arith}
+use lib.Dec.{eqb, eqb·zero-suc, eqb·suc-suc}
 use Rattle.num.specs.Search.{allUpTo, firstFalse}
 
 -- one index more, as a loop takes it
@@ -111,3 +111,20 @@ first-all f n = go (eq-or-lt-of-le (first-le f n))
         ⊎-elim
         (λ e. eq-eqb _ _ e ∙ sym (all-intro f n (λ k l. first-before f n k (omega arith))))
         (λ l. ne-eqb (firstFalse f n) n (λ q. omega arith) ∙ sym (all-false f n (firstFalse f n) l (first-fails f n l)))
+
+cond-suc : (b : Bool) (x y : ℕ) → suc (cond b x y) ≡ cond b (suc x) (suc y)
+cond-suc true x y = refl
+cond-suc false x y = refl
+
+-- the first failure below n + m: that below n, or else that of the m indices after it
+pub first-join : (f : ℕ → Bool) (n m : ℕ) → firstFalse f (n + m) ≡ cond (eqb (firstFalse f n) n) (n + firstFalse (λ j. f (n + j)) m) (firstFalse f n)
+unfolding firstFalse
+first-join f zero m = simp zero-add
+first-join f (suc n) m =
+    let g : ℕ → Bool = λ i. f (suc i) in
+    simp suc-add (go (f 0) (firstFalse g (n + m)) (firstFalse g n) (n + firstFalse (λ j. g (n + j)) m) (first-join g n m))
+  where
+    go : (t : Bool) (x y z : ℕ) → x ≡ cond (eqb y n) z y
+        → cond t (suc x) 0 ≡ cond (eqb (cond t (suc y) 0) (suc n)) (suc z) (cond t (suc y) 0)
+    go true x y z e = rw (e, eqb·suc-suc y n, cond-suc (eqb y n) z y)
+    go false x y z e = rw (eqb·zero-suc n)

@@ -1,12 +1,12 @@
 -- Laws of splice: a copy of all of a list is a splice, two splices side by side are one, and the length stays.
 -- Assumes nothing.
-use mathlib.Core.Path.{_≡_, refl, ap, ap₂, _∙_, sym}
+use mathlib.Core.Path.{_≡_, ap, ap₂, _∙_, sym}
 use mathlib.Core.List.{List, [], _∷_, _++_, append-assoc, append-nil}
-use Prim.Native.Nat.{ℕ, zero, suc, _+_, _-_, _*_, _<_, _≤_}
+use Prim.Native.Nat.{ℕ, suc, _+_, _-_, _<_, _≤_}
 use native.Mathlib.Nat.{add-zero, zero-add}
 use native.Mathlib.Numerals.{add-one}
 use native.Mathlib.Omega.{arith}
-use lib.ListN.{length, take, drop, getD, set, length-append, length-take, length-drop, take-append-drop, length-replicate}
+use lib.ListN.{length, take, drop, set, length-append, length-take, length-drop, take-append-drop, length-replicate}
 use lib.Seq.{take-length, drop-length, paste, take-at, drop-at, drop-drop, set-split, length-take-le}
 use Rattle.num.specs.Bytes.{splice, part, zeros}
 

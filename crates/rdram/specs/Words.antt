@@ -2,7 +2,7 @@
 -- Commands: 0 ACT, 1 PRER, 2 REFA, 3 REFP, 4 NOCOP, 5 WR, 6 RD. A packet's place is the row of ACT and the column of WR and RD.
 -- Assumes nothing.
 use Prim.Native.Nat.{ℕ}
-use mathlib.Core.Bool.{Bool, cond, _&&_}
+use mathlib.Core.Bool.{Bool, cond, _&&_, _||_}
 use mathlib.Core.List.{List}
 use lib.Dec.{eqb, leb}
 use Rattle.settings.specs.declared.Settings.{Settings}
@@ -55,14 +55,24 @@ commandCoded s command bank place mask =
 unfoldable pub noWordAnswer : Refusal → WordAnswer
 noWordAnswer r = record { number = answerOf r .number; word = 0 }
 
-unfoldable pub wordAnswer : Coded → WordAnswer
-wordAnswer NoWord = noWordAnswer (refusal.Word 0)
-wordAnswer (Word w) = record { number = 0; word = w }
+-- why a command with these fields has no word: a bank above 31, a row of ACT not below rows, a column of WR or RD not below
+-- columns; else 10
+unfoldable pub whyNoWord : Settings → ℕ → ℕ → ℕ → Refusal
+whyNoWord s command bank place =
+    cond (leb bank 31)
+    (cond (eqb command 0 && leb (s .rows) place) refusal.Row
+    (cond ((eqb command 5 || eqb command 6) && leb (s .columns) place) refusal.Column (refusal.Word 0)))
+    refusal.Bank
 
--- 1 for settings out of range, then 10 for fields that have no word
+unfoldable pub wordAnswer : Refusal → Coded → WordAnswer
+wordAnswer why NoWord = noWordAnswer why
+wordAnswer why (Word w) = record { number = 0; word = w }
+
+-- 1 for settings out of range, then 4, 5, 6 and 10 for fields that have no word
 unfoldable pub wordUnder : SettingsRead → ℕ → ℕ → ℕ → ℕ → WordAnswer
 wordUnder Refused command bank place mask = noWordAnswer refusal.Settings
-wordUnder (Accepted s) command bank place mask = wordAnswer (commandCoded s command bank place mask)
+wordUnder (Accepted s) command bank place mask =
+    wordAnswer (whyNoWord s command bank place) (commandCoded s command bank place mask)
 
 unfoldable pub wordEncoded : List ℕ → ℕ → ℕ → ℕ → ℕ → WordAnswer
 wordEncoded settings command bank place mask = wordUnder (settingsRead settings) command bank place mask

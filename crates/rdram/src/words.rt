@@ -1,7 +1,7 @@
 // Packet words.
 ghost use mathlib.Core.Path.{_≡_};
 ghost use Prim.Native.Nat.{_<_};
-ghost use Rattle.rdram.specs.Words.{fieldsRight, rowCommand, colCommand, commandCoded, noWordAnswer, wordAnswer, wordEncoded, rowNumbers, colNumbers, noPacket, rowAnswer, colAnswer, packetAnswer, wordDecoded};
+ghost use Rattle.rdram.specs.Words.{fieldsRight, rowCommand, colCommand, commandCoded, noWordAnswer, whyNoWord, wordAnswer, wordEncoded, rowNumbers, colNumbers, noPacket, rowAnswer, colAnswer, packetAnswer, wordDecoded};
 use crate::PacketAnswer;
 use crate::WordAnswer;
 use packet::Coded;
@@ -91,11 +91,28 @@ fn no_word(r: Refusal) -> WordAnswer
     }
 }
 
-fn word_answer(c: Coded) -> WordAnswer
-    ensures { λ r. ⌜ r ≡ wordAnswer c ⌝ }
+// Why a command with these fields has no word.
+fn why_no_word(s: Settings, command: u32, bank: u32, place: u32) -> Refusal
+    ensures { λ r. ⌜ r ≡ whyNoWord s command bank place ⌝ }
+{
+    if 31 < bank {
+        return Refusal::Bank;
+    }
+    if num::both(command == 0, s.rows <= place) {
+        return Refusal::Row;
+    }
+    let column = num::either(command == 5, command == 6);
+    if num::both(column, s.columns <= place) {
+        return Refusal::Column;
+    }
+    Refusal::Word(0)
+}
+
+fn word_answer(why: Refusal, c: Coded) -> WordAnswer
+    ensures { λ r. ⌜ r ≡ wordAnswer why c ⌝ }
 {
     match c {
-        Coded::NoWord => no_word(Refusal::Word(0)),
+        Coded::NoWord => no_word(why),
         Coded::Word(w) => WordAnswer { number: 0, word: w },
     }
 }
@@ -113,7 +130,10 @@ pub extern "C" fn rdram_word_encode(
 {
     match settings::read::read_settings(settings) {
         SettingsRead::Refused => no_word(Refusal::Settings),
-        SettingsRead::Accepted(s) => word_answer(command_coded(s, command, bank, place, mask)),
+        SettingsRead::Accepted(s) => {
+            let why = why_no_word(s, command, bank, place);
+            word_answer(why, command_coded(s, command, bank, place, mask))
+        },
     }
 }
 

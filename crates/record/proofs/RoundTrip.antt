@@ -1,7 +1,7 @@
 -- The two round trips of records: what was written is read, and what is read is written as it stood.
 -- Assumes nothing.
-use Prim.Native.Nat.{ℕ, _^_, _<_, _≤_}
-use mathlib.Core.Path.{_≡_, refl, sym, _∙_, ap}
+use Prim.Native.Nat.{ℕ, _^_, _<_}
+use mathlib.Core.Path.{_≡_, refl, _∙_, ap}
 use mathlib.Core.Bool.{Bool, true, false, cond, _&&_, and-eq-true-iff}
 use mathlib.Core.List.{List}
 use native.Mathlib.Omega.{arith}
@@ -11,15 +11,13 @@ use lib.ListN.{length}
 use Rattle.num.specs.Bytes.{number, part, Bytes}
 use Rattle.settings.specs.declared.Settings.{Settings}
 use Rattle.settings.specs.Settings.{valid}
-use Rattle.settings.proofs.SettingsLaws.{Bounds, bounds}
-use Rattle.packet.specs.declared.RowPacket.{RowPacket}
-use Rattle.packet.specs.declared.ColPacket.{ColPacket}
+use Rattle.settings.proofs.SettingsLaws.{bounds}
 use Rattle.packet.specs.declared.RowDecoded.{RowDecoded}
 use Rattle.packet.specs.declared.RowDecoded.the-variants.{Row, NoRow}
 use Rattle.packet.specs.declared.ColDecoded.{ColDecoded}
 use Rattle.packet.specs.declared.ColDecoded.the-variants.{Col, NoCol}
-use Rattle.packet.specs.Row.{rowWord, rowFits, rowDecoded}
-use Rattle.packet.specs.Col.{colWord, colFits, colDecoded}
+use Rattle.packet.specs.Row.{rowWord, rowDecoded}
+use Rattle.packet.specs.Col.{colWord, colDecoded}
 use Rattle.packet.proofs.RowLaws.{row-decode-encode, row-encode-decode, row-range}
 use Rattle.packet.proofs.ColLaws.{col-decode-encode, col-encode-decode, col-range}
 use Rattle.record.specs.declared.Record.{Record}

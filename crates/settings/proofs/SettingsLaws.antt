@@ -1,24 +1,22 @@
 -- Laws of settings records: their length, what valid settings say, and both round trips.
 -- Assumes nothing.
 use Prim.Native.Nat.{ℕ, zero, suc, _+_, _-_, _*_, _<_, _≤_, _^_}
-use mathlib.Core.Path.{_≡_, refl, sym, _∙_, ap, ap₂}
+use mathlib.Core.Path.{_≡_, refl, sym, _∙_, ap}
 use mathlib.Core.Bool.{Bool, true, false, cond, _&&_, and-eq-true-iff}
 use mathlib.Core.List.{List, [], _∷_, _++_}
-use mathlib.Core.Logic.{_⊎_, inl, inr, ⊎-elim}
+use mathlib.Core.Logic.{_⊎_, ⊎-elim}
 use native.Mathlib.Nat.{add-zero, zero-add, eq-or-lt-of-le, le-of-suc-le-suc}
 use native.Mathlib.Numerals.{add-one}
 use native.Mathlib.Omega.{arith}
 use borrow.Author.Tests.{eqb-true, leb-true, ltb-true, eq-eqb}
 use lib.Dec.{eqb, leb, ltb}
-use lib.ListN.{length, take, drop, getD, length-append}
+use lib.ListN.{length, take, getD, length-append}
 use lib.Seq.{take-all, take-add}
 use Rattle.num.specs.Bytes.{bytes, number, part, Bytes}
-use Rattle.num.specs.Search.{allUpTo}
-use Rattle.num.proofs.ByteLaws.{length-bytes, number-bytes, bytes-number}
-use Rattle.num.proofs.PartLaws.{part-left, part-seam, length-part, Bytes-part}
+use Rattle.num.proofs.ByteLaws.{length-bytes, number-bytes}
+use Rattle.num.proofs.PartLaws.{part-left, part-seam, bytes-part}
 use Rattle.num.proofs.SearchLaws.{all-at}
 use Rattle.settings.specs.declared.Settings.{Settings}
-use Rattle.settings.specs.declared.SettingsRead.{SettingsRead}
 use Rattle.settings.specs.declared.SettingsRead.the-variants.{Refused, Accepted}
 use Rattle.settings.specs.Settings.{timings, lows, highs, between, timingsRight, valid, halves, halfBytes, settingsBytes, half, settingsIn, settingsRead}
 
@@ -141,8 +139,7 @@ pub bytes-of-half : (b h : List ℕ) (n : ℕ) → Bytes b → 2 * n ≤ length 
 unfolding halfBytes
 bytes-of-half b h zero w l e = refl
 bytes-of-half b h (suc n) w l e =
-    let p : length (part b (2 * n) 2) ≡ 2 = length-part b (2 * n) 2 (omega arith) in
-    let x : bytes 2 (half b n) ≡ part b (2 * n) 2 = ap (λ (k : ℕ). bytes k (half b n)) (sym p) ∙ bytes-number (part b (2 * n) 2) (Bytes-part b (2 * n) 2 w) in
+    let x : bytes 2 (half b n) ≡ part b (2 * n) 2 = bytes-part b (2 * n) 2 w (omega arith) in
     let d : 2 * suc n ≡ 2 * n + 2 = omega arith in
     rw (bytes-of-half b h n w (omega arith) (λ i m. e i (omega arith)), e n (omega arith), x, d) (sym (take-add (2 * n) 2 b))
 

@@ -15,11 +15,11 @@ static const char *meaning(uint32_t number)
 {
     switch (number) {
     case RDRAM_OK: return "accepted";
-    case RDRAM_SETTINGS: return "a figure of the settings is out of range";
-    case RDRAM_FULL: return "the buffer for the answer is too short";
-    case RDRAM_WORD: return "a packet, word or record has no coding under the settings";
-    case RDRAM_BLOCK: return "a block is damaged or out of order";
-    case RDRAM_LENGTH: return "the length is not one of whole records or blocks";
+    case RDRAM_REFUSED_SETTINGS: return "a figure of the settings is out of range";
+    case RDRAM_REFUSED_FULL: return "the buffer for the answer is too short";
+    case RDRAM_REFUSED_WORD: return "a packet, word or record has no coding under the settings";
+    case RDRAM_REFUSED_BLOCK: return "a block is damaged or out of order";
+    case RDRAM_REFUSED_LENGTH: return "the length is not one of whole records or blocks";
     default: return "unknown number";
     }
 }

@@ -142,8 +142,8 @@ impl Packet {
 
 /// The word of a packet: 24 bits for a ROW packet, 40 for a COL packet.
 ///
-/// Refused: [`Refusal::Settings`], then [`Refusal::Word`] for a bank above 31 and a row or column
-/// not below that of the settings.
+/// Refused: [`Refusal::Settings`], then [`Refusal::Bank`] for a bank above 31, and [`Refusal::Row`]
+/// or [`Refusal::Column`] for one not below that of the settings.
 ///
 /// ```
 /// # let settings = rdram::Settings {
@@ -154,7 +154,7 @@ impl Packet {
 /// assert_eq!(word_encode(&settings, Packet::Act { bank: 0, row: 0 }), Ok(0x401000));
 /// // The settings have two rows.
 /// let refused = word_encode(&settings, Packet::Act { bank: 0, row: 2 });
-/// assert_eq!(refused, Err(Refusal::Word { place: None }));
+/// assert_eq!(refused, Err(Refusal::Row));
 /// ```
 pub fn word_encode(settings: &Settings, packet: Packet) -> Result<u64, Refusal> {
     let s = settings.to_bytes();

@@ -8,6 +8,12 @@ use core::fmt;
 pub enum Refusal {
     /// 1: a figure of the settings is outside its range.
     Settings,
+    /// 4: a bank above 31.
+    Bank,
+    /// 5: a row that is not below the settings' rows.
+    Row,
+    /// 6: a column that is not below the settings' columns.
+    Column,
     /// 8: the buffer for the answer is too short.
     Full,
     /// 10: a packet, word or record has no coding under the settings. `place` is the first such
@@ -22,10 +28,13 @@ pub enum Refusal {
 }
 
 impl Refusal {
-    /// The number of the refusal in the table of `docs/01-scope.md`.
+    /// The number of the refusal in the table of document 01.
     pub fn number(&self) -> u32 {
         match *self {
             Refusal::Settings => 1,
+            Refusal::Bank => 4,
+            Refusal::Row => 5,
+            Refusal::Column => 6,
             Refusal::Full => 8,
             Refusal::Word { .. } => 10,
             Refusal::Block { .. } => 12,
@@ -47,6 +56,9 @@ impl Refusal {
     pub(crate) fn of_word(number: u32) -> Refusal {
         match number {
             1 => Refusal::Settings,
+            4 => Refusal::Bank,
+            5 => Refusal::Row,
+            6 => Refusal::Column,
             10 => Refusal::Word { place: None },
             number => Refusal::Other { number },
         }
@@ -72,12 +84,17 @@ impl fmt::Display for Refusal {
             Refusal::Settings => {
                 f.write_str("a figure of the settings is outside its range; correct the settings")
             }
+            Refusal::Bank => f.write_str("a bank is above 31; correct the bank"),
+            Refusal::Row => f.write_str("a row is not below the settings' rows; correct the row"),
+            Refusal::Column => {
+                f.write_str("a column is not below the settings' columns; correct the column")
+            }
             Refusal::Full => f.write_str(
                 "the buffer for the answer is too short; pass a longer one, or a shorter list",
             ),
             Refusal::Word { place: None } => f.write_str(
                 "the packet or word has no coding under these settings; \
-                 check its fields, the device number, rows and columns",
+                 check its fields and the device number",
             ),
             Refusal::Word { place: Some(place) } => write!(
                 f,

@@ -1,7 +1,7 @@
 use mathlib.Core.Path.{refl}
 -- `num::put_bytes` meets its contract: after j turns the first j bytes are copied.
 use mathlib.Core.Path.{_≡_, _∙_, ap}
-use Prim.Native.Nat.{_+_, _-_, _≤_}
+use Prim.Native.Nat.{_-_, _≤_}
 use native.Mathlib.Omega.{arith}
 use native.Mathlib.Numerals.{add-one}
 use lib.ListN.{length}

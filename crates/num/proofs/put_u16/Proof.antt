@@ -1,10 +1,9 @@
 -- `num::put_u16` meets its contract: two stores side by side are one splice.
 use Prim.Native.Nat.{_+_, _/_, _%_}
-use mathlib.Core.Path.{_≡_, _∙_}
 use mathlib.Core.List.{[], _∷_}
 use native.Mathlib.Omega.{arith}
-use lib.ListN.{length, set, length-set}
-use Rattle.num.specs.Bytes.{bytes, splice}
+use lib.ListN.{set, length-set}
+use Rattle.num.specs.Bytes.{bytes}
 use Rattle.num.proofs.SpliceLaws.{splice-one, splice-more}
 use mathlib.Core.Path.{refl}
 use borrow.Author.Needs.{needs}

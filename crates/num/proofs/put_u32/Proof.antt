@@ -1,5 +1,5 @@
 -- `num::put_u32` meets its contract: the low bytes and the further ones are two splices side by side.
-use Prim.Native.Nat.{_+_, _/_}
+use Prim.Native.Nat.{_/_}
 use native.Mathlib.Omega.{arith}
 use Rattle.num.specs.Bytes.{bytes}
 use Rattle.num.proofs.ByteLaws.{length-bytes, bytes-append}

@@ -90,6 +90,9 @@ fn typed_packet(p: Fields) -> Option<Packet> {
 fn word_refusal(r: Refused) -> Refusal {
     match r.number {
         1 => Refusal::Settings,
+        4 => Refusal::Bank,
+        5 => Refusal::Row,
+        6 => Refusal::Column,
         10 => Refusal::Word { place: None },
         number => panic!("no refusal {number} of a word call"),
     }

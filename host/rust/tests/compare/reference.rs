@@ -1,4 +1,4 @@
-//! Settings, words, records and logs as plain Rust, written from docs/01-scope.md alone.
+//! Settings, words, records and logs as plain Rust, written from document 01 alone.
 
 /// Number and place of a refusal; the place is 0 where none is named.
 #[derive(Clone, Copy, Debug, PartialEq, Eq)]
@@ -245,7 +245,14 @@ pub fn word_encode(settings: &[u8], p: Fields) -> Result<u64, Refused> {
     let Some(f) = figures(settings) else {
         return refused(1, 0);
     };
-    word(&f, p).map_or(refused(10, 0), Ok)
+    let place = u64::from(p.place);
+    let number = match p.command {
+        _ if p.bank > 31 => 4,
+        ACT if place >= f.rows => 5,
+        WR | RD if place >= f.columns => 6,
+        _ => 10,
+    };
+    word(&f, p).map_or(refused(number, 0), Ok)
 }
 
 pub fn word_decode(settings: &[u8], kind: u32, word: u64) -> Result<Fields, Refused> {

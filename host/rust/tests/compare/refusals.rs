@@ -3,8 +3,11 @@
 use rdram::{raw, Refusal};
 use std::mem::{align_of, offset_of, size_of};
 
-const ALL: [Refusal; 7] = [
+const ALL: [Refusal; 10] = [
     Refusal::Settings,
+    Refusal::Bank,
+    Refusal::Row,
+    Refusal::Column,
     Refusal::Full,
     Refusal::Word { place: None },
     Refusal::Word { place: Some(7) },
@@ -15,10 +18,10 @@ const ALL: [Refusal; 7] = [
 
 #[test]
 fn numbers_and_places() {
-    assert_eq!(ALL.map(|r| r.number()), [1, 8, 10, 10, 12, 13, 99]);
+    assert_eq!(ALL.map(|r| r.number()), [1, 4, 5, 6, 8, 10, 10, 12, 13, 99]);
     assert_eq!(
         ALL.map(|r| r.place()),
-        [None, None, None, Some(7), Some(3), None, None]
+        [None, None, None, None, None, None, Some(7), Some(3), None, None]
     );
 }
 

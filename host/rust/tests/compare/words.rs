@@ -70,7 +70,7 @@ fn fields_at_the_ends() {
             }
         }
     }
-    seen.report("words, fields at the ends", &[0, 10]);
+    seen.report("words, fields at the ends", &[0, 4, 5, 6, 10]);
 }
 
 #[test]
@@ -129,7 +129,7 @@ fn every_bank_row_and_column() {
             }
         }
     }
-    seen.report("words, every bank, row and column", &[0, 10]);
+    seen.report("words, every bank, row and column", &[0, 5, 6]);
 }
 
 #[test]

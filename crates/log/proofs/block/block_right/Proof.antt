@@ -3,7 +3,7 @@ use mathlib.Core.Bool.{true}
 use mathlib.Core.Path.{_≡_, sym, _∙_}
 use borrow.Author.Tests.{not-true, not-false}
 use Rattle.log.specs.Block.{blockRight, numberRight, countRight, zerosRight}
-use Rattle.log.proofs.ReadLaws.{count-below}
+use Rattle.log.proofs.OneBlock.{count-says}
 use borrow.Author.Needs.{needs}
 use Rattle.log.proofs.block.block_right.Statement.{statement}
 use Rattle.log.proofs.block.block_right.Tie as tie
@@ -33,7 +33,7 @@ unfolding blockRight
 returns-2 c = rw (number-passed (c .before .before), sym (c .before .count-right .ensures) ∙ not-true _ (c .if2 .taken))
 
 zeros-right-requires : tie.Need-zeros-right-requires
-zeros-right-requires c κs = let a = c .before .before .before .before .before .args in (search needs, count-below (a .last) (a .b .now) (count-passed c))
+zeros-right-requires c κs = let a = c .before .before .before .before .before .args in (search needs, count-says (a .last) (a .b .now) (count-passed c) .1)
 
 returns-3 : tie.Need-returns-3
 unfolding blockRight

@@ -1,8 +1,8 @@
 -- `decode` meets its contract: the list is written only where the answer is a count, and then every test was passed.
-use mathlib.Core.Path.{_∙_, sym, _≡_, ap}
+use mathlib.Core.Path.{_∙_, sym}
 use native.Mathlib.Omega.{arith}
-use Rattle.log.specs.Log.{decodeAnswer, decodeLog, copied}
-use Rattle.log.proofs.CopyLaws.{Decoded, decoded}
+use Rattle.log.specs.Log.{decodeLog, copied}
+use Rattle.log.proofs.CopyLaws.{decoded}
 use Rattle.log.proofs.ListThenLog.{list-whole}
 use borrow.Author.Needs.{needs}
 use Rattle.log.proofs.copy.decode.Statement.{statement}

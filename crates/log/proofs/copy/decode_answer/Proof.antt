@@ -1,5 +1,5 @@
 -- `decode_answer` meets its contract: the tests are the definition's, in their order.
-use mathlib.Core.Path.{_∙_, sym, _≡_, ap}
+use mathlib.Core.Path.{_≡_, _∙_, sym}
 use borrow.Author.Tests.{eq-eqb, ne-eqb, le-leb, lt-leb}
 use Rattle.log.specs.Log.{decodeAnswer}
 use borrow.Author.Needs.{needs}
@@ -10,51 +10,46 @@ returns : tie.Need-returns
 unfolding decodeAnswer
 returns c = rw (ne-eqb _ 0 (c .if1 .taken))
 
-first-bad-block-requires : tie.Need-first-bad-block-requires
-first-bad-block-requires c κs = search needs
+faults-requires : tie.Need-faults-requires
+faults-requires c κs = search needs
 
 returns-2 : tie.Need-returns-2
 unfolding decodeAnswer
 returns-2 c =
-    let e = c .before .first-bad-block .ensures in
-    rw (eq-eqb _ 0 (c .before .before .if1 .left), ne-eqb _ _ (λ z. c .if2 .taken (e ∙ z)), e)
+    let d = c .before .before in
+    let e = d .faults .ensures .0 in
+    rw (eq-eqb _ 0 (d .before .if1 .left), ne-eqb _ _ (λ z. c .if2 .taken (e ∙ z)), e)
 
 records-in-requires : tie.Need-records-in-requires
-records-in-requires c κs = sym (c .before .first-bad-block .ensures) ∙ c .if2 .left
-
-bad-in-log-requires : tie.Need-bad-in-log-requires
-bad-in-log-requires c κs = sym (c .before .before .first-bad-block .ensures) ∙ c .before .if2 .left
+records-in-requires c κs = sym (c .before .before .faults .ensures .0) ∙ c .if2 .left
 
 returns-3 : tie.Need-returns-3
 unfolding decodeAnswer
 returns-3 c =
-    let d = c .before .before .before in
-    let e = c .before .bad-in-log .ensures in
-    rw (eq-eqb _ 0 (d .before .before .if1 .left), eq-eqb _ _ (sym (d .before .first-bad-block .ensures) ∙ d .if2 .left), ne-eqb _ _ (λ z. c .if3 .taken (e ∙ z ∙ sym (c .before .before .records-in .ensures))), e)
+    let i = c .before .before .before in
+    let d = i .before .before in
+    let e = d .faults .ensures .1 (i .if2 .left) in
+    rw (eq-eqb _ 0 (d .before .if1 .left), eq-eqb _ _ (sym (d .faults .ensures .0) ∙ i .if2 .left), ne-eqb _ _ (λ z. c .if3 .taken (e ∙ z ∙ sym (c .before .before .records-in .ensures))), e)
 
 returns-4 : tie.Need-returns-4
 unfolding decodeAnswer
 returns-4 c =
-    let d = c .before .before .before .before in
+    let i = c .before .before .before .before in
+    let d = i .before .before in
+    let e = d .faults .ensures .1 (i .if2 .left) in
     let n = c .before .before .before .records-in .ensures in
-    rw (eq-eqb _ 0 (d .before .before .if1 .left), eq-eqb _ _ (sym (d .before .first-bad-block .ensures) ∙ d .if2 .left), eq-eqb _ _ (sym (c .before .before .bad-in-log .ensures) ∙ c .before .if3 .left ∙ n), ← n, le-leb _ _ (c .if4 .taken))
+    rw (eq-eqb _ 0 (d .before .if1 .left), eq-eqb _ _ (sym (d .faults .ensures .0) ∙ i .if2 .left), eq-eqb _ _ (sym e ∙ c .before .if3 .left ∙ n), ← n, le-leb _ _ (c .if4 .taken))
 
 returns-5 : tie.Need-returns-5
 unfolding decodeAnswer
 returns-5 c =
-    let d = c .before .before .before .before in
+    let i = c .before .before .before .before in
+    let d = i .before .before in
+    let e = d .faults .ensures .1 (i .if2 .left) in
     let n = c .before .before .before .records-in .ensures in
-    rw (eq-eqb _ 0 (d .before .before .if1 .left), eq-eqb _ _ (sym (d .before .first-bad-block .ensures) ∙ d .if2 .left), eq-eqb _ _ (sym (c .before .before .bad-in-log .ensures) ∙ c .before .if3 .left ∙ n), ← n, lt-leb _ _ (c .if4 .left))
+    rw (eq-eqb _ 0 (d .before .if1 .left), eq-eqb _ _ (sym (d .faults .ensures .0) ∙ i .if2 .left), eq-eqb _ _ (sym e ∙ c .before .if3 .left ∙ n), ← n, lt-leb _ _ (c .if4 .left))
 
 pub decode-answer-spec : {M : Type 1} → statement M
 decode-answer-spec =
     tie.close
-    (tie.spec
-    returns
-    first-bad-block-requires
-    returns-2
-    records-in-requires
-    bad-in-log-requires
-    returns-3
-    returns-4
-    returns-5)
+    (tie.spec returns faults-requires returns-2 records-in-requires returns-3 returns-4 returns-5)

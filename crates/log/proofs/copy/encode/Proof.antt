@@ -1,8 +1,7 @@
 -- `encode` meets its contract: the log is written only where the answer is a count, and then every test was passed.
-use mathlib.Core.Path.{_∙_, sym, _≡_, ap}
-use native.Mathlib.Omega.{arith}
-use Rattle.log.specs.Log.{encodeAnswer, encodeLog, copied}
-use Rattle.log.proofs.CopyLaws.{Encoded, encoded}
+use mathlib.Core.Path.{_∙_, sym}
+use Rattle.log.specs.Log.{encodeLog, copied}
+use Rattle.log.proofs.CopyLaws.{encoded}
 use borrow.Author.Needs.{needs}
 use Rattle.log.proofs.copy.encode.Statement.{statement}
 use Rattle.log.proofs.copy.encode.Tie as tie

@@ -1,9 +1,7 @@
 -- `encode_answer` meets its contract: the tests are the definition's, in their order.
-use mathlib.Core.Path.{_∙_, sym, _≡_, ap}
-use mathlib.Core.Bool.{true, false}
+use mathlib.Core.Path.{_∙_, sym}
 use borrow.Author.Tests.{eq-eqb, ne-eqb}
-use Rattle.log.specs.Log.{encodeAnswer, blocksFit}
-use Rattle.record.specs.Record.{firstBad, recordsIn}
+use Rattle.log.specs.Log.{encodeAnswer}
 use borrow.Author.Needs.{needs}
 use Rattle.log.proofs.copy.encode_answer.Statement.{statement}
 use Rattle.log.proofs.copy.encode_answer.Tie as tie

@@ -3,6 +3,7 @@ use mathlib.Core.Path.{_≡_}
 use Prim.Native.Nat.{_+_, _-_, _*_}
 use native.Mathlib.Omega.{arith}
 use Rattle.log.specs.Block.{used, blockAt}
+use Rattle.log.proofs.ListThenLog.{used-most}
 use Rattle.log.proofs.ReadLaws.{used-part}
 use borrow.Author.Needs.{needs}
 use Rattle.log.proofs.read.read_at.Statement.{statement}
@@ -11,8 +12,8 @@ use Rattle.log.proofs.read.read_at.Tie as tie
 mul-at : tie.Need-mul-at
 mul-at c = search needs
 
-used-at-requires : tie.Need-used-at-requires
-used-at-requires c κs = search needs
+used-of-requires : tie.Need-used-of-requires
+used-of-requires c κs = search needs
 
 mul-end : tie.Need-mul-end
 mul-end c = search needs
@@ -30,7 +31,9 @@ part-put-bytes-start : tie.Need-part-put-bytes-start
 part-put-bytes-start c = search needs
 
 part-put-bytes-end : tie.Need-part-put-bytes-end
-part-put-bytes-end c = search needs
+part-put-bytes-end c =
+    let s = c .before .before .before .before in
+    omega (arith, used-most (s .args .log .now) (s .pre .0 .1) (s .args .k) (s .pre .0 .0))
 
 put-bytes-requires : tie.Need-put-bytes-requires
 put-bytes-requires c κs = search needs
@@ -44,14 +47,14 @@ returns c =
     let log = s .args .log .now in
     let k = s .args .k in
     let e : 512 * k + 32 * used (blockAt log k) - 512 * k ≡ 32 * used (blockAt log k) = omega arith in
-    rw (c .before .before .before .before .before .used-at .ensures, e, used-part log k (omega arith)) at (c .before .before .put-bytes .ensures)
+    rw (c .before .before .before .before .before .used-of .ensures, e, used-part log k (used-most log (s .pre .0 .1) k (s .pre .0 .0))) at (c .before .before .put-bytes .ensures)
 
 pub read-at-spec : {M : Type 1} → statement M
 read-at-spec =
     tie.close
     (tie.spec
     mul-at
-    used-at-requires
+    used-of-requires
     mul-end
     add-end
     mul-put-bytes

@@ -6,7 +6,8 @@ use lib.ListN.{length}
 use Rattle.num.specs.Bytes.{splice}
 use Rattle.num.proofs.SpliceLaws.{splice-none}
 use Rattle.log.specs.Block.{blocksIn, listUpTo, listOf}
-use Rattle.log.proofs.ReadLaws.{used-below, next-length, list-within, list-turn, list-held}
+use Rattle.log.proofs.ListThenLog.{length-next}
+use Rattle.log.proofs.ReadLaws.{list-within, list-turn, list-held}
 use borrow.Author.Needs.{needs}
 use Rattle.log.proofs.read.read_list.Statement.{statement}
 use Rattle.log.proofs.read.read_list.Tie as tie
@@ -34,10 +35,9 @@ read-at-requires c κs =
     let k = l .loop .k in
     let e = l .before .before .before .pre .0 in
     let h = held l in
-    let u = used-below log e k (omega arith) in
-    let n = next-length log e k (omega arith) in
+    let n = length-next log e k (omega arith) in
     let w = list-within log (k + 1) (omega arith) in
-    ((omega arith, u), omega arith)
+    ((omega arith, e), omega arith)
 
 add-k : tie.Need-add-k Inv-loop μ-loop
 add-k c = search needs

@@ -1,14 +1,19 @@
 -- `log::read::records_in` meets its contract: every block but the last uses 15 records.
 use Prim.Native.Nat.{_-_}
+use mathlib.Core.Path.{_≡_, ap}
 use native.Mathlib.Omega.{arith}
-use Rattle.log.specs.Block.{blocksIn}
-use Rattle.log.proofs.ReadLaws.{used-below, length-list, length-none}
+use lib.ListN.{length}
+use Rattle.log.specs.Block.{blocksIn, listOf}
+use Rattle.log.proofs.ListThenLog.{used-most, length-list, list-none}
 use borrow.Author.Needs.{needs}
 use Rattle.log.proofs.read.records_in.Statement.{statement}
 use Rattle.log.proofs.read.records_in.Tie as tie
 
 returns : tie.Need-returns
-returns c = omega (arith, length-none (c .before .before .args .log .now) (omega arith))
+returns c =
+    let log = c .before .before .args .log .now in
+    let e : length (listOf log) ≡ 0 = ap length (list-none log (omega arith)) in
+    omega arith
 
 sub-last : tie.Need-sub-last
 sub-last c = search needs
@@ -23,7 +28,7 @@ add-result : tie.Need-add-result
 add-result c =
     let s = c .before .before .before in
     let log = s .args .log .now in
-    omega (arith, used-below log (s .pre) (blocksIn log - 1) (omega arith))
+    omega (arith, used-most log (s .pre) (blocksIn log - 1) (omega arith))
 
 returns-2 : tie.Need-returns-2
 returns-2 c =

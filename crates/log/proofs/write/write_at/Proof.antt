@@ -3,8 +3,9 @@ use mathlib.Core.Path.{_∙_}
 use Prim.Native.Nat.{_+_, _-_, _*_}
 use native.Mathlib.Omega.{arith}
 use Rattle.num.specs.Bytes.{part}
+use Rattle.num.proofs.PartLaws.{length-part-le}
 use Rattle.log.specs.Block.{block}
-use Rattle.log.proofs.BlockLaws.{length-block, part-short}
+use Rattle.log.proofs.BlockLaws.{length-block}
 use Rattle.log.proofs.WriteLaws.{part-back, part-within}
 use borrow.Author.Needs.{needs}
 use Rattle.log.proofs.write.write_at.Statement.{statement}
@@ -59,7 +60,7 @@ returns c =
     let l = s .args .list .now in
     let recs = part l (480 * k) 480 in
     let e = rw (c .before .before .before .before .before .lesser .ensures, part-within l (480 * k) 480) at (c .before .before .write-block .ensures) in
-    rw e (part-back (s .args .log .now) (512 * k) (512 * k + 512 - 512 * k) (block k recs) (length-block k recs (part-short l (480 * k) 480) ∙ omega arith))
+    rw e (part-back (s .args .log .now) (512 * k) (512 * k + 512 - 512 * k) (block k recs) (length-block k recs (length-part-le l (480 * k) 480) ∙ omega arith))
 
 pub write-at-spec : {M : Type 1} → statement M
 write-at-spec =

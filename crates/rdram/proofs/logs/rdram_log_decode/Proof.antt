@@ -1,6 +1,6 @@
 -- `rdram_log_decode` meets its contract: each arm is a case of the definition.
-use mathlib.Core.Path.{_∙_, sym, ap}
-use Rattle.rdram.specs.Logs.{copyAnswer, logDecodeAnswer, logDecoded, decodeUnder, decodedUnder}
+use mathlib.Core.Path.{_∙_, sym}
+use Rattle.rdram.specs.Logs.{logDecodeAnswer, logDecoded, decodeUnder, decodedUnder}
 use borrow.Author.Needs.{needs}
 use Rattle.rdram.proofs.logs.rdram_log_decode.Statement.{statement}
 use Rattle.rdram.proofs.logs.rdram_log_decode.Tie as tie

@@ -1,6 +1,6 @@
 -- `rdram_log_encode` meets its contract: each arm is a case of the definition.
-use mathlib.Core.Path.{_∙_, sym, ap}
-use Rattle.rdram.specs.Logs.{copyAnswer, logEncodeAnswer, logEncoded, encodeUnder, encodedUnder}
+use mathlib.Core.Path.{_∙_, sym}
+use Rattle.rdram.specs.Logs.{logEncodeAnswer, logEncoded, encodeUnder, encodedUnder}
 use borrow.Author.Needs.{needs}
 use Rattle.rdram.proofs.logs.rdram_log_encode.Statement.{statement}
 use Rattle.rdram.proofs.logs.rdram_log_encode.Tie as tie

@@ -1,6 +1,6 @@
 -- `command_coded` meets its contract: the tests are the definition's, in their order.
 use mathlib.Core.Path.{_∙_, sym}
-use borrow.Author.Tests.{eq-eqb, ne-eqb, le-leb, lt-leb}
+use borrow.Author.Tests.{le-leb, lt-leb}
 use Rattle.rdram.specs.Words.{commandCoded}
 use borrow.Author.Needs.{needs}
 use Rattle.rdram.proofs.words.command_coded.Statement.{statement}

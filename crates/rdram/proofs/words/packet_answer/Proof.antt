@@ -1,5 +1,5 @@
 -- `packet_answer` meets its contract: the tests are the definition's, in their order.
-use borrow.Author.Tests.{eq-eqb, ne-eqb, le-leb, lt-leb}
+use borrow.Author.Tests.{eq-eqb, ne-eqb}
 use Rattle.rdram.specs.Words.{packetAnswer}
 use borrow.Author.Needs.{needs}
 use Rattle.rdram.proofs.words.packet_answer.Statement.{statement}

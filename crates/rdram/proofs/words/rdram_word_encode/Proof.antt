@@ -19,9 +19,12 @@ no-word-requires c κs = search needs
 enum-known-s : tie.Need-enum-known-s
 enum-known-s c = search needs
 
+why-no-word-requires : tie.Need-why-no-word-requires
+why-no-word-requires c κs = search needs
+
 command-coded-requires : tie.Need-command-coded-requires
 command-coded-requires c κs =
-    let e = sym (c .before .before .before .read-settings .ensures) ∙ c .before .s .given .1 in
+    let e = sym (c .before .before .before .before .read-settings .ensures) ∙ c .before .before .s .given .1 in
     let b = bounds _ (accepted-valid _ _ e) in
     omega arith
 
@@ -34,7 +37,9 @@ returns c = rw (sym (c .before .before .before .read-settings .ensures) ∙ c .b
 
 returns-2 : tie.Need-returns-2
 unfolding wordEncoded wordUnder
-returns-2 c = rw (sym (c .before .before .before .before .before .read-settings .ensures) ∙ c .before .before .before .s .given .1, ← c .before .command-coded .ensures) (c .word-answer .ensures)
+returns-2 c =
+    let d = c .before .before in
+    rw (sym (d .before .before .before .before .read-settings .ensures) ∙ d .before .before .s .given .1, ← c .before .command-coded .ensures, ← d .why-no-word .ensures) (c .word-answer .ensures)
 
 pub rdram-word-encode-spec : {M : Type 1} → statement M
 rdram-word-encode-spec =
@@ -44,6 +49,7 @@ rdram-word-encode-spec =
     enum-told
     no-word-requires
     enum-known-s
+    why-no-word-requires
     command-coded-requires
     word-answer-requires
     returns

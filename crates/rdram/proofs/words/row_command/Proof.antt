@@ -1,7 +1,6 @@
 -- `row_command` meets its contract: the tests are the definition's, in their order.
-use borrow.Author.Tests.{eq-eqb, ne-eqb, le-leb, lt-leb}
+use borrow.Author.Tests.{eq-eqb, ne-eqb}
 use Rattle.rdram.specs.Words.{rowCommand}
-use borrow.Author.Needs.{needs}
 use Rattle.rdram.proofs.words.row_command.Statement.{statement}
 use Rattle.rdram.proofs.words.row_command.Tie as tie
 

@@ -1,10 +1,9 @@
 -- `first_bad` meets its contract: every record passed so far is well formed.
-use mathlib.Core.Path.{_≡_, refl, _∙_, sym}
+use mathlib.Core.Path.{_≡_, _∙_, sym}
 use mathlib.Core.Bool.{true}
-use Prim.Native.Nat.{ℕ, _*_, _/_, _-_, _<_, _≤_}
+use Prim.Native.Nat.{ℕ, _-_, _<_, _≤_}
 use native.Mathlib.Omega.{arith}
 use borrow.Author.Count.{below-more}
-use lib.ListN.{length}
 use Rattle.num.proofs.SearchLaws.{first-at, first-none}
 use Rattle.record.specs.Record.{wellFormed, firstBad, recordAt}
 use borrow.Author.Needs.{needs}

@@ -1,8 +1,5 @@
 -- `put_fields` meets its contract: five numbers put side by side are the fields of a record.
-use mathlib.Core.Path.{_≡_, _∙_, sym, ap}
-use Prim.Native.Nat.{ℕ, _+_}
 use native.Mathlib.Omega.{arith}
-use Rattle.num.specs.Bytes.{bytes, splice}
 use Rattle.record.proofs.RecordLaws.{fields-put}
 use borrow.Author.Needs.{needs}
 use Rattle.record.proofs.records.put_fields.Statement.{statement}

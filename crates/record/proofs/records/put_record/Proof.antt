@@ -1,5 +1,4 @@
 -- `put_record` meets its contract: each arm puts the fields that the definition has for it.
-use mathlib.Core.Path.{_∙_}
 use Rattle.record.specs.Record.{recordBytes}
 use borrow.Author.Needs.{needs}
 use Rattle.record.proofs.records.put_record.Statement.{statement}

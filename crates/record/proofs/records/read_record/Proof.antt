@@ -1,10 +1,9 @@
 -- `read_record` meets its contract: the fields are those of the 32 bytes from the place on.
-use mathlib.Core.Path.{_≡_, _∙_, sym}
-use Prim.Native.Nat.{_+_, _/_, _%_}
+use mathlib.Core.Path.{_∙_, sym}
+use Prim.Native.Nat.{_+_}
 use native.Mathlib.Omega.{arith}
 use borrow.Author.Tests.{eq-eqb, ne-eqb}
-use Rattle.num.specs.Bytes.{number, part}
-use Rattle.record.specs.Record.{recordRead, recordOf}
+use Rattle.record.specs.Record.{recordRead}
 use Rattle.record.proofs.RecordLaws.{field-in, head-in}
 use native.Mathlib.Nat.{add-zero}
 use borrow.Author.Needs.{needs}

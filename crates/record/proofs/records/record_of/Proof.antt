@@ -1,7 +1,6 @@
 -- `record_of` meets its contract: the tests are the definition's, in their order.
-use mathlib.Core.Path.{_∙_, ap}
 use borrow.Author.Tests.{eq-eqb, ne-eqb}
-use Rattle.record.specs.Record.{recordOf, rowRecord, colRecord}
+use Rattle.record.specs.Record.{recordOf}
 use borrow.Author.Needs.{needs}
 use Rattle.record.proofs.records.record_of.Statement.{statement}
 use Rattle.record.proofs.records.record_of.Tie as tie

@@ -1,5 +1,5 @@
 -- `Settings::valid` meets its contract: the tests are the definition's.
-use Rattle.settings.specs.Settings.{valid, timingsRight}
+use Rattle.settings.specs.Settings.{valid}
 use borrow.Author.Needs.{needs}
 use Rattle.settings.proofs.Settings.valid.Statement.{statement}
 use Rattle.settings.proofs.Settings.valid.Tie as tie

@@ -1,9 +1,8 @@
 -- `settings::arrival_after` meets its contract: the sum is that of the naturals, and the test is the definition's.
 use native.Mathlib.Omega.{arith}
 use borrow.Author.Tests.{le-leb, lt-leb}
-use Rattle.settings.specs.Instants.{arrival, horizon}
+use Rattle.settings.specs.Instants.{arrival}
 use Prim.Native.Nat.{_+_, _≤_, _<_}
-use mathlib.Core.Path.{_≡_, ap}
 use borrow.Author.Needs.{needs}
 use Rattle.settings.proofs.instants.arrival_after.Statement.{statement}
 use Rattle.settings.proofs.instants.arrival_after.Tie as tie
