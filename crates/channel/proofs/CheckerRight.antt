@@ -1,8 +1,8 @@
 -- The checker is right: on every list of records that fit, it finds the first record that breaks a rule, and its lowest one.
 -- Assumes nothing.
 use Prim.Native.Nat.{ℕ, zero, suc, _+_, _≤_, _<_}
-use mathlib.Core.Path.{_≡_, refl, sym, ap, _∙_}
-use mathlib.Core.Bool.{Bool, true, false, _&&_}
+use mathlib.Core.Path.{_≡_, sym, ap, _∙_}
+use mathlib.Core.Bool.{Bool, true, _&&_}
 use mathlib.Core.List.{List, _∷_}
 use lib.Dec.{eqb, leb}
 use lib.ListN.{length}
@@ -22,16 +22,11 @@ use Rattle.channel.specs.Broken.{earlier, recordOf, lowest, lowestRule, 
 use Rattle.channel.specs.Channel.{after}
 use Rattle.channel.specs.Checks.{bound1, checks, judged, channelAfter, foundAt, firstFound}
 use Rattle.channel.proofs.Bools.{and-left, and-right}
+use Rattle.channel.proofs.BrokenLaws.{lowest-none}
 use Rattle.channel.proofs.ListLaws.{earlier-next}
 use Rattle.channel.proofs.HistoryLaws.{newest}
 use Rattle.channel.proofs.Tracks.{Tracks, tracks-fresh, tracks-step}
 use Rattle.channel.proofs.RulesAreChecks.{rules-are-checks}
-
--- where no test fails, the first passes
-lowest-first : (n : ℕ) (b : Bool) (l : List Bool) → lowest (suc n) (b ∷ l) ≡ 0 → b ≡ true
-unfolding lowest
-lowest-first n true l e = refl
-lowest-first n false l e = absurd (omega arith)
 
 module _ (s : Settings) (nbr : Relation) (ns : Neighbours nbr) where
   -- of one record, the rule that is found is the rule that it breaks
@@ -44,9 +39,10 @@ module _ (s : Settings) (nbr : Relation) (ns : Neighbours nbr) where
       → isPacket r ≡ true → (4 ≤ instant r) × (newest (events nbr es) ≤ instant r)
   unfolding judged checks
   in-time ch es k r e p =
-      let one : ((isInstant (instant r) && leb (instant r + dataDelay s r) horizon) && leb (bound1 s nbr ch r) (instant r)) ≡ true = lowest-first 0 _ _ (judged-right ch es k r ∙ e) in
-      let range = and-left (isInstant (instant r)) _ (and-left (isInstant (instant r) && leb (instant r + dataDelay s r) horizon) _ one) in
-      let order : leb (ch .last .0) (instant r) ≡ true = rw p at (and-right (isInstant (instant r) && leb (instant r + dataDelay s r) horizon) _ one) in
+      let within : Bool = isInstant (instant r) && leb (instant r + dataDelay s r) horizon in
+      let one : within && leb (bound1 s nbr ch r) (instant r) ≡ true = lowest-none 0 (checks s nbr ch r) (judged-right ch es k r ∙ e) 0 in
+      let range = and-left (isInstant (instant r)) _ (and-left within _ one) in
+      let order : leb (ch .last .0) (instant r) ≡ true = rw p at (and-right within _ one) in
       let last : ch .last .0 ≡ newest (events nbr es) = k .lasts .last in
       (leb-true 4 (instant r) (and-left (leb 4 (instant r)) _ range), omega (arith, leb-true (ch .last .0) (instant r) order))
 

@@ -32,11 +32,11 @@ abbrev pub every : List Bool → Bool
 every [] = true
 every (b ∷ l) = b && every l
 
-pub lowest-none : (n : ℕ) (l : List Bool) → eqb (lowest (suc n) l) 0 ≡ every l
+pub lowest-every : (n : ℕ) (l : List Bool) → eqb (lowest (suc n) l) 0 ≡ every l
 unfolding lowest
-lowest-none n [] = refl
-lowest-none n (true ∷ l) = lowest-none (suc n) l
-lowest-none n (false ∷ l) = ne-eqb (suc n) 0 (λ q. omega arith)
+lowest-every n [] = refl
+lowest-every n (true ∷ l) = lowest-every (suc n) l
+lowest-every n (false ∷ l) = ne-eqb (suc n) 0 (λ q. omega arith)
 
 and-left-comm : (a b c : Bool) → a && (b && c) ≡ b && (a && c)
 and-left-comm true true c = refl
@@ -81,7 +81,7 @@ module _ (s : Settings) (nbr : Relation) (ch : Channel) where
   checks-split r =
       let t : ℕ = instant r in
       let w : Option Write = waitingOf (ch .buffer) in
-      lowest-none 0 (checks s nbr ch r)
+      lowest-every 0 (checks s nbr ch r)
       ∙ rw (in-range t (dataDelay s r), write-bound (traits r .notRead) w (s .rtr) t)
       (shuffle (leb 4 t) (leb (t + dataDelay s r) horizon) (leb (bound1 s nbr ch r) t) (leb (bound2 s nbr ch r) t) (leb (bound3 s nbr ch r) t)
       (freeFor nbr (stateOf ch) (traits r .opens)) (leb (bound5 s nbr ch r) t) (leb (bound6 s nbr ch r) t) (leb (bound7 s nbr ch r) t) (leb (bound8 s nbr ch r) t)

@@ -31,7 +31,7 @@ module _ (s : Settings) (nbr : Relation) (ch : Channel) (r : Record) where
   abbrev pub bound12 : ℕ
   bound12 = boundIf (traits r .notRead) (afterWrite (waitingOf (ch .buffer)) (s .rtr))
 
-  -- the tests that no instant alters: rules 4, 9, 14, 15 and 16
+  -- the tests that the instant of a packet does not alter: rules 4, 9, 14, 15 and 16
   unfoldable pub fits : Bool
   fits =
       freeFor nbr (stateOf ch) (traits r .opens)
