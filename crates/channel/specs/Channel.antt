@@ -82,7 +82,7 @@ trackNext nbr ch r x k =
       act = cond (inBank (traits r .acts) x) t (k .act);
       pre = cond (inBank (traits r .precharges) x || closes nbr (stateOf ch) r x) t (k .pre);
       rd = cond (inBank (traits r .reads) x) t (k .rd);
-      retire = cond (inBank (retiredBy (waitingOf (ch .buffer)) r) x) t (k .retire)
+      retire = cond (inBank (retiredBy (waitingOf (ch .buffer)) r) x) t (k .retire);
     }
 
 -- data that were due have come, or another record stands in their place
@@ -111,13 +111,19 @@ afterPacket nbr ch r =
       col = cond (traits r .col) t (ch .col);
       pre = cond (has (traits r .precharges)) t (ch .pre);
       rd = cond (has (traits r .reads)) t (ch .rd);
-      buffer = bufferNext r (ch .buffer)
+      buffer = bufferNext r (ch .buffer);
     }
 
 unfoldable pub afterData : Channel → Channel
 afterData ch =
     record {
-      banks = ch .banks; last = ch .last; row = ch .row; col = ch .col; pre = ch .pre; rd = ch .rd; buffer = settled (ch .buffer)
+      banks = ch .banks;
+      last = ch .last;
+      row = ch .row;
+      col = ch .col;
+      pre = ch .pre;
+      rd = ch .rd;
+      buffer = settled (ch .buffer);
     }
 
 -- the state after a record

@@ -91,7 +91,7 @@ module _ (s : Settings) (nbr : Relation) (ch : Channel) (r : Record) where
       ∷ leb bound8 (instant r)
       ∷ (openFor (stateOf ch) (traits r .reads) && (openFor (stateOf ch) (traits r .writes) && openFor (stateOf ch) (retiredBy (waitingOf (ch .buffer)) r)))
       ∷ (leb (bound10 (traits r .reads) (s .rcd)) (instant r)
-        && (leb (bound10 (retiredBy (waitingOf (ch .buffer)) r) (s .rcd)) (instant r) && leb (bound10 (traits r .writes) (s .rcd - s .rtr)) (instant r)))
+      && (leb (bound10 (retiredBy (waitingOf (ch .buffer)) r) (s .rcd)) (instant r) && leb (bound10 (traits r .writes) (s .rcd - s .rtr)) (instant r)))
       ∷ leb bound11 (instant r)
       ∷ (not (traits r .notRead) || fromWrite (waitingOf (ch .buffer)) (s .rtr) (instant r))
       ∷ (leb bound13Read (instant r) && leb bound13Retire (instant r))
