@@ -1,6 +1,7 @@
 // The channel: what a planner, a checker and a device model keep of the packets so far (document 01, "Banks", "Write buffer").
 pub mod beside;
 pub mod bounds;
+pub mod tests;
 pub mod views;
 
 use settings::PacketAt;

@@ -5,6 +5,7 @@ ghost use Rattle.channel.specs.Packets.{carries};
 ghost use Rattle.channel.specs.History.{isClosed, isOpen};
 ghost use Rattle.channel.specs.View.{nothing, rowView, colView, viewOf, heldOf};
 use crate::Bank;
+use crate::BankTrack;
 use crate::Buffer;
 use crate::Held;
 use crate::View;
@@ -138,9 +139,10 @@ pub fn held_of(b: Buffer) -> Held
     }
 }
 
-pub fn is_closed(b: Bank) -> bool
-    ensures { λ r. ⌜ r ≡ isClosed b ⌝ }
+pub fn is_closed(t: BankTrack) -> bool
+    ensures { λ r. ⌜ r ≡ isClosed (t .bank) ⌝ }
 {
+    let b = t.bank;
     match b {
         Bank::Closed => true,
         Bank::Open(_) => false,
@@ -148,9 +150,10 @@ pub fn is_closed(b: Bank) -> bool
     }
 }
 
-pub fn is_open(b: Bank) -> bool
-    ensures { λ r. ⌜ r ≡ isOpen b ⌝ }
+pub fn is_open(t: BankTrack) -> bool
+    ensures { λ r. ⌜ r ≡ isOpen (t .bank) ⌝ }
 {
+    let b = t.bank;
     match b {
         Bank::Closed => false,
         Bank::Open(_) => true,
