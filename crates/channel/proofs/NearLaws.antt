@@ -125,6 +125,7 @@ module _ (pick : ℕ → Bool) (g : ℕ) (last : ℕ → ℕ) where
     where
       in-range : y < 32 → since (last y) g ≤ maxUpTo asked 32
       in-range h = rw (p h) at (max-above asked 32 y h)
+
       go : (t : Bool) → ltb y 32 ≡ t → since (last y) g ≤ maxUpTo asked 32
       go true e = in-range (ltb-true y 32 e)
       go false e = rw (z (ltb-false y 32 e)) (omega arith)
@@ -144,10 +145,12 @@ module _ (g b : ℕ) (last : ℕ → ℕ) (none-past : (x : ℕ) → 32 ≤ x �
     where
       u : ℕ
       u = three (last b) (last (lowOf b)) (last (highOf b)) g
+
       upper : (k : ℕ) → Beside b k → since (last k) g ≤ three (last b) (last (lowOf b)) (last (highOf b)) g
       upper k (own e) = rw e (omega arith)
       upper k (low e) = rw e (omega arith)
       upper k (high e) = rw e (omega arith)
+
       lower : three (last b) (last (lowOf b)) (last (highOf b)) g ≤ maxUpTo (λ x. asks (gapNear split g b x) (last x)) 32
       lower =
           let o = asks-hit (near split b) g last b (λ h. near-own b) (none-past b) in
@@ -171,6 +174,7 @@ module _ (b : ℕ) (p : ℕ → Bool) (past : (x : ℕ) → 32 ≤ x → p x ≡
     where
       in-range : y < 32 → p y ≡ true
       in-range h = rw (n h) at (all-at tested 32 y e h)
+
       go : (t : Bool) → ltb y 32 ≡ t → p y ≡ true
       go true q = in-range (ltb-true y 32 q)
       go false q = past y (ltb-false y 32 q)
@@ -180,12 +184,15 @@ module _ (b : ℕ) (p : ℕ → Bool) (past : (x : ℕ) → 32 ≤ x → p x ≡
     where
       three-pass : allUpTo tested 32 ≡ true → (p b && (p (lowOf b) && p (highOf b))) ≡ true
       three-pass e = rw (passes b (λ h. near-own b) e, passes (lowOf b) (near-low b) e, passes (highOf b) (near-high b) e)
+
       at-bank : (p b && (p (lowOf b) && p (highOf b))) ≡ true → (k : ℕ) → Beside b k → p k ≡ true
       at-bank e k (own q) = rw q (and-eq-true-iff (p b) (p (lowOf b) && p (highOf b)) .0 e .0)
       at-bank e k (low q) = rw q (and-eq-true-iff (p (lowOf b)) (p (highOf b)) .0 (and-eq-true-iff (p b) (p (lowOf b) && p (highOf b)) .0 e .1) .0)
       at-bank e k (high q) = rw q (and-eq-true-iff (p (lowOf b)) (p (highOf b)) .0 (and-eq-true-iff (p b) (p (lowOf b) && p (highOf b)) .0 e .1) .1)
+
       test-at : (p b && (p (lowOf b) && p (highOf b))) ≡ true → (k : ℕ) → (t : Bool) → near split b k ≡ t → (not (near split b k) || p k) ≡ true
       test-at e k true q = rw q (at-bank e k (near-beside b k q))
       test-at e k false q = rw q
+
       all-pass : (p b && (p (lowOf b) && p (highOf b))) ≡ true → allUpTo tested 32 ≡ true
       all-pass e = all-intro tested 32 (λ k l. test-at e k (near split b k) refl)

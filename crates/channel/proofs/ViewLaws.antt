@@ -24,9 +24,15 @@ use Rattle.channel.specs.Tests.{delayOf}
 abbrev pub traitsOf : View → Traits
 traitsOf v =
     record {
-      opens = only (v .opens) (some (v .bank)); acts = only (v .acts) (some (v .bank)); precharges = only (v .precharges) (some (v .bank));
-      reads = only (v .reads) (some (v .bank)); writes = only (v .writes) (some (v .bank)); row = v .row; col = v .col; notRead = v .retires;
-      masked = v .masked
+      opens = only (v .opens) (some (v .bank));
+      acts = only (v .acts) (some (v .bank));
+      precharges = only (v .precharges) (some (v .bank));
+      reads = only (v .reads) (some (v .bank));
+      writes = only (v .writes) (some (v .bank));
+      row = v .row;
+      col = v .col;
+      notRead = v .retires;
+      masked = v .masked;
     }
 
 pub view-traits : (r : Record) → traits r ≡ traitsOf (viewOf r)

@@ -13,15 +13,20 @@ use Rattle.channel.specs.declared.Channel.{Channel}
 use Rattle.channel.specs.declared.View.{View}
 use Rattle.channel.specs.declared.Held.{Held}
 use Rattle.channel.specs.declared.Tracks.{Tracks}
+use Rattle.channel.specs.declared.Lasts.{Lasts}
 use Rattle.channel.specs.Neighbour.{near, split}
 use Rattle.channel.specs.History.{isClosed, isOpen}
 use Rattle.channel.specs.Channel.{idle}
 use Rattle.channel.specs.Checks.{since, maxUpTo, boundIf}
-use Rattle.channel.specs.View.{lowOf, highOf, three}
+use Rattle.channel.specs.View.{lowOf, highOf, heldAt, three}
 
 -- the tracks that a packet concerns
 abbrev pub tracksOf : List BankTrack → ℕ → ℕ → Tracks
 tracksOf l b w = record { own = getD l b idle; low = getD l (lowOf b) idle; high = getD l (highOf b) idle; held = getD l w idle }
+
+-- the same from what stands at the indices of these banks
+abbrev pub aroundOf : ℕ → ℕ → BankTrack → BankTrack → BankTrack → BankTrack → Tracks
+aroundOf b w own low high held = record { own = heldAt b own; low = heldAt (lowOf b) low; high = heldAt (highOf b) high; held = heldAt w held }
 
 -- what bank x asks of an ACT to bank b by rule 5, and what all banks ask
 abbrev pub actTerm : Settings → List BankTrack → ℕ → ℕ → ℕ
@@ -112,3 +117,12 @@ colRules s v h k rd rest =
 
 unfoldable pub bufferRules : Settings → View → Held → Tracks → ℕ
 bufferRules s v h k = cond (test14 v h k) (cond (test15 s v h) (cond (test16 v h) 0 16) 15) 14
+
+-- the last instants of a channel
+abbrev pub lastsOf : Channel → Lasts
+lastsOf ch = record { last = ch .last .0; row = ch .row .0; col = ch .col .0; pre = ch .pre .0; rd = ch .rd .0 }
+
+-- the lowest of the sixteen, or 0
+unfoldable pub found : Settings → View → Held → Tracks → ℕ → Lasts → ℕ
+found s v h k act l =
+    pinRules s v (l .last) (l .row) (l .col) (rowRules s v k act (l .pre) (colRules s v h k (l .rd) (bufferRules s v h k)))

@@ -1,6 +1,7 @@
 // The channel: what a planner, a checker and a device model keep of the packets so far (document 01, "Banks", "Write buffer").
 pub mod beside;
 pub mod bounds;
+pub mod judging;
 pub mod tests;
 pub mod views;
 
@@ -84,4 +85,13 @@ pub struct Tracks {
     pub low: BankTrack,
     pub high: BankTrack,
     pub held: BankTrack,
+}
+
+// The last instants of the whole channel.
+pub struct Lasts {
+    pub last: u32,
+    pub row: u32,
+    pub col: u32,
+    pub pre: u32,
+    pub rd: u32,
 }
