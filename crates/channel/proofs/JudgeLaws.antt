@@ -180,7 +180,7 @@ module _ (s : Settings) (ch : Channel) (r : Record) (e : length (ch .banks) ≡ 
   is9 : (openFor (stateOf ch) (traits r .reads) && (openFor (stateOf ch) (traits r .writes) && openFor (stateOf ch) (retiredBy (waitingOf (ch .buffer)) r)))
       ≡ test9 (viewOf r) (heldOf (ch .buffer)) (tracksAt ch r)
   unfolding test9
-  is9 = 
+  is9 =
       ap₂ _&&_ (open-of (view .reads) (view .bank) (traits r .reads) reads-of)
       (ap₂ _&&_ (open-of (view .writes) (view .bank) (traits r .writes) writes-of) (open-of (retired view held) (held .bank) (retiredBy (waitingOf (ch .buffer)) r) retired-of))
 
@@ -189,7 +189,7 @@ module _ (s : Settings) (ch : Channel) (r : Record) (e : length (ch .banks) ≡ 
       && leb (bound10 s split ch r (traits r .writes) (s .rcd - s .rtr)) (instant r)))
       ≡ test10 s (viewOf r) (heldOf (ch .buffer)) (tracksAt ch r)
   unfolding test10
-  is10 = 
+  is10 =
       ap₂ _&&_ (same-of (view .reads) (view .bank) (traits r .reads) reads-of (s .rcd))
       (ap₂ _&&_ (same-of (retired view held) (held .bank) (retiredBy (waitingOf (ch .buffer)) r) retired-of (s .rcd))
       (same-of (view .writes) (view .bank) (traits r .writes) writes-of (s .rcd - s .rtr)))
@@ -204,13 +204,13 @@ module _ (s : Settings) (ch : Channel) (r : Record) (e : length (ch .banks) ≡ 
 
   is13 : (leb (bound13Read s split ch r) (instant r) && leb (bound13Retire s split ch r) (instant r)) ≡ test13 s (viewOf r) (tracksAt ch r)
   unfolding test13
-  is13 = 
+  is13 =
       ap₂ _&&_ (near-of (λ k. k .rd .0) refl (view .precharges) (traits r .precharges) precharges-of (s .rdp))
       (near-of (λ k. k .retire .0) refl (view .precharges) (traits r .precharges) precharges-of (s .rtp))
 
   is14 : not (ofBank (bankOf (waitingOf (ch .buffer))) (closes split (stateOf ch) r)) ≡ test14 (viewOf r) (heldOf (ch .buffer)) (tracksAt ch r)
   unfolding test14
-  is14 = 
+  is14 =
       ap₂ (λ o p. not (ofBank o (λ y. reaches split p y && not (isClosed (stateOf ch y))))) (held-bank (ch .buffer)) precharges-of
       ∙ safe-only (held .waits) (view .precharges) (view .bank) (held .bank) (λ x. isClosed (stateOf ch x))
 

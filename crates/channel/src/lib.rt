@@ -2,6 +2,7 @@
 pub mod beside;
 pub mod bounds;
 pub mod judging;
+pub mod steps;
 pub mod tests;
 pub mod views;
 
