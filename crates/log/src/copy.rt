@@ -66,7 +66,7 @@ fn bad_up_to(s: Settings, log: &[u8], k: usize, bad: usize) -> usize
 }
 
 // The first bad block and the first bad record of a log, each block tested whole before the next one is read.
-fn faults(s: Settings, log: &[u8]) -> Faults
+pub fn faults(s: Settings, log: &[u8]) -> Faults
     ensures { λ r. ⌜ (r .block ≡ firstBadBlock (now (log .entry))) × (r .block ≡ blocksIn (now (log .entry)) → r .record ≡ firstBad s (listOf (now (log .entry)))) ⌝ }
 {
     let n = log.len() / 512;
