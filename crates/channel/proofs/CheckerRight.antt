@@ -25,7 +25,7 @@ use Rattle.channel.proofs.Bools.{and-left, and-right}
 use Rattle.channel.proofs.BrokenLaws.{lowest-none}
 use Rattle.channel.proofs.ListLaws.{earlier-next}
 use Rattle.channel.proofs.HistoryLaws.{newest}
-use Rattle.channel.proofs.Tracks.{Tracks, tracks-fresh, tracks-step}
+use Rattle.channel.proofs.TrackLaws.{Tracks, tracks-fresh, tracks-step}
 use Rattle.channel.proofs.RulesAreChecks.{rules-are-checks}
 
 module _ (s : Settings) (nbr : Relation) (ns : Neighbours nbr) where

@@ -24,7 +24,7 @@ use Rattle.channel.specs.Channel.{stateOf, waitingOf, dueOf}
 use Rattle.channel.specs.Checks.{boundIf, bound1, bound2, bound3, bound5, bound6, bound7, bound8, bound10, bound11, bound13Read, bound13Retire, checks, judged}
 use Rattle.channel.specs.Earliest.{placedAt, afterWrite, bound12, fits, earliest}
 use Rattle.channel.proofs.Bools.{not-both, and-left, and-right, leb-max}
-use Rattle.channel.proofs.Tracks.{Tracks}
+use Rattle.channel.proofs.TrackLaws.{Tracks}
 use Rattle.channel.proofs.CheckerRight.{judged-right}
 
 -- all tests pass

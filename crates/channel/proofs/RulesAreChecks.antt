@@ -21,7 +21,7 @@ use Rattle.channel.specs.Checks.{boundBanks, bound1, bound2, bound3, bou
 use Rattle.channel.proofs.Bools.{all-ext}
 use Rattle.channel.proofs.HistoryLaws.{lastOf, Within, all-map, kind-law, order-law, bank-law}
 use Rattle.channel.proofs.PrechargeLaws.{Reaching, seven-law}
-use Rattle.channel.proofs.Tracks.{Fine, Tracks}
+use Rattle.channel.proofs.TrackLaws.{Fine, Tracks}
 
 -- ---- tests on banks go by the states alone
 

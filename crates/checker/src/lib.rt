@@ -1,4 +1,7 @@
-// The checker of whole lists and logs.
+// The checker of whole lists and whole logs.
+pub mod check;
+pub mod walk;
+
 use record::Refusal;
 
 // What the checker answers: every rule holds, or why not.

@@ -1,0 +1,42 @@
+// The checker: a whole list of records, or a whole log of blocks.
+ghost use mathlib.Core.Path.{_≡_};
+ghost use Rattle.checker.specs.Check.{listAnswer, logAnswer};
+use crate::Judged;
+use crate::walk::judge_all;
+use record::Refusal;
+use settings::Settings;
+
+// Judges a list of records.
+pub fn check_list(s: Settings, list: &[u8]) -> Judged
+    ensures { λ r. ⌜ r ≡ listAnswer s (now (list .entry)) ⌝ }
+{
+    if list.len() % 32 != 0 {
+        return Judged::Refused(Refusal::Length);
+    }
+    let n = list.len() / 32;
+    let bad = record::records::first_bad(s, list);
+    if bad != n {
+        return Judged::Refused(Refusal::Word(bad as u64));
+    }
+    judge_all(s, list, n, false)
+}
+
+// Judges the list that a log keeps.
+pub fn check_log(s: Settings, log: &[u8]) -> Judged
+    ensures { λ r. ⌜ r ≡ logAnswer s (now (log .entry)) ⌝ }
+{
+    if log.len() % 512 != 0 {
+        return Judged::Refused(Refusal::Length);
+    }
+    let found = log::copy::faults(s, log);
+    let block = found.block;
+    if block != log.len() / 512 {
+        return Judged::Refused(Refusal::Block(block as u64));
+    }
+    let n = log::read::records_in(log);
+    let bad = found.record;
+    if bad != n {
+        return Judged::Refused(Refusal::Word(bad as u64));
+    }
+    judge_all(s, log, n, true)
+}
