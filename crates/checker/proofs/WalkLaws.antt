@@ -11,12 +11,19 @@ use lib.ListN.{length, getD, length-append, List·getD-append}
 use lib.Seq.{getD-at}
 use Rattle.num.specs.Bytes.{part}
 use Rattle.num.proofs.PartLaws.{part-part}
+use Rattle.num.proofs.SearchLaws.{first-before}
 use Rattle.settings.specs.declared.Settings.{Settings}
 use Rattle.record.specs.declared.Record.{Record}
-use Rattle.record.specs.Record.{recordRead, recordAt, recordsIn}
+use native.Mathlib.Numerals.{add-one}
+use Rattle.record.specs.Record.{recordRead, recordAt, recordsIn, recordFits, wellFormed, firstBad}
 use Rattle.log.specs.Block.{used, blocksIn, blockAt, firstBadBlock, listOf}
 use Rattle.log.proofs.ListThenLog.{recordsAt, used-most, used-full, length-list, list-blocks, part-list}
+use Rattle.channel.specs.Neighbour.{split}
+use Rattle.channel.specs.Broken.{recordOf}
+use Rattle.channel.specs.Channel.{after}
+use Rattle.channel.specs.Checks.{channelAfter}
 use Rattle.checker.specs.Check.{known, recordsUpTo, recordsOf}
+use Rattle.checker.proofs.RuleLaws.{known-fits}
 use Rattle.checker.specs.Walk.{placeOf, recordVia, recordsVia}
 
 pub length-via : (s : Settings) (blocks : Bool) (b : List ℕ) (n : ℕ) → length (recordsVia s blocks b n) ≡ n
@@ -74,3 +81,41 @@ module _ (log : List ℕ) (good : firstBadBlock log ≡ blocksIn log) (i : ℕ) 
 pub log-via : (s : Settings) (log : List ℕ) → firstBadBlock log ≡ blocksIn log → recordsVia s true log (recordsIn (listOf log)) ≡ recordsOf s (listOf log)
 unfolding recordsOf
 log-via s log good = same-via s true log (listOf log) (recordsIn (listOf log)) (log-record log good)
+
+-- what was asked of each record of a walk, said of the records that it meets
+pub via-fits : (s : Settings) (blocks : Bool) (b : List ℕ) (n : ℕ) → ((i : ℕ) → i < n → wellFormed s (part b (placeOf blocks i) 32) ≡ true)
+    → (i : ℕ) → i < length (recordsVia s blocks b n) → recordFits s (recordOf (recordsVia s blocks b n) i) ≡ true
+via-fits s blocks b n h i l =
+    let m : i < n = rw length-via at l in
+    ap (recordFits s) (via-at s blocks b n i _ m) ∙ known-fits s (part b (placeOf blocks i) 32) (h i m)
+
+-- the state after one record more
+pub channel-next : (l : List Record) (i : ℕ) (r : Record) → recordOf l i ≡ r → after split (channelAfter split l i) r ≡ channelAfter split l (i + 1)
+unfolding channelAfter
+channel-next l i r e = rw (add-one, e)
+
+-- the places of a list lie within it, and its records are well formed where none is bad
+pub list-within : (l : List ℕ) (i : ℕ) → i < recordsIn l → placeOf false i + 32 ≤ length l
+unfolding placeOf
+list-within l i h = omega arith
+
+pub list-formed : (s : Settings) (l : List ℕ) → firstBad s l ≡ recordsIn l → (i : ℕ) → i < recordsIn l → wellFormed s (part l (placeOf false i) 32) ≡ true
+unfolding firstBad placeOf
+list-formed s l e i h = first-before (λ i. wellFormed s (recordAt l i)) (recordsIn l) i (rw e h)
+
+-- the same of a log whose blocks are right
+pub log-within : (log : List ℕ) → firstBadBlock log ≡ blocksIn log → (i : ℕ) → i < recordsIn (listOf log) → placeOf true i + 32 ≤ length log
+unfolding placeOf
+log-within log good i h =
+    let b = block-in log good i h in
+    omega arith
+
+pub log-formed : (s : Settings) (log : List ℕ) → firstBadBlock log ≡ blocksIn log → firstBad s (listOf log) ≡ recordsIn (listOf log)
+    → (i : ℕ) → i < recordsIn (listOf log) → wellFormed s (part log (placeOf true i) 32) ≡ true
+unfolding firstBad
+log-formed s log good e i h =
+    ap (wellFormed s) (log-record log good i h) ∙ first-before (λ i. wellFormed s (recordAt (listOf log) i)) (recordsIn (listOf log)) i (rw e h)
+
+-- a log has fewer records than bytes by far
+pub log-few : (log : List ℕ) → firstBadBlock log ≡ blocksIn log → 34 * recordsIn (listOf log) ≤ length log
+log-few log good = let e = list-blocks log good in omega arith

@@ -1,4 +1,5 @@
 // The C entry points. Buffers that are lent must not overlap.
+pub mod checks;
 pub mod logs;
 pub mod words;
 
@@ -25,4 +26,12 @@ pub struct CopyAnswer {
     pub number: u32,
     pub place: u64,
     pub count: u64,
+}
+
+// What the checker answers: number is 0, or the refusal's with the rule and the place that it names.
+#[repr(C)]
+pub struct CheckAnswer {
+    pub number: u32,
+    pub rule: u32,
+    pub place: u64,
 }

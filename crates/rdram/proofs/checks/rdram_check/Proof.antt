@@ -1,0 +1,45 @@
+-- `rdram_check` meets its contract: each arm is a case of the definition.
+use mathlib.Core.Path.{_∙_, sym}
+use Rattle.rdram.specs.Checks.{listChecked, listUnder}
+use borrow.Author.Needs.{needs}
+use Rattle.rdram.proofs.checks.rdram_check.Statement.{statement}
+use Rattle.rdram.proofs.checks.rdram_check.Tie as tie
+
+read-settings-requires : tie.Need-read-settings-requires
+read-settings-requires c κs = search needs
+
+enum-told : tie.Need-enum-told
+enum-told c = search needs
+
+check-answer-requires : tie.Need-check-answer-requires
+check-answer-requires c κs = search needs
+
+enum-known-s : tie.Need-enum-known-s
+enum-known-s c = search needs
+
+check-list-requires : tie.Need-check-list-requires
+check-list-requires c κs = search needs
+
+check-answer-requires-2 : tie.Need-check-answer-requires-2
+check-answer-requires-2 c κs = search needs
+
+returns : tie.Need-returns
+unfolding listChecked listUnder
+returns c = rw (sym (c .before .before .before .read-settings .ensures) ∙ c .before .enum-told .given .1) (c .check-answer .ensures)
+
+returns-2 : tie.Need-returns-2
+unfolding listChecked listUnder
+returns-2 c = rw (sym (c .before .before .before .before .before .read-settings .ensures) ∙ c .before .before .before .s .given .1, ← c .before .check-list .ensures) (c .check-answer2 .ensures)
+
+pub rdram-check-spec : {M : Type 1} → statement M
+rdram-check-spec =
+    tie.close
+    (tie.spec
+    read-settings-requires
+    enum-told
+    check-answer-requires
+    enum-known-s
+    check-list-requires
+    check-answer-requires-2
+    returns
+    returns-2)
