@@ -68,6 +68,7 @@ module _ (f : BankTrack → BankTrack) (x : ℕ) (l : List BankTrack) where
       here : x < 32 → (t : Bool) → eqb i x ≡ t → getD (touch f x l) i idle ≡ onto f t (getD l i idle)
       here m true q = let p = eqb-true i x q in rw (touch-in m, p) (getD-set-same l x (f (getD l x idle)) idle (omega arith))
       here m false q = rw (touch-in m) (getD-set-other l x i (f (getD l x idle)) idle (eqb-false i x q))
+
       go : (u : Bool) → ltb x 32 ≡ u → (t : Bool) → eqb i x ≡ t → getD (touch f x l) i idle ≡ onto f (eqb i x) (getD l i idle)
       go true q t p = rw p (here (ltb-true x 32 q) t p)
       go false q t p = let m = ltb-false x 32 q in rw (touch-out m, ne-eqb i x (λ z. omega arith))
@@ -128,6 +129,7 @@ module _ (b i : ℕ) (h : i < 32) where
           let z : true ≡ false = sym (n (omega arith)) ∙ ap (near split b) (sym p) ∙ q in
           let y : _≡_ {A = ℕ} 0 1 = ap (λ t. cond t 0 1) z in
           omega arith
+
       beside : near split b i ≡ true → Beside b i → Tests b i
       beside n (own p) = is-own (eq-eqb i b p) (ne-eqb i (lowOf b) (own-low p)) (ne-eqb i (highOf b) (own-high p))
       beside n (low p) =
@@ -136,6 +138,7 @@ module _ (b i : ℕ) (h : i < 32) where
       beside n (high p) =
           let q = ne-eqb i b (λ z. own-high z p) in
           is-high q (split-near n q) (ne-eqb i (lowOf b) (λ z. low-high z p)) (eq-eqb i (highOf b) p)
+
       go : (t : Bool) → near split b i ≡ t → Tests b i
       go true q = beside q (near-beside b i q)
       go false q =
@@ -255,15 +258,15 @@ module _ (ch : Channel) (e : length (ch .banks) ≡ 32) where
   banks-map r f =
       ext-getD idle _ _ (length-by (viewOf r) ∙ sym (length-imap (trackNext split ch r) 0 (ch .banks)))
       (λ i l. let h : i < 32 = omega (arith, length-by (viewOf r), e) in
-        let z : 0 + i ≡ i = omega arith in
-        let g = getD-imap (trackNext split ch r) 0 (ch .banks) i idle (omega arith) in
-        banks-at (viewOf r) i h ∙ f i h ∙ ap (λ n. trackNext split ch r n (trackOf ch i)) (sym z) ∙ sym g)
+      let z : 0 + i ≡ i = omega arith in
+      let g = getD-imap (trackNext split ch r) 0 (ch .banks) i idle (omega arith) in
+      banks-at (viewOf r) i h ∙ f i h ∙ ap (λ n. trackNext split ch r n (trackOf ch i)) (sym z) ∙ sym g)
 
   banks-kept : (t : DataAt) (d : Dualoct) → banksBy (viewOf (DataOf t d)) ≡ ch .banks
   banks-kept t d =
       ext-getD idle _ _ (length-by (viewOf (DataOf t d)))
       (λ i l. let h : i < 32 = omega (arith, length-by (viewOf (DataOf t d)), e) in
-        banks-at (viewOf (DataOf t d)) i h ∙ data-at ch i h t d)
+      banks-at (viewOf (DataOf t d)) i h ∙ data-at ch i h t d)
 
   row-after : (t : PacketAt) (p : RowPacket)
       → withBanks (viewOf (RowAt t p)) ch (imap (trackNext split ch (RowAt t p)) 0 (ch .banks)) ≡ after split ch (RowAt t p)

@@ -3,52 +3,46 @@ use Rattle.channel.specs.Neighbour.{split}
 use borrow.Author.Needs.{needs}
 use Rattle.channel.proofs.beside.is_near.Statement.{statement}
 use Rattle.channel.proofs.beside.is_near.Tie as tie
-use Rattle.channel.proofs.beside.is_near.Reads as reads
-use Rattle.channel.proofs.beside.is_near.Lts as lts
-use Rattle.num.proofs.both.Reads as both-reads
-use Rattle.num.proofs.either.Reads as either-reads
-use Rattle.num.proofs.wide32.Reads as wide32-reads
 
--- src/beside.rt:17:17
 wide32-requires : tie.Need-wide32-requires
 wide32-requires c κs = search needs
 
--- src/beside.rt:17:17
 add-above : tie.Need-add-above
 add-above c = search needs
 
--- src/beside.rt:17:39
 wide32-requires-2 : tie.Need-wide32-requires-2
 wide32-requires-2 c κs = search needs
 
--- src/beside.rt:18:17
 wide32-requires-3 : tie.Need-wide32-requires-3
 wide32-requires-3 c κs = search needs
 
--- src/beside.rt:18:17
 add-below : tie.Need-add-below
 add-below c = search needs
 
--- src/beside.rt:18:39
 wide32-requires-4 : tie.Need-wide32-requires-4
 wide32-requires-4 c κs = search needs
 
--- src/beside.rt:20:35
 either-requires : tie.Need-either-requires
 either-requires c κs = search needs
 
--- src/beside.rt:20:25
 both-requires : tie.Need-both-requires
 both-requires c κs = search needs
 
--- src/beside.rt:20:5
 either-requires-2 : tie.Need-either-requires-2
 either-requires-2 c κs = search needs
 
--- src/beside.rt:14:1
 returns : tie.Need-returns
 unfolding split
-returns c = rw (c .either2 .ensures, c .before .both .ensures, c .before .before .either .ensures, c .before .before .before .wide324 .ensures .0, c .before .before .before .before .wide323 .ensures .0, c .before .before .before .before .before .wide322 .ensures .0, c .before .before .before .before .before .before .wide32 .ensures .0)
+returns c =
+    rw (
+      c .either2 .ensures,
+      c .before .both .ensures,
+      c .before .before .either .ensures,
+      c .before .before .before .wide324 .ensures .0,
+      c .before .before .before .before .wide323 .ensures .0,
+      c .before .before .before .before .before .wide322 .ensures .0,
+      c .before .before .before .before .before .before .wide32 .ensures .0,
+    )
 
 pub is-near-spec : {M : Type 1} → statement M
 is-near-spec =

@@ -3,18 +3,13 @@ use borrow.Author.Tests.{eq-eqb, ne-eqb}
 use borrow.Author.Needs.{needs}
 use Rattle.channel.proofs.beside.low_of.Statement.{statement}
 use Rattle.channel.proofs.beside.low_of.Tie as tie
-use Rattle.channel.proofs.beside.low_of.Reads as reads
-use Rattle.channel.proofs.beside.low_of.Lts as lts
 
--- src/beside.rt:27:34
 sub-result : tie.Need-sub-result
 sub-result c = search needs
 
--- src/beside.rt:24:1
 returns : tie.Need-returns
 returns c = rw (eq-eqb _ _ (c .if1 .taken))
 
--- src/beside.rt:24:1
 returns-2 : tie.Need-returns-2
 returns-2 c = rw (ne-eqb _ _ (c .if1 .left))
 

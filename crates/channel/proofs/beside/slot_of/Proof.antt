@@ -3,14 +3,10 @@ use borrow.Author.Tests.{lt-ltb, le-ltb}
 use borrow.Author.Needs.{needs}
 use Rattle.channel.proofs.beside.slot_of.Statement.{statement}
 use Rattle.channel.proofs.beside.slot_of.Tie as tie
-use Rattle.channel.proofs.beside.slot_of.Reads as reads
-use Rattle.channel.proofs.beside.slot_of.Lts as lts
 
--- src/beside.rt:38:1
 returns : tie.Need-returns
 returns c = (rw (lt-ltb _ _ (c .if1 .taken)), search needs)
 
--- src/beside.rt:38:1
 returns-2 : tie.Need-returns-2
 returns-2 c = (rw (le-ltb _ _ (c .if1 .left)), search needs)
 

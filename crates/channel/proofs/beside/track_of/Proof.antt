@@ -3,19 +3,13 @@ use borrow.Author.Tests.{lt-ltb, le-ltb}
 use borrow.Author.Needs.{needs}
 use Rattle.channel.proofs.beside.track_of.Statement.{statement}
 use Rattle.channel.proofs.beside.track_of.Tie as tie
-use Rattle.channel.proofs.beside.track_of.Reads as reads
-use Rattle.channel.proofs.beside.track_of.Lts as lts
-use Rattle.channel.proofs.beside.unused.Reads as unused-reads
 
--- src/beside.rt:70:28
 unused-requires : tie.Need-unused-requires
 unused-requires c κs = search needs
 
--- src/beside.rt:67:1
 returns : tie.Need-returns
 returns c = rw (lt-ltb _ _ (c .if1 .taken))
 
--- src/beside.rt:67:1
 returns-2 : tie.Need-returns-2
 returns-2 c = rw (le-ltb _ _ (c .before .if1 .left)) (c .unused .ensures)
 

@@ -1,21 +1,15 @@
-use lib.Dec.{leb·zero}
 -- `channel::bounds::keeps` meets its contract: where the bound applies, the test is its own.
+use lib.Dec.{leb·zero}
 use borrow.Author.Needs.{needs}
 use Rattle.channel.proofs.bounds.keeps.Statement.{statement}
 use Rattle.channel.proofs.bounds.keeps.Tie as tie
-use Rattle.channel.proofs.bounds.keeps.Reads as reads
-use Rattle.channel.proofs.bounds.keeps.Lts as lts
-use Rattle.num.proofs.wide32.Reads as wide32-reads
 
--- src/bounds.rt:47:18
 wide32-requires : tie.Need-wide32-requires
 wide32-requires c κs = search needs
 
--- src/bounds.rt:43:1
 returns : tie.Need-returns
 returns c = rw (c .before .if1 .taken, c .wide32 .ensures .0)
 
--- src/bounds.rt:43:1
 returns-2 : tie.Need-returns-2
 returns-2 c = rw (c .if1 .left, leb·zero)
 

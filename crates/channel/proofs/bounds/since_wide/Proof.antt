@@ -3,23 +3,16 @@ use borrow.Author.Tests.{eq-eqb, ne-eqb}
 use borrow.Author.Needs.{needs}
 use Rattle.channel.proofs.bounds.since_wide.Statement.{statement}
 use Rattle.channel.proofs.bounds.since_wide.Tie as tie
-use Rattle.channel.proofs.bounds.since_wide.Reads as reads
-use Rattle.channel.proofs.bounds.since_wide.Lts as lts
-use Rattle.num.proofs.wide32.Reads as wide32-reads
 
--- src/bounds.rt:21:9
 returns : tie.Need-returns
 returns c = rw (eq-eqb _ _ (c .if1 .taken))
 
--- src/bounds.rt:23:5
 wide32-requires : tie.Need-wide32-requires
 wide32-requires c κs = search needs
 
--- src/bounds.rt:23:5
 add-result : tie.Need-add-result
 add-result c = search needs
 
--- src/bounds.rt:16:1
 returns-2 : tie.Need-returns-2
 returns-2 c = rw (ne-eqb _ _ (c .before .if1 .left), c .wide32 .ensures .0)
 

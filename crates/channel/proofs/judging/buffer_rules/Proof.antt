@@ -3,41 +3,36 @@ use Rattle.channel.specs.Tests.{bufferRules}
 use borrow.Author.Needs.{needs}
 use Rattle.channel.proofs.judging.buffer_rules.Statement.{statement}
 use Rattle.channel.proofs.judging.buffer_rules.Tie as tie
-use Rattle.channel.proofs.judging.buffer_rules.Reads as reads
-use Rattle.channel.proofs.judging.buffer_rules.Lts as lts
-use Rattle.channel.proofs.judging.unless.Reads as unless-reads
-use Rattle.channel.proofs.tests.data_right.Reads as data-right-reads
-use Rattle.channel.proofs.tests.mask_right.Reads as mask-right-reads
-use Rattle.channel.proofs.tests.write_safe.Reads as write-safe-reads
 
--- src/judging.rt:68:22
 mask-right-requires : tie.Need-mask-right-requires
 mask-right-requires c κs = search needs
 
--- src/judging.rt:68:9
 unless-requires : tie.Need-unless-requires
 unless-requires c κs = search needs
 
--- src/judging.rt:69:22
 data-right-requires : tie.Need-data-right-requires
 data-right-requires c κs = search needs
 
--- src/judging.rt:69:9
 unless-requires-2 : tie.Need-unless-requires-2
 unless-requires-2 c κs = search needs
 
--- src/judging.rt:70:12
 write-safe-requires : tie.Need-write-safe-requires
 write-safe-requires c κs = search needs
 
--- src/judging.rt:70:5
 unless-requires-3 : tie.Need-unless-requires-3
 unless-requires-3 c κs = search needs
 
--- src/judging.rt:65:1
 returns : tie.Need-returns
 unfolding bufferRules
-returns c = rw (c .unless3 .ensures, c .before .write-safe .ensures, c .before .before .unless2 .ensures, c .before .before .before .data-right .ensures, c .before .before .before .before .unless .ensures, c .before .before .before .before .before .mask-right .ensures)
+returns c =
+    rw (
+      c .unless3 .ensures,
+      c .before .write-safe .ensures,
+      c .before .before .unless2 .ensures,
+      c .before .before .before .data-right .ensures,
+      c .before .before .before .before .unless .ensures,
+      c .before .before .before .before .before .mask-right .ensures,
+    )
 
 pub buffer-rules-spec : {M : Type 1} → statement M
 buffer-rules-spec =

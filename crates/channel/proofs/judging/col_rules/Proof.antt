@@ -3,59 +3,52 @@ use Rattle.channel.specs.Tests.{colRules}
 use borrow.Author.Needs.{needs}
 use Rattle.channel.proofs.judging.col_rules.Statement.{statement}
 use Rattle.channel.proofs.judging.col_rules.Tie as tie
-use Rattle.channel.proofs.judging.col_rules.Reads as reads
-use Rattle.channel.proofs.judging.col_rules.Lts as lts
-use Rattle.channel.proofs.judging.unless.Reads as unless-reads
-use Rattle.channel.proofs.tests.columns_done.Reads as columns-done-reads
-use Rattle.channel.proofs.tests.finds_open.Reads as finds-open-reads
-use Rattle.channel.proofs.tests.retire_late.Reads as retire-late-reads
-use Rattle.channel.proofs.tests.row_ready.Reads as row-ready-reads
-use Rattle.channel.proofs.tests.turned.Reads as turned-reads
 
--- src/judging.rt:57:22
 columns-done-requires : tie.Need-columns-done-requires
 columns-done-requires c κs = search needs
 
--- src/judging.rt:57:9
 unless-requires : tie.Need-unless-requires
 unless-requires c κs = search needs
 
--- src/judging.rt:58:22
 retire-late-requires : tie.Need-retire-late-requires
 retire-late-requires c κs = search needs
 
--- src/judging.rt:58:9
 unless-requires-2 : tie.Need-unless-requires-2
 unless-requires-2 c κs = search needs
 
--- src/judging.rt:59:22
 turned-requires : tie.Need-turned-requires
 turned-requires c κs = search needs
 
--- src/judging.rt:59:9
 unless-requires-3 : tie.Need-unless-requires-3
 unless-requires-3 c κs = search needs
 
--- src/judging.rt:60:22
 row-ready-requires : tie.Need-row-ready-requires
 row-ready-requires c κs = search needs
 
--- src/judging.rt:60:9
 unless-requires-4 : tie.Need-unless-requires-4
 unless-requires-4 c κs = search needs
 
--- src/judging.rt:61:12
 finds-open-requires : tie.Need-finds-open-requires
 finds-open-requires c κs = search needs
 
--- src/judging.rt:61:5
 unless-requires-5 : tie.Need-unless-requires-5
 unless-requires-5 c κs = search needs
 
--- src/judging.rt:54:1
 returns : tie.Need-returns
 unfolding colRules
-returns c = rw (c .unless5 .ensures, c .before .finds-open .ensures, c .before .before .unless4 .ensures, c .before .before .before .row-ready .ensures, c .before .before .before .before .unless3 .ensures, c .before .before .before .before .before .turned .ensures, c .before .before .before .before .before .before .unless2 .ensures, c .before .before .before .before .before .before .before .retire-late .ensures, c .before .before .before .before .before .before .before .before .unless .ensures, c .before .before .before .before .before .before .before .before .before .columns-done .ensures)
+returns c =
+    rw (
+      c .unless5 .ensures,
+      c .before .finds-open .ensures,
+      c .before .before .unless4 .ensures,
+      c .before .before .before .row-ready .ensures,
+      c .before .before .before .before .unless3 .ensures,
+      c .before .before .before .before .before .turned .ensures,
+      c .before .before .before .before .before .before .unless2 .ensures,
+      c .before .before .before .before .before .before .before .retire-late .ensures,
+      c .before .before .before .before .before .before .before .before .unless .ensures,
+      c .before .before .before .before .before .before .before .before .before .columns-done .ensures,
+    )
 
 pub col-rules-spec : {M : Type 1} → statement M
 col-rules-spec =

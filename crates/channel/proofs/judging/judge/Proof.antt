@@ -5,107 +5,103 @@ use Rattle.channel.proofs.JudgeLaws.{length-of-map, judged-by, judged-c
 use borrow.Author.Needs.{needs}
 use Rattle.channel.proofs.judging.judge.Statement.{statement}
 use Rattle.channel.proofs.judging.judge.Tie as tie
-use Rattle.channel.proofs.judging.judge.Reads as reads
-use Rattle.channel.proofs.judging.judge.Lts as lts
-use Rattle.channel.proofs.beside.high_of.Reads as high-of-reads
-use Rattle.channel.proofs.beside.low_of.Reads as low-of-reads
-use Rattle.channel.proofs.beside.slot_of.Reads as slot-of-reads
-use Rattle.channel.proofs.judging.act_bound.Reads as act-bound-reads
-use Rattle.channel.proofs.judging.around.Reads as around-reads
-use Rattle.channel.proofs.judging.find.Reads as find-reads
-use Rattle.channel.proofs.views.held_of.Reads as held-of-reads
-use Rattle.channel.proofs.views.view_of.Reads as view-of-reads
 
--- src/judging.rt:128:9
 long : (c : tie.Start) → length (c .args .t2 .banks) ≡ 32
 long c = search (length-of-map, c .good .1 .0)
 
 view-of-requires : tie.Need-view-of-requires
 view-of-requires c κs = search needs
 
--- src/judging.rt:130:9
 held-of-requires : tie.Need-held-of-requires
 held-of-requires c κs = search needs
 
--- src/judging.rt:131:9
 slot-of-requires : tie.Need-slot-of-requires
 slot-of-requires c κs = search needs
 
--- src/judging.rt:132:15
 mul-own : tie.Need-mul-own
 mul-own c = search needs
 
--- src/judging.rt:132:15
 element-copy-out-own : tie.Need-element-copy-out-own
 element-copy-out-own c = search needs
 
--- src/judging.rt:133:21
 low-of-requires : tie.Need-low-of-requires
 low-of-requires c κs = search needs
 
--- src/judging.rt:133:9
 slot-of-requires-2 : tie.Need-slot-of-requires-2
 slot-of-requires-2 c κs = search needs
 
--- src/judging.rt:134:15
 mul-low : tie.Need-mul-low
 mul-low c = search needs
 
--- src/judging.rt:134:15
 element-copy-out-low : tie.Need-element-copy-out-low
 element-copy-out-low c = search needs
 
--- src/judging.rt:135:21
 high-of-requires : tie.Need-high-of-requires
 high-of-requires c κs = search needs
 
--- src/judging.rt:135:9
 slot-of-requires-3 : tie.Need-slot-of-requires-3
 slot-of-requires-3 c κs = search needs
 
--- src/judging.rt:136:16
 mul-high : tie.Need-mul-high
 mul-high c = search needs
 
--- src/judging.rt:136:16
 element-copy-out-high : tie.Need-element-copy-out-high
 element-copy-out-high c = search needs
 
--- src/judging.rt:137:9
 slot-of-requires-4 : tie.Need-slot-of-requires-4
 slot-of-requires-4 c κs = search needs
 
--- src/judging.rt:138:16
 mul-held : tie.Need-mul-held
 mul-held c = search needs
 
--- src/judging.rt:138:16
 element-copy-out-held : tie.Need-element-copy-out-held
 element-copy-out-held c = search needs
 
--- src/judging.rt:139:9
 around-requires : tie.Need-around-requires
 around-requires c κs = search needs
 
--- src/judging.rt:149:33
 act-bound-requires : tie.Need-act-bound-requires
 act-bound-requires c κs = search needs
 
--- src/judging.rt:149:9
 find-requires : tie.Need-find-requires
 find-requires c κs = search needs
 
--- src/judging.rt:149:9
 returns : tie.Need-returns
-returns c = rw (c .find .ensures, c .before .act-bound .ensures, c .before .before .before .before .around .ensures, c .before .before .before .before .before .before .slot-of4 .ensures .0, c .before .before .before .before .before .before .before .before .slot-of3 .ensures .0, c .before .before .before .before .before .before .before .before .before .high-of .ensures, c .before .before .before .before .before .before .before .before .before .before .before .slot-of2 .ensures .0, c .before .before .before .before .before .before .before .before .before .before .before .before .low-of .ensures, c .before .before .before .before .before .before .before .before .before .before .before .before .before .before .slot-of .ensures .0, c .before .before .before .before .before .before .before .before .before .before .before .before .before .before .before .held-of .ensures, c .before .before .before .before .before .before .before .before .before .before .before .before .before .before .before .before .view-of .ensures) (let a = c .before .before .before .before .before .before .before .before .before .before .before .before .before .before .before .before .before .args in judged-by (a .s) (a .t2) (a .r) (long (c .before .before .before .before .before .before .before .before .before .before .before .before .before .before .before .before .before)))
+returns c =
+    rw (
+      c .find .ensures,
+      c .before .act-bound .ensures,
+      c .before .before .before .before .around .ensures,
+      c .before .before .before .before .before .before .slot-of4 .ensures .0,
+      c .before .before .before .before .before .before .before .before .slot-of3 .ensures .0,
+      c .before .before .before .before .before .before .before .before .before .high-of .ensures,
+      c .before .before .before .before .before .before .before .before .before .before .before .slot-of2 .ensures .0,
+      c .before .before .before .before .before .before .before .before .before .before .before .before .low-of .ensures,
+      c .before .before .before .before .before .before .before .before .before .before .before .before .before .before .slot-of .ensures .0,
+      c .before .before .before .before .before .before .before .before .before .before .before .before .before .before .before .held-of .ensures,
+      c .before .before .before .before .before .before .before .before .before .before .before .before .before .before .before .before .view-of .ensures,
+    )
+    (let z = c .before .before .before .before .before .before .before .before .before .before .before .before .before .before .before .before .before in judged-by (z .args .s) (z .args .t2) (z .args .r) (long z))
 
--- src/judging.rt:151:5
 find-requires-2 : tie.Need-find-requires-2
 find-requires-2 c κs = search needs
 
--- src/judging.rt:125:1
 returns-2 : tie.Need-returns-2
-returns-2 c = rw (c .find2 .ensures, c .before .before .around .ensures, c .before .before .before .before .slot-of4 .ensures .0, c .before .before .before .before .before .before .slot-of3 .ensures .0, c .before .before .before .before .before .before .before .high-of .ensures, c .before .before .before .before .before .before .before .before .before .slot-of2 .ensures .0, c .before .before .before .before .before .before .before .before .before .before .low-of .ensures, c .before .before .before .before .before .before .before .before .before .before .before .before .slot-of .ensures .0, c .before .before .before .before .before .before .before .before .before .before .before .before .before .held-of .ensures, c .before .before .before .before .before .before .before .before .before .before .before .before .before .before .view-of .ensures) (let a = c .before .before .before .before .before .before .before .before .before .before .before .before .before .before .before .args in judged-closed (a .s) (a .t2) (a .r) (long (c .before .before .before .before .before .before .before .before .before .before .before .before .before .before .before)) (rw (c .before .before .before .before .before .before .before .before .before .before .before .before .before .before .view-of .ensures) at (c .before .if1 .left)))
+returns-2 c =
+    rw (
+      c .find2 .ensures,
+      c .before .before .around .ensures,
+      c .before .before .before .before .slot-of4 .ensures .0,
+      c .before .before .before .before .before .before .slot-of3 .ensures .0,
+      c .before .before .before .before .before .before .before .high-of .ensures,
+      c .before .before .before .before .before .before .before .before .before .slot-of2 .ensures .0,
+      c .before .before .before .before .before .before .before .before .before .before .low-of .ensures,
+      c .before .before .before .before .before .before .before .before .before .before .before .before .slot-of .ensures .0,
+      c .before .before .before .before .before .before .before .before .before .before .before .before .before .held-of .ensures,
+      c .before .before .before .before .before .before .before .before .before .before .before .before .before .before .view-of .ensures,
+    )
+    (let z = c .before .before .before .before .before .before .before .before .before .before .before .before .before .before .before in
+    judged-closed (z .args .s) (z .args .t2) (z .args .r) (long z) (rw (c .before .before .before .before .before .before .before .before .before .before .before .before .before .before .view-of .ensures) at (c .before .if1 .left)))
 
 pub judge-spec : {M : Type 1} → statement M
 judge-spec =

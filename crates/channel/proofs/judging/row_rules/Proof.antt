@@ -3,59 +3,52 @@ use Rattle.channel.specs.Tests.{rowRules}
 use borrow.Author.Needs.{needs}
 use Rattle.channel.proofs.judging.row_rules.Statement.{statement}
 use Rattle.channel.proofs.judging.row_rules.Tie as tie
-use Rattle.channel.proofs.judging.row_rules.Reads as reads
-use Rattle.channel.proofs.judging.row_rules.Lts as lts
-use Rattle.channel.proofs.judging.unless.Reads as unless-reads
-use Rattle.channel.proofs.tests.act_apart.Reads as act-apart-reads
-use Rattle.channel.proofs.tests.closed_long.Reads as closed-long-reads
-use Rattle.channel.proofs.tests.finds_closed.Reads as finds-closed-reads
-use Rattle.channel.proofs.tests.open_long.Reads as open-long-reads
-use Rattle.channel.proofs.tests.pre_apart.Reads as pre-apart-reads
 
--- src/judging.rt:46:21
 pre-apart-requires : tie.Need-pre-apart-requires
 pre-apart-requires c κs = search needs
 
--- src/judging.rt:46:9
 unless-requires : tie.Need-unless-requires
 unless-requires c κs = search needs
 
--- src/judging.rt:47:21
 closed-long-requires : tie.Need-closed-long-requires
 closed-long-requires c κs = search needs
 
--- src/judging.rt:47:9
 unless-requires-2 : tie.Need-unless-requires-2
 unless-requires-2 c κs = search needs
 
--- src/judging.rt:48:21
 open-long-requires : tie.Need-open-long-requires
 open-long-requires c κs = search needs
 
--- src/judging.rt:48:9
 unless-requires-3 : tie.Need-unless-requires-3
 unless-requires-3 c κs = search needs
 
--- src/judging.rt:49:21
 act-apart-requires : tie.Need-act-apart-requires
 act-apart-requires c κs = search needs
 
--- src/judging.rt:49:9
 unless-requires-4 : tie.Need-unless-requires-4
 unless-requires-4 c κs = search needs
 
--- src/judging.rt:50:12
 finds-closed-requires : tie.Need-finds-closed-requires
 finds-closed-requires c κs = search needs
 
--- src/judging.rt:50:5
 unless-requires-5 : tie.Need-unless-requires-5
 unless-requires-5 c κs = search needs
 
--- src/judging.rt:43:1
 returns : tie.Need-returns
 unfolding rowRules
-returns c = rw (c .unless5 .ensures, c .before .finds-closed .ensures, c .before .before .unless4 .ensures, c .before .before .before .act-apart .ensures, c .before .before .before .before .unless3 .ensures, c .before .before .before .before .before .open-long .ensures, c .before .before .before .before .before .before .unless2 .ensures, c .before .before .before .before .before .before .before .closed-long .ensures, c .before .before .before .before .before .before .before .before .unless .ensures, c .before .before .before .before .before .before .before .before .before .pre-apart .ensures)
+returns c =
+    rw (
+      c .unless5 .ensures,
+      c .before .finds-closed .ensures,
+      c .before .before .unless4 .ensures,
+      c .before .before .before .act-apart .ensures,
+      c .before .before .before .before .unless3 .ensures,
+      c .before .before .before .before .before .open-long .ensures,
+      c .before .before .before .before .before .before .unless2 .ensures,
+      c .before .before .before .before .before .before .before .closed-long .ensures,
+      c .before .before .before .before .before .before .before .before .unless .ensures,
+      c .before .before .before .before .before .before .before .before .before .pre-apart .ensures,
+    )
 
 pub row-rules-spec : {M : Type 1} → statement M
 row-rules-spec =

@@ -3,112 +3,92 @@ use Rattle.channel.specs.Steps.{banksNext}
 use borrow.Author.Needs.{needs}
 use Rattle.channel.proofs.steps.banks_after.Statement.{statement}
 use Rattle.channel.proofs.steps.banks_after.Tie as tie
-use Rattle.channel.proofs.steps.banks_after.Reads as reads
-use Rattle.channel.proofs.steps.banks_after.Lts as lts
-use Rattle.channel.proofs.beside.high_of.Reads as high-of-reads
-use Rattle.channel.proofs.beside.low_of.Reads as low-of-reads
-use Rattle.channel.proofs.beside.slot_of.Reads as slot-of-reads
-use Rattle.channel.proofs.steps.own_after.Reads as own-after-reads
-use Rattle.channel.proofs.steps.side_after.Reads as side-after-reads
-use Rattle.channel.proofs.steps.side_of.Reads as side-of-reads
-use Rattle.channel.proofs.steps.spot_of.Reads as spot-of-reads
 
--- src/steps.rt:104:9
 spot-of-requires : tie.Need-spot-of-requires
 spot-of-requires c κs = search needs
 
--- src/steps.rt:105:9
 slot-of-requires : tie.Need-slot-of-requires
 slot-of-requires c κs = search needs
 
--- src/steps.rt:106:13
 mul-t : tie.Need-mul-t
 mul-t c = search needs
 
--- src/steps.rt:106:13
 array-copy-out-t : tie.Need-array-copy-out-t
 array-copy-out-t c = search needs
 
--- src/steps.rt:107:15
 own-after-requires : tie.Need-own-after-requires
 own-after-requires c κs = search needs
 
--- src/steps.rt:107:5
 mul-next : tie.Need-mul-next
 mul-next c = search needs
 
--- src/steps.rt:107:5
 array-set-from-next : tie.Need-array-set-from-next
 array-set-from-next c = search needs
 
--- src/steps.rt:108:26
 low-of-requires : tie.Need-low-of-requires
 low-of-requires c κs = search needs
 
--- src/steps.rt:108:9
 side-of-requires : tie.Need-side-of-requires
 side-of-requires c κs = search needs
 
--- src/steps.rt:109:9
 slot-of-requires-2 : tie.Need-slot-of-requires-2
 slot-of-requires-2 c κs = search needs
 
--- src/steps.rt:110:17
 mul-below : tie.Need-mul-below
 mul-below c = search needs
 
--- src/steps.rt:110:17
 array-copy-out-below : tie.Need-array-copy-out-below
 array-copy-out-below c = search needs
 
--- src/steps.rt:111:15
 side-after-requires : tie.Need-side-after-requires
 side-after-requires c κs = search needs
 
--- src/steps.rt:111:5
 mul-next-2 : tie.Need-mul-next-2
 mul-next-2 c = search needs
 
--- src/steps.rt:111:5
 array-set-from-next-2 : tie.Need-array-set-from-next-2
 array-set-from-next-2 c = search needs
 
--- src/steps.rt:112:27
 high-of-requires : tie.Need-high-of-requires
 high-of-requires c κs = search needs
 
--- src/steps.rt:112:9
 side-of-requires-2 : tie.Need-side-of-requires-2
 side-of-requires-2 c κs = search needs
 
--- src/steps.rt:113:9
 slot-of-requires-3 : tie.Need-slot-of-requires-3
 slot-of-requires-3 c κs = search needs
 
--- src/steps.rt:114:17
 mul-above : tie.Need-mul-above
 mul-above c = search needs
 
--- src/steps.rt:114:17
 array-copy-out-above : tie.Need-array-copy-out-above
 array-copy-out-above c = search needs
 
--- src/steps.rt:115:15
 side-after-requires-2 : tie.Need-side-after-requires-2
 side-after-requires-2 c κs = search needs
 
--- src/steps.rt:115:5
 mul-next-3 : tie.Need-mul-next-3
 mul-next-3 c = search needs
 
--- src/steps.rt:115:5
 array-set-from-next-3 : tie.Need-array-set-from-next-3
 array-set-from-next-3 c = search needs
 
--- src/steps.rt:100:1
 returns : tie.Need-returns
 unfolding banksNext
-returns c = rw (c .side-after2 .ensures, c .before .before .slot-of3 .ensures .0, c .before .before .before .side-of2 .ensures, c .before .before .before .before .high-of .ensures, c .before .before .before .before .before .side-after .ensures, c .before .before .before .before .before .before .before .slot-of2 .ensures .0, c .before .before .before .before .before .before .before .before .side-of .ensures, c .before .before .before .before .before .before .before .before .before .low-of .ensures, c .before .before .before .before .before .before .before .before .before .before .own-after .ensures, c .before .before .before .before .before .before .before .before .before .before .before .before .slot-of .ensures .0, c .before .before .before .before .before .before .before .before .before .before .before .before .before .spot-of .ensures)
+returns c =
+    rw (
+      c .side-after2 .ensures,
+      c .before .before .slot-of3 .ensures .0,
+      c .before .before .before .side-of2 .ensures,
+      c .before .before .before .before .high-of .ensures,
+      c .before .before .before .before .before .side-after .ensures,
+      c .before .before .before .before .before .before .before .slot-of2 .ensures .0,
+      c .before .before .before .before .before .before .before .before .side-of .ensures,
+      c .before .before .before .before .before .before .before .before .before .low-of .ensures,
+      c .before .before .before .before .before .before .before .before .before .before .own-after .ensures,
+      c .before .before .before .before .before .before .before .before .before .before .before .before .slot-of .ensures .0,
+      c .before .before .before .before .before .before .before .before .before .before .before .before .before .spot-of .ensures,
+    )
 
 pub banks-after-spec : {M : Type 1} → statement M
 banks-after-spec =

@@ -3,25 +3,18 @@ use Rattle.channel.specs.Steps.{bufferStep}
 use borrow.Author.Needs.{needs}
 use Rattle.channel.proofs.steps.buffer_after.Statement.{statement}
 use Rattle.channel.proofs.steps.buffer_after.Tie as tie
-use Rattle.channel.proofs.steps.buffer_after.Reads as reads
-use Rattle.channel.proofs.steps.buffer_after.Lts as lts
-use Rattle.channel.proofs.steps.settle.Reads as settle-reads
 
--- src/steps.rt:136:9
 returns : tie.Need-returns
 unfolding bufferStep
 returns c = rw (c .if1 .taken)
 
--- src/steps.rt:143:9
 returns-2 : tie.Need-returns-2
 unfolding bufferStep
 returns-2 c = rw (c .before .if1 .left, c .if2 .taken)
 
--- src/steps.rt:145:5
 settle-requires : tie.Need-settle-requires
 settle-requires c κs = search needs
 
--- src/steps.rt:131:1
 returns-3 : tie.Need-returns-3
 unfolding bufferStep
 returns-3 c = rw (c .before .before .if1 .left, c .before .if2 .left) (c .settle .ensures)

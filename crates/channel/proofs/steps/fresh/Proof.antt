@@ -4,15 +4,10 @@ use Rattle.channel.specs.Rules.{bankCount}
 use borrow.Author.Needs.{needs}
 use Rattle.channel.proofs.steps.fresh.Statement.{statement}
 use Rattle.channel.proofs.steps.fresh.Tie as tie
-use Rattle.channel.proofs.steps.fresh.Reads as reads
-use Rattle.channel.proofs.steps.fresh.Lts as lts
-use Rattle.channel.proofs.beside.unused.Reads as unused-reads
 
--- src/steps.rt:173:18
 unused-requires : tie.Need-unused-requires
 unused-requires c κs = search needs
 
--- src/steps.rt:169:1
 returns : tie.Need-returns
 unfolding fresh bankCount
 returns c = rw (c .unused .ensures)

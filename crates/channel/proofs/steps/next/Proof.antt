@@ -7,13 +7,6 @@ use Rattle.channel.proofs.StepLaws.{after-is}
 use borrow.Author.Needs.{needs}
 use Rattle.channel.proofs.steps.next.Statement.{statement}
 use Rattle.channel.proofs.steps.next.Tie as tie
-use Rattle.channel.proofs.steps.next.Reads as reads
-use Rattle.channel.proofs.steps.next.Lts as lts
-use Rattle.channel.proofs.steps.banks_after.Reads as banks-after-reads
-use Rattle.channel.proofs.steps.buffer_after.Reads as buffer-after-reads
-use Rattle.channel.proofs.steps.pick_at.Reads as pick-at-reads
-use Rattle.channel.proofs.views.held_of.Reads as held-of-reads
-use Rattle.channel.proofs.views.view_of.Reads as view-of-reads
 
 long : (c : tie.Start) → length (c .args .ch .banks) ≡ 32
 long c = search (length-of-map, c .good .0)
@@ -21,42 +14,45 @@ long c = search (length-of-map, c .good .0)
 view-of-requires : tie.Need-view-of-requires
 view-of-requires c κs = search needs
 
--- src/steps.rt:154:9
 held-of-requires : tie.Need-held-of-requires
 held-of-requires c κs = search needs
 
--- src/steps.rt:158:16
 banks-after-requires : tie.Need-banks-after-requires
 banks-after-requires c κs = search needs
 
--- src/steps.rt:159:15
 pick-at-requires : tie.Need-pick-at-requires
 pick-at-requires c κs = search needs
 
--- src/steps.rt:160:14
 pick-at-requires-2 : tie.Need-pick-at-requires-2
 pick-at-requires-2 c κs = search needs
 
--- src/steps.rt:161:14
 pick-at-requires-3 : tie.Need-pick-at-requires-3
 pick-at-requires-3 c κs = search needs
 
--- src/steps.rt:162:14
 pick-at-requires-4 : tie.Need-pick-at-requires-4
 pick-at-requires-4 c κs = search needs
 
--- src/steps.rt:163:13
 pick-at-requires-5 : tie.Need-pick-at-requires-5
 pick-at-requires-5 c κs = search needs
 
--- src/steps.rt:164:17
 buffer-after-requires : tie.Need-buffer-after-requires
 buffer-after-requires c κs = search needs
 
--- src/steps.rt:149:1
 returns : tie.Need-returns
 unfolding withBanks
-returns c = rw (c .buffer-after .ensures, c .before .pick-at5 .ensures, c .before .before .pick-at4 .ensures, c .before .before .before .pick-at3 .ensures, c .before .before .before .before .pick-at2 .ensures, c .before .before .before .before .before .pick-at .ensures, c .before .before .before .before .before .before .banks-after .ensures, c .before .before .before .before .before .before .before .before .held-of .ensures, c .before .before .before .before .before .before .before .before .before .view-of .ensures) (let a = c .before .before .before .before .before .before .before .before .before .before .args in after-is (a .ch) (long (c .before .before .before .before .before .before .before .before .before .before)) (a .r))
+returns c =
+    rw (
+      c .buffer-after .ensures,
+      c .before .pick-at5 .ensures,
+      c .before .before .pick-at4 .ensures,
+      c .before .before .before .pick-at3 .ensures,
+      c .before .before .before .before .pick-at2 .ensures,
+      c .before .before .before .before .before .pick-at .ensures,
+      c .before .before .before .before .before .before .banks-after .ensures,
+      c .before .before .before .before .before .before .before .before .held-of .ensures,
+      c .before .before .before .before .before .before .before .before .before .view-of .ensures,
+    )
+    (let z = c .before .before .before .before .before .before .before .before .before .before in after-is (z .args .ch) (long z) (z .args .r))
 
 pub next-spec : {M : Type 1} → statement M
 next-spec =

@@ -3,32 +3,24 @@ use Rattle.channel.specs.Channel.{settled}
 use borrow.Author.Needs.{needs}
 use Rattle.channel.proofs.steps.settle.Statement.{statement}
 use Rattle.channel.proofs.steps.settle.Tie as tie
-use Rattle.channel.proofs.steps.settle.Reads as reads
-use Rattle.channel.proofs.steps.settle.Lts as lts
 
--- src/steps.rt:124:26
 enum-told : tie.Need-enum-told
 enum-told c = search needs
 
--- src/steps.rt:125:25
 enum-known-b : tie.Need-enum-known-b
 enum-known-b c = search needs
 
--- src/steps.rt:126:21
 enum-known-b-2 : tie.Need-enum-known-b-2
 enum-known-b-2 c = search needs
 
--- src/steps.rt:120:1
 returns : tie.Need-returns
 unfolding settled
 returns c = rw (c .enum-told .given .1)
 
--- src/steps.rt:120:1
 returns-2 : tie.Need-returns-2
 unfolding settled
 returns-2 c = rw (c .before .b .given .1)
 
--- src/steps.rt:120:1
 returns-3 : tie.Need-returns-3
 unfolding settled
 returns-3 c = rw (c .before .b2 .given .1)

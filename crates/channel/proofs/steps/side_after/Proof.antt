@@ -2,20 +2,13 @@
 use borrow.Author.Needs.{needs}
 use Rattle.channel.proofs.steps.side_after.Statement.{statement}
 use Rattle.channel.proofs.steps.side_after.Tie as tie
-use Rattle.channel.proofs.steps.side_after.Reads as reads
-use Rattle.channel.proofs.steps.side_after.Lts as lts
-use Rattle.channel.proofs.beside.choose.Reads as choose-reads
-use Rattle.channel.proofs.steps.side_next.Reads as side-next-reads
 
--- src/steps.rt:96:20
 side-next-requires : tie.Need-side-next-requires
 side-next-requires c κs = search needs
 
--- src/steps.rt:96:5
 choose-requires : tie.Need-choose-requires
 choose-requires c κs = search needs
 
--- src/steps.rt:93:1
 returns : tie.Need-returns
 returns c = rw (c .choose .ensures, c .before .side-next .ensures)
 

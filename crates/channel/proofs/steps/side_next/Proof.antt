@@ -3,20 +3,13 @@ use Rattle.channel.specs.Steps.{sideNext}
 use borrow.Author.Needs.{needs}
 use Rattle.channel.proofs.steps.side_next.Statement.{statement}
 use Rattle.channel.proofs.steps.side_next.Tie as tie
-use Rattle.channel.proofs.steps.side_next.Reads as reads
-use Rattle.channel.proofs.steps.side_next.Lts as lts
-use Rattle.channel.proofs.steps.pick_at.Reads as pick-at-reads
-use Rattle.channel.proofs.views.is_closed.Reads as is-closed-reads
 
--- src/steps.rt:81:22
 is-closed-requires : tie.Need-is-closed-requires
 is-closed-requires c κs = search needs
 
--- src/steps.rt:81:14
 pick-at-requires : tie.Need-pick-at-requires
 pick-at-requires c κs = search needs
 
--- src/steps.rt:75:1
 returns : tie.Need-returns
 unfolding sideNext
 returns c = rw (c .before .before .before .before .pick-at .ensures, c .before .before .before .before .before .is-closed .ensures)

@@ -3,19 +3,13 @@ use mathlib.Core.Path.{sym, _∙_}
 use borrow.Author.Needs.{needs}
 use Rattle.channel.proofs.steps.spot_of.Statement.{statement}
 use Rattle.channel.proofs.steps.spot_of.Tie as tie
-use Rattle.channel.proofs.steps.spot_of.Reads as reads
-use Rattle.channel.proofs.steps.spot_of.Lts as lts
-use Rattle.num.proofs.both.Reads as both-reads
 
--- src/steps.rt:43:8
 both-requires : tie.Need-both-requires
 both-requires c κs = search needs
 
--- src/steps.rt:40:1
 returns : tie.Need-returns
 returns c = rw (sym (c .before .both .ensures) ∙ c .if1 .taken)
 
--- src/steps.rt:40:1
 returns-2 : tie.Need-returns-2
 returns-2 c = rw (sym (c .before .both .ensures) ∙ c .if1 .left)
 

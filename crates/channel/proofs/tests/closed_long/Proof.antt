@@ -3,20 +3,13 @@ use Rattle.channel.specs.Tests.{test7}
 use borrow.Author.Needs.{needs}
 use Rattle.channel.proofs.tests.closed_long.Statement.{statement}
 use Rattle.channel.proofs.tests.closed_long.Tie as tie
-use Rattle.channel.proofs.tests.closed_long.Reads as reads
-use Rattle.channel.proofs.tests.closed_long.Lts as lts
-use Rattle.channel.proofs.bounds.after_three.Reads as after-three-reads
-use Rattle.channel.proofs.bounds.keeps.Reads as keeps-reads
 
--- src/tests.rt:94:9
 after-three-requires : tie.Need-after-three-requires
 after-three-requires c κs = search needs
 
--- src/tests.rt:92:5
 keeps-requires : tie.Need-keeps-requires
 keeps-requires c κs = search needs
 
--- src/tests.rt:89:1
 returns : tie.Need-returns
 unfolding test7
 returns c = rw (c .keeps .ensures, c .before .after-three .ensures)

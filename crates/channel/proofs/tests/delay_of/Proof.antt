@@ -2,18 +2,13 @@
 use borrow.Author.Needs.{needs}
 use Rattle.channel.proofs.tests.delay_of.Statement.{statement}
 use Rattle.channel.proofs.tests.delay_of.Tie as tie
-use Rattle.channel.proofs.tests.delay_of.Reads as reads
-use Rattle.channel.proofs.tests.delay_of.Lts as lts
 
--- src/tests.rt:24:9
 returns : tie.Need-returns
 returns c = rw (c .if1 .taken)
 
--- src/tests.rt:27:9
 returns-2 : tie.Need-returns-2
 returns-2 c = rw (c .if2 .taken, c .before .if1 .left)
 
--- src/tests.rt:20:1
 returns-3 : tie.Need-returns-3
 returns-3 c = rw (c .if2 .left, c .before .if1 .left)
 

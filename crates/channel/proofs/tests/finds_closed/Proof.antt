@@ -3,40 +3,36 @@ use Rattle.channel.specs.Tests.{test4}
 use borrow.Author.Needs.{needs}
 use Rattle.channel.proofs.tests.finds_closed.Statement.{statement}
 use Rattle.channel.proofs.tests.finds_closed.Tie as tie
-use Rattle.channel.proofs.tests.finds_closed.Reads as reads
-use Rattle.channel.proofs.tests.finds_closed.Lts as lts
-use Rattle.channel.proofs.views.implies.Reads as implies-reads
-use Rattle.channel.proofs.views.is_closed.Reads as is-closed-reads
-use Rattle.num.proofs.both.Reads as both-reads
 
--- src/tests.rt:66:27
 is-closed-requires : tie.Need-is-closed-requires
 is-closed-requires c κs = search needs
 
--- src/tests.rt:66:43
 is-closed-requires-2 : tie.Need-is-closed-requires-2
 is-closed-requires-2 c κs = search needs
 
--- src/tests.rt:66:9
 both-requires : tie.Need-both-requires
 both-requires c κs = search needs
 
--- src/tests.rt:67:32
 is-closed-requires-3 : tie.Need-is-closed-requires-3
 is-closed-requires-3 c κs = search needs
 
--- src/tests.rt:67:22
 both-requires-2 : tie.Need-both-requires-2
 both-requires-2 c κs = search needs
 
--- src/tests.rt:67:5
 implies-requires : tie.Need-implies-requires
 implies-requires c κs = search needs
 
--- src/tests.rt:60:1
 returns : tie.Need-returns
 unfolding test4
-returns c = rw (c .implies .ensures, c .before .both2 .ensures, c .before .before .is-closed3 .ensures, c .before .before .before .both .ensures, c .before .before .before .before .is-closed2 .ensures, c .before .before .before .before .before .is-closed .ensures)
+returns c =
+    rw (
+      c .implies .ensures,
+      c .before .both2 .ensures,
+      c .before .before .is-closed3 .ensures,
+      c .before .before .before .both .ensures,
+      c .before .before .before .before .is-closed2 .ensures,
+      c .before .before .before .before .before .is-closed .ensures,
+    )
 
 pub finds-closed-spec : {M : Type 1} → statement M
 finds-closed-spec =

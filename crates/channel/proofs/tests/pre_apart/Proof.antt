@@ -3,20 +3,13 @@ use Rattle.channel.specs.Tests.{test8}
 use borrow.Author.Needs.{needs}
 use Rattle.channel.proofs.tests.pre_apart.Statement.{statement}
 use Rattle.channel.proofs.tests.pre_apart.Tie as tie
-use Rattle.channel.proofs.tests.pre_apart.Reads as reads
-use Rattle.channel.proofs.tests.pre_apart.Lts as lts
-use Rattle.channel.proofs.bounds.after_gap.Reads as after-gap-reads
-use Rattle.channel.proofs.bounds.keeps.Reads as keeps-reads
 
--- src/tests.rt:103:25
 after-gap-requires : tie.Need-after-gap-requires
 after-gap-requires c κs = search needs
 
--- src/tests.rt:103:5
 keeps-requires : tie.Need-keeps-requires
 keeps-requires c κs = search needs
 
--- src/tests.rt:100:1
 returns : tie.Need-returns
 unfolding test8
 returns c = rw (c .keeps .ensures, c .before .after-gap .ensures)

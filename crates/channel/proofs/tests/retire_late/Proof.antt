@@ -3,40 +3,35 @@ use Rattle.channel.specs.Tests.{test12}
 use borrow.Author.Needs.{needs}
 use Rattle.channel.proofs.tests.retire_late.Statement.{statement}
 use Rattle.channel.proofs.tests.retire_late.Tie as tie
-use Rattle.channel.proofs.tests.retire_late.Reads as reads
-use Rattle.channel.proofs.tests.retire_late.Lts as lts
-use Rattle.channel.proofs.views.implies.Reads as implies-reads
-use Rattle.num.proofs.both.Reads as both-reads
-use Rattle.num.proofs.wide32.Reads as wide32-reads
 
--- src/tests.rt:151:17
 wide32-requires : tie.Need-wide32-requires
 wide32-requires c κs = search needs
 
--- src/tests.rt:151:37
 wide32-requires-2 : tie.Need-wide32-requires-2
 wide32-requires-2 c κs = search needs
 
--- src/tests.rt:151:17
 add-least : tie.Need-add-least
 add-least c = search needs
 
--- src/tests.rt:152:13
 both-requires : tie.Need-both-requires
 both-requires c κs = search needs
 
--- src/tests.rt:152:53
 wide32-requires-3 : tie.Need-wide32-requires-3
 wide32-requires-3 c κs = search needs
 
--- src/tests.rt:152:5
 implies-requires : tie.Need-implies-requires
 implies-requires c κs = search needs
 
--- src/tests.rt:148:1
 returns : tie.Need-returns
 unfolding test12
-returns c = rw (c .implies .ensures, c .before .wide323 .ensures .0, c .before .before .both .ensures, c .before .before .before .wide322 .ensures .0, c .before .before .before .before .wide32 .ensures .0)
+returns c =
+    rw (
+      c .implies .ensures,
+      c .before .wide323 .ensures .0,
+      c .before .before .both .ensures,
+      c .before .before .before .wide322 .ensures .0,
+      c .before .before .before .before .wide32 .ensures .0,
+    )
 
 pub retire-late-spec : {M : Type 1} → statement M
 retire-late-spec =

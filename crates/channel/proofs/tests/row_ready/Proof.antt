@@ -3,67 +3,60 @@ use Rattle.channel.specs.Tests.{test10}
 use borrow.Author.Needs.{needs}
 use Rattle.channel.proofs.tests.row_ready.Statement.{statement}
 use Rattle.channel.proofs.tests.row_ready.Tie as tie
-use Rattle.channel.proofs.tests.row_ready.Reads as reads
-use Rattle.channel.proofs.tests.row_ready.Lts as lts
-use Rattle.channel.proofs.bounds.after_gap.Reads as after-gap-reads
-use Rattle.channel.proofs.bounds.keeps.Reads as keeps-reads
-use Rattle.channel.proofs.bounds.minus.Reads as minus-reads
-use Rattle.channel.proofs.bounds.since_wide.Reads as since-wide-reads
-use Rattle.num.proofs.both.Reads as both-reads
-use Rattle.num.proofs.wide32.Reads as wide32-reads
 
--- src/tests.rt:126:9
 both-requires : tie.Need-both-requires
 both-requires c κs = search needs
 
--- src/tests.rt:127:9
 after-gap-requires : tie.Need-after-gap-requires
 after-gap-requires c κs = search needs
 
--- src/tests.rt:125:9
 keeps-requires : tie.Need-keeps-requires
 keeps-requires c κs = search needs
 
--- src/tests.rt:130:23
 wide32-requires : tie.Need-wide32-requires
 wide32-requires c κs = search needs
 
--- src/tests.rt:130:43
 wide32-requires-2 : tie.Need-wide32-requires-2
 wide32-requires-2 c κs = search needs
 
--- src/tests.rt:130:9
 minus-requires : tie.Need-minus-requires
 minus-requires c κs = search needs
 
--- src/tests.rt:131:33
 since-wide-requires : tie.Need-since-wide-requires
 since-wide-requires c κs = search needs
 
--- src/tests.rt:131:9
 keeps-requires-2 : tie.Need-keeps-requires-2
 keeps-requires-2 c κs = search needs
 
--- src/tests.rt:133:24
 after-gap-requires-2 : tie.Need-after-gap-requires-2
 after-gap-requires-2 c κs = search needs
 
--- src/tests.rt:133:9
 keeps-requires-3 : tie.Need-keeps-requires-3
 keeps-requires-3 c κs = search needs
 
--- src/tests.rt:134:9
 both-requires-2 : tie.Need-both-requires-2
 both-requires-2 c κs = search needs
 
--- src/tests.rt:132:5
 both-requires-3 : tie.Need-both-requires-3
 both-requires-3 c κs = search needs
 
--- src/tests.rt:121:1
 returns : tie.Need-returns
 unfolding test10
-returns c = rw (c .both3 .ensures, c .before .both2 .ensures, c .before .before .keeps3 .ensures, c .before .before .before .after-gap2 .ensures, c .before .before .before .before .keeps2 .ensures, c .before .before .before .before .before .since-wide .ensures, c .before .before .before .before .before .before .minus .ensures, c .before .before .before .before .before .before .before .wide322 .ensures .0, c .before .before .before .before .before .before .before .before .wide32 .ensures .0, c .before .before .before .before .before .before .before .before .before .keeps .ensures, c .before .before .before .before .before .before .before .before .before .before .after-gap .ensures, c .before .before .before .before .before .before .before .before .before .before .before .both .ensures)
+returns c =
+    rw (
+      c .both3 .ensures,
+      c .before .both2 .ensures,
+      c .before .before .keeps3 .ensures,
+      c .before .before .before .after-gap2 .ensures,
+      c .before .before .before .before .keeps2 .ensures,
+      c .before .before .before .before .before .since-wide .ensures,
+      c .before .before .before .before .before .before .minus .ensures,
+      c .before .before .before .before .before .before .before .wide322 .ensures .0,
+      c .before .before .before .before .before .before .before .before .wide32 .ensures .0,
+      c .before .before .before .before .before .before .before .before .before .keeps .ensures,
+      c .before .before .before .before .before .before .before .before .before .before .after-gap .ensures,
+      c .before .before .before .before .before .before .before .before .before .before .before .both .ensures,
+    )
 
 pub row-ready-spec : {M : Type 1} → statement M
 row-ready-spec =

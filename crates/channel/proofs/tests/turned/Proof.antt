@@ -3,45 +3,39 @@ use Rattle.channel.specs.Tests.{test11}
 use borrow.Author.Needs.{needs}
 use Rattle.channel.proofs.tests.turned.Statement.{statement}
 use Rattle.channel.proofs.tests.turned.Tie as tie
-use Rattle.channel.proofs.tests.turned.Reads as reads
-use Rattle.channel.proofs.tests.turned.Lts as lts
-use Rattle.channel.proofs.bounds.keeps.Reads as keeps-reads
-use Rattle.channel.proofs.bounds.minus.Reads as minus-reads
-use Rattle.channel.proofs.bounds.since_wide.Reads as since-wide-reads
-use Rattle.num.proofs.wide32.Reads as wide32-reads
 
--- src/tests.rt:142:15
 wide32-requires : tie.Need-wide32-requires
 wide32-requires c κs = search needs
 
--- src/tests.rt:142:35
 wide32-requires-2 : tie.Need-wide32-requires-2
 wide32-requires-2 c κs = search needs
 
--- src/tests.rt:142:15
 add-sum : tie.Need-add-sum
 add-sum c = search needs
 
--- src/tests.rt:143:26
 wide32-requires-3 : tie.Need-wide32-requires-3
 wide32-requires-3 c κs = search needs
 
--- src/tests.rt:143:9
 minus-requires : tie.Need-minus-requires
 minus-requires c κs = search needs
 
--- src/tests.rt:144:21
 since-wide-requires : tie.Need-since-wide-requires
 since-wide-requires c κs = search needs
 
--- src/tests.rt:144:5
 keeps-requires : tie.Need-keeps-requires
 keeps-requires c κs = search needs
 
--- src/tests.rt:139:1
 returns : tie.Need-returns
 unfolding test11
-returns c = rw (c .keeps .ensures, c .before .since-wide .ensures, c .before .before .minus .ensures, c .before .before .before .wide323 .ensures .0, c .before .before .before .before .wide322 .ensures .0, c .before .before .before .before .before .wide32 .ensures .0)
+returns c =
+    rw (
+      c .keeps .ensures,
+      c .before .since-wide .ensures,
+      c .before .before .minus .ensures,
+      c .before .before .before .wide323 .ensures .0,
+      c .before .before .before .before .wide322 .ensures .0,
+      c .before .before .before .before .before .wide32 .ensures .0,
+    )
 
 pub turned-spec : {M : Type 1} → statement M
 turned-spec =

@@ -3,37 +3,32 @@ use Rattle.channel.specs.Tests.{test14}
 use borrow.Author.Needs.{needs}
 use Rattle.channel.proofs.tests.write_safe.Statement.{statement}
 use Rattle.channel.proofs.tests.write_safe.Tie as tie
-use Rattle.channel.proofs.tests.write_safe.Reads as reads
-use Rattle.channel.proofs.tests.write_safe.Lts as lts
-use Rattle.channel.proofs.beside.is_near.Reads as is-near-reads
-use Rattle.channel.proofs.views.implies.Reads as implies-reads
-use Rattle.channel.proofs.views.is_closed.Reads as is-closed-reads
-use Rattle.num.proofs.both.Reads as both-reads
 
--- src/tests.rt:172:43
 is-near-requires : tie.Need-is-near-requires
 is-near-requires c κs = search needs
 
--- src/tests.rt:172:9
 both-requires : tie.Need-both-requires
 both-requires c κs = search needs
 
--- src/tests.rt:173:13
 both-requires-2 : tie.Need-both-requires-2
 both-requires-2 c κs = search needs
 
--- src/tests.rt:173:42
 is-closed-requires : tie.Need-is-closed-requires
 is-closed-requires c κs = search needs
 
--- src/tests.rt:173:5
 implies-requires : tie.Need-implies-requires
 implies-requires c κs = search needs
 
--- src/tests.rt:168:1
 returns : tie.Need-returns
 unfolding test14
-returns c = rw (c .implies .ensures, c .before .is-closed .ensures, c .before .before .both2 .ensures, c .before .before .before .both .ensures, c .before .before .before .before .is-near .ensures)
+returns c =
+    rw (
+      c .implies .ensures,
+      c .before .is-closed .ensures,
+      c .before .before .both2 .ensures,
+      c .before .before .before .both .ensures,
+      c .before .before .before .before .is-near .ensures,
+    )
 
 pub write-safe-spec : {M : Type 1} → statement M
 write-safe-spec =

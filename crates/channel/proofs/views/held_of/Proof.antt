@@ -3,32 +3,24 @@ use Rattle.channel.specs.View.{heldOf}
 use borrow.Author.Needs.{needs}
 use Rattle.channel.proofs.views.held_of.Statement.{statement}
 use Rattle.channel.proofs.views.held_of.Tie as tie
-use Rattle.channel.proofs.views.held_of.Reads as reads
-use Rattle.channel.proofs.views.held_of.Lts as lts
 
--- src/views.rt:120:26
 enum-told : tie.Need-enum-told
 enum-told c = search needs
 
--- src/views.rt:126:25
 enum-known-b : tie.Need-enum-known-b
 enum-known-b c = search needs
 
--- src/views.rt:132:21
 enum-known-b-2 : tie.Need-enum-known-b-2
 enum-known-b-2 c = search needs
 
--- src/views.rt:116:1
 returns : tie.Need-returns
 unfolding heldOf
 returns c = rw (c .enum-told .given .1)
 
--- src/views.rt:116:1
 returns-2 : tie.Need-returns-2
 unfolding heldOf
 returns-2 c = rw (c .before .b .given .1)
 
--- src/views.rt:116:1
 returns-3 : tie.Need-returns-3
 unfolding heldOf
 returns-3 c = rw (c .before .b2 .given .1)

@@ -3,32 +3,24 @@ use Rattle.channel.specs.History.{isClosed}
 use borrow.Author.Needs.{needs}
 use Rattle.channel.proofs.views.is_closed.Statement.{statement}
 use Rattle.channel.proofs.views.is_closed.Tie as tie
-use Rattle.channel.proofs.views.is_closed.Reads as reads
-use Rattle.channel.proofs.views.is_closed.Lts as lts
 
--- src/views.rt:147:25
 enum-told : tie.Need-enum-told
 enum-told c = search needs
 
--- src/views.rt:148:26
 enum-told-2 : tie.Need-enum-told-2
 enum-told-2 c = search needs
 
--- src/views.rt:149:26
 enum-told-3 : tie.Need-enum-told-3
 enum-told-3 c = search needs
 
--- src/views.rt:142:1
 returns : tie.Need-returns
 unfolding isClosed
 returns c = rw (c .enum-told .given .1)
 
--- src/views.rt:142:1
 returns-2 : tie.Need-returns-2
 unfolding isClosed
 returns-2 c = rw (c .enum-told2 .given .1)
 
--- src/views.rt:142:1
 returns-3 : tie.Need-returns-3
 unfolding isClosed
 returns-3 c = rw (c .enum-told3 .given .1)

@@ -3,32 +3,24 @@ use Rattle.channel.specs.History.{isOpen}
 use borrow.Author.Needs.{needs}
 use Rattle.channel.proofs.views.is_open.Statement.{statement}
 use Rattle.channel.proofs.views.is_open.Tie as tie
-use Rattle.channel.proofs.views.is_open.Reads as reads
-use Rattle.channel.proofs.views.is_open.Lts as lts
 
--- src/views.rt:158:25
 enum-told : tie.Need-enum-told
 enum-told c = search needs
 
--- src/views.rt:159:26
 enum-told-2 : tie.Need-enum-told-2
 enum-told-2 c = search needs
 
--- src/views.rt:160:26
 enum-told-3 : tie.Need-enum-told-3
 enum-told-3 c = search needs
 
--- src/views.rt:153:1
 returns : tie.Need-returns
 unfolding isOpen
 returns c = rw (c .enum-told .given .1)
 
--- src/views.rt:153:1
 returns-2 : tie.Need-returns-2
 unfolding isOpen
 returns-2 c = rw (c .enum-told2 .given .1)
 
--- src/views.rt:153:1
 returns-3 : tie.Need-returns-3
 unfolding isOpen
 returns-3 c = rw (c .enum-told3 .given .1)

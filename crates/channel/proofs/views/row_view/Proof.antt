@@ -3,46 +3,34 @@ use Rattle.channel.specs.View.{rowView}
 use borrow.Author.Needs.{needs}
 use Rattle.channel.proofs.views.row_view.Statement.{statement}
 use Rattle.channel.proofs.views.row_view.Tie as tie
-use Rattle.channel.proofs.views.row_view.Reads as reads
-use Rattle.channel.proofs.views.row_view.Lts as lts
-use Rattle.channel.proofs.views.data_view.Reads as data-view-reads
 
--- src/views.rt:43:11
 data-view-requires : tie.Need-data-view-requires
 data-view-requires c κs = search needs
 
--- src/views.rt:46:26
 enum-known-p : tie.Need-enum-known-p
 enum-known-p c = search needs
 
--- src/views.rt:53:27
 enum-known-p-2 : tie.Need-enum-known-p-2
 enum-known-p-2 c = search needs
 
--- src/views.rt:58:27
 enum-known-p-3 : tie.Need-enum-known-p-3
 enum-known-p-3 c = search needs
 
--- src/views.rt:64:27
 enum-known-p-4 : tie.Need-enum-known-p-4
 enum-known-p-4 c = search needs
 
--- src/views.rt:37:1
 returns : tie.Need-returns
 unfolding rowView
 returns c = rw (c .before .p .given .1, c .before .before .before .data-view .ensures)
 
--- src/views.rt:37:1
 returns-2 : tie.Need-returns-2
 unfolding rowView
 returns-2 c = rw (c .before .p2 .given .1, c .before .before .before .data-view .ensures)
 
--- src/views.rt:37:1
 returns-3 : tie.Need-returns-3
 unfolding rowView
 returns-3 c = rw (c .before .p3 .given .1, c .before .before .before .data-view .ensures)
 
--- src/views.rt:37:1
 returns-4 : tie.Need-returns-4
 unfolding rowView
 returns-4 c = rw (c .before .p4 .given .1, c .before .before .before .data-view .ensures)

@@ -3,47 +3,33 @@ use Rattle.channel.specs.View.{viewOf}
 use borrow.Author.Needs.{needs}
 use Rattle.channel.proofs.views.view_of.Statement.{statement}
 use Rattle.channel.proofs.views.view_of.Tie as tie
-use Rattle.channel.proofs.views.view_of.Reads as reads
-use Rattle.channel.proofs.views.view_of.Lts as lts
-use Rattle.channel.proofs.views.col_view.Reads as col-view-reads
-use Rattle.channel.proofs.views.data_view.Reads as data-view-reads
-use Rattle.channel.proofs.views.row_view.Reads as row-view-reads
 
--- src/views.rt:109:23
 enum-known-r : tie.Need-enum-known-r
 enum-known-r c = search needs
 
--- src/views.rt:109:32
 row-view-requires : tie.Need-row-view-requires
 row-view-requires c κs = search needs
 
--- src/views.rt:110:23
 enum-known-r-2 : tie.Need-enum-known-r-2
 enum-known-r-2 c = search needs
 
--- src/views.rt:110:32
 col-view-requires : tie.Need-col-view-requires
 col-view-requires c κs = search needs
 
--- src/views.rt:111:24
 enum-known-r-3 : tie.Need-enum-known-r-3
 enum-known-r-3 c = search needs
 
--- src/views.rt:111:33
 data-view-requires : tie.Need-data-view-requires
 data-view-requires c κs = search needs
 
--- src/views.rt:105:1
 returns : tie.Need-returns
 unfolding viewOf
 returns c = rw (c .before .before .r .given .1) (c .row-view .ensures)
 
--- src/views.rt:105:1
 returns-2 : tie.Need-returns-2
 unfolding viewOf
 returns-2 c = rw (c .before .before .r2 .given .1) (c .col-view .ensures)
 
--- src/views.rt:105:1
 returns-3 : tie.Need-returns-3
 unfolding viewOf
 returns-3 c = rw (c .before .before .r3 .given .1) (c .data-view .ensures)
