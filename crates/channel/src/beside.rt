@@ -11,7 +11,7 @@ use crate::BankTrack;
 use settings::PacketAt;
 
 // Whether bank x is bank b or a neighbour of it.
-pub fn is_near(b: u32, x: u32) -> bool
+pub(crate) fn is_near(b: u32, x: u32) -> bool
     ensures { λ r. ⌜ r ≡ near split b x ⌝ }
 {
     let above = num::wide32(b) + 1 == num::wide32(x);
@@ -42,14 +42,14 @@ pub fn slot_of(b: u32) -> usize
 }
 
 // One of two tracks.
-pub fn choose(first: bool, a: BankTrack, b: BankTrack) -> BankTrack
+pub(crate) fn choose(first: bool, a: BankTrack, b: BankTrack) -> BankTrack
     ensures { λ r. ⌜ r ≡ cond first a b ⌝ }
 {
     if first { a } else { b }
 }
 
 // A bank that nothing was sent to.
-pub fn unused() -> BankTrack
+pub(crate) fn unused() -> BankTrack
     ensures { λ r. ⌜ r ≡ idle ⌝ }
 {
     let never = PacketAt(0);
@@ -64,7 +64,7 @@ pub fn unused() -> BankTrack
 }
 
 // The track at the index of bank b where there is such a bank, or else idle.
-pub fn track_of(b: u32, t: BankTrack) -> BankTrack
+pub(crate) fn track_of(b: u32, t: BankTrack) -> BankTrack
     ensures { λ r. ⌜ r ≡ heldAt b t ⌝ }
 {
     if b < 32 { t } else { unused() }

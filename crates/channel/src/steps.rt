@@ -97,7 +97,7 @@ pub fn side_after(v: View, x: u32, k: BankTrack) -> BankTrack
 }
 
 // The banks after a record: at most three change.
-pub fn banks_after(v: View, h: Held, banks: [BankTrack; 32]) -> [BankTrack; 32]
+pub(crate) fn banks_after(v: View, h: Held, banks: [BankTrack; 32]) -> [BankTrack; 32]
     ensures { λ r. ⌜ r ≡ banksNext v h banks ⌝ }
 {
     let mut next = banks;

@@ -30,7 +30,7 @@ fn delay_of(s: Settings, v: View) -> u32
 }
 
 // Rule 1: instants are in range and never fall.
-pub fn in_order(s: Settings, v: View, last: u32) -> bool
+pub(crate) fn in_order(s: Settings, v: View, last: u32) -> bool
     ensures { λ r. ⌜ r ≡ test1 s v last ⌝ }
 {
     let at = v.at;
@@ -43,21 +43,21 @@ pub fn in_order(s: Settings, v: View, last: u32) -> bool
 }
 
 // Rule 2: ROW to ROW.
-pub fn row_apart(v: View, row: u32) -> bool
+pub(crate) fn row_apart(v: View, row: u32) -> bool
     ensures { λ r. ⌜ r ≡ test2 v row ⌝ }
 {
     keeps(v.row, after_gap(row, 4), v.at)
 }
 
 // Rule 3: COL to COL.
-pub fn col_apart(s: Settings, v: View, col: u32) -> bool
+pub(crate) fn col_apart(s: Settings, v: View, col: u32) -> bool
     ensures { λ r. ⌜ r ≡ test3 s v col ⌝ }
 {
     keeps(v.col, after_gap(col, s.cc), v.at)
 }
 
 // Rule 4: an ACT finds its bank and the neighbours closed.
-pub fn finds_closed(v: View, k: Tracks) -> bool
+pub(crate) fn finds_closed(v: View, k: Tracks) -> bool
     ensures { λ r. ⌜ r ≡ test4 v k ⌝ }
 {
     let own = k.own;
@@ -68,14 +68,14 @@ pub fn finds_closed(v: View, k: Tracks) -> bool
 }
 
 // Rule 5: ACT to ACT.
-pub fn act_apart(v: View, act: u64) -> bool
+pub(crate) fn act_apart(v: View, act: u64) -> bool
     ensures { λ r. ⌜ r ≡ test5 v act ⌝ }
 {
     keeps(v.opens, act, v.at)
 }
 
 // Rule 6: ACT to PRER.
-pub fn open_long(s: Settings, v: View, k: Tracks) -> bool
+pub(crate) fn open_long(s: Settings, v: View, k: Tracks) -> bool
     ensures { λ r. ⌜ r ≡ test6 s v k ⌝ }
 {
     keeps(
@@ -86,7 +86,7 @@ pub fn open_long(s: Settings, v: View, k: Tracks) -> bool
 }
 
 // Rule 7: PRER to ACT.
-pub fn closed_long(s: Settings, v: View, k: Tracks) -> bool
+pub(crate) fn closed_long(s: Settings, v: View, k: Tracks) -> bool
     ensures { λ r. ⌜ r ≡ test7 s v k ⌝ }
 {
     keeps(
@@ -97,14 +97,14 @@ pub fn closed_long(s: Settings, v: View, k: Tracks) -> bool
 }
 
 // Rule 8: PRER to PRER.
-pub fn pre_apart(s: Settings, v: View, pre: u32) -> bool
+pub(crate) fn pre_apart(s: Settings, v: View, pre: u32) -> bool
     ensures { λ r. ⌜ r ≡ test8 s v pre ⌝ }
 {
     keeps(v.precharges, after_gap(pre, s.pp), v.at)
 }
 
 // Rule 9: RD, WR and a retire find their bank open.
-pub fn finds_open(v: View, h: Held, k: Tracks) -> bool
+pub(crate) fn finds_open(v: View, h: Held, k: Tracks) -> bool
     ensures { λ r. ⌜ r ≡ test9 v h k ⌝ }
 {
     let own = k.own;
@@ -118,7 +118,7 @@ pub fn finds_open(v: View, h: Held, k: Tracks) -> bool
 }
 
 // Rule 10: ACT to RD, retire and WR.
-pub fn row_ready(s: Settings, v: View, h: Held, k: Tracks) -> bool
+pub(crate) fn row_ready(s: Settings, v: View, h: Held, k: Tracks) -> bool
     ensures { λ r. ⌜ r ≡ test10 s v h k ⌝ }
 {
     let act = k.own.act.0;
@@ -136,7 +136,7 @@ pub fn row_ready(s: Settings, v: View, h: Held, k: Tracks) -> bool
 }
 
 // Rule 11: RD to WR.
-pub fn turned(s: Settings, v: View, rd: u32) -> bool
+pub(crate) fn turned(s: Settings, v: View, rd: u32) -> bool
     ensures { λ r. ⌜ r ≡ test11 s v rd ⌝ }
 {
     let sum = num::wide32(s.cc) + num::wide32(s.cac);
@@ -145,7 +145,7 @@ pub fn turned(s: Settings, v: View, rd: u32) -> bool
 }
 
 // Rule 12: WR to its retire.
-pub fn retire_late(s: Settings, v: View, h: Held) -> bool
+pub(crate) fn retire_late(s: Settings, v: View, h: Held) -> bool
     ensures { λ r. ⌜ r ≡ test12 s v h ⌝ }
 {
     let least = num::wide32(h.at) + num::wide32(s.rtr);
@@ -153,7 +153,7 @@ pub fn retire_late(s: Settings, v: View, h: Held) -> bool
 }
 
 // Rule 13: RD and retire to PRER.
-pub fn columns_done(s: Settings, v: View, k: Tracks) -> bool
+pub(crate) fn columns_done(s: Settings, v: View, k: Tracks) -> bool
     ensures { λ r. ⌜ r ≡ test13 s v k ⌝ }
 {
     let read = after_three(k.own.rd.0, k.low.rd.0, k.high.rd.0, s.rdp);
@@ -165,7 +165,7 @@ pub fn columns_done(s: Settings, v: View, k: Tracks) -> bool
 }
 
 // Rule 14: a PRER does not close the bank of a waiting write.
-pub fn write_safe(v: View, h: Held, k: Tracks) -> bool
+pub(crate) fn write_safe(v: View, h: Held, k: Tracks) -> bool
     ensures { λ r. ⌜ r ≡ test14 v h k ⌝ }
 {
     let held = k.held;
@@ -174,7 +174,7 @@ pub fn write_safe(v: View, h: Held, k: Tracks) -> bool
 }
 
 // Rule 15: data follow their WR, and stand nowhere else.
-pub fn data_right(s: Settings, v: View, h: Held) -> bool
+pub(crate) fn data_right(s: Settings, v: View, h: Held) -> bool
     ensures { λ r. ⌜ r ≡ test15 s v h ⌝ }
 {
     let due = num::wide32(h.at) + num::wide32(s.cwd);
@@ -185,7 +185,7 @@ pub fn data_right(s: Settings, v: View, h: Held) -> bool
 }
 
 // Rule 16: M = 1 only on a retiring packet.
-pub fn mask_right(v: View, h: Held) -> bool
+pub(crate) fn mask_right(v: View, h: Held) -> bool
     ensures { λ r. ⌜ r ≡ test16 v h ⌝ }
 {
     implies(v.masked, num::both(v.retires, h.waits))

@@ -139,7 +139,7 @@ pub fn held_of(b: Buffer) -> Held
     }
 }
 
-pub fn is_closed(t: BankTrack) -> bool
+pub(crate) fn is_closed(t: BankTrack) -> bool
     ensures { λ r. ⌜ r ≡ isClosed (t .bank) ⌝ }
 {
     let b = t.bank;
@@ -150,7 +150,7 @@ pub fn is_closed(t: BankTrack) -> bool
     }
 }
 
-pub fn is_open(t: BankTrack) -> bool
+pub(crate) fn is_open(t: BankTrack) -> bool
     ensures { λ r. ⌜ r ≡ isOpen (t .bank) ⌝ }
 {
     let b = t.bank;
@@ -162,7 +162,7 @@ pub fn is_open(t: BankTrack) -> bool
 }
 
 // Whether the second holds where the first does.
-pub fn implies(a: bool, b: bool) -> bool
+pub(crate) fn implies(a: bool, b: bool) -> bool
     ensures { λ r. ⌜ r ≡ (not a || b) ⌝ }
 {
     if a { b } else { true }

@@ -33,7 +33,16 @@ either-requires-2 c κs = search needs
 
 returns : tie.Need-returns
 unfolding split
-returns c = rw (c .either2 .ensures, c .before .both .ensures, c .before .before .either .ensures, c .before .before .before .wide324 .ensures .0, c .before .before .before .before .wide323 .ensures .0, c .before .before .before .before .before .wide322 .ensures .0, c .before .before .before .before .before .before .wide32 .ensures .0)
+returns c =
+    rw (
+      c .either2 .ensures,
+      c .before .both .ensures,
+      c .before .before .either .ensures,
+      c .before .before .before .wide324 .ensures .0,
+      c .before .before .before .before .wide323 .ensures .0,
+      c .before .before .before .before .before .wide322 .ensures .0,
+      c .before .before .before .before .before .before .wide32 .ensures .0,
+    )
 
 pub is-near-spec : {M : Type 1} → statement M
 is-near-spec =

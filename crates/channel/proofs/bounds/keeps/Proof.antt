@@ -1,5 +1,5 @@
-use lib.Dec.{leb·zero}
 -- `channel::bounds::keeps` meets its contract: where the bound applies, the test is its own.
+use lib.Dec.{leb·zero}
 use borrow.Author.Needs.{needs}
 use Rattle.channel.proofs.bounds.keeps.Statement.{statement}
 use Rattle.channel.proofs.bounds.keeps.Tie as tie

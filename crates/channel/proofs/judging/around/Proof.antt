@@ -22,7 +22,15 @@ track-of-requires-4 : tie.Need-track-of-requires-4
 track-of-requires-4 c κs = search needs
 
 returns : tie.Need-returns
-returns c = rw (c .track-of4 .ensures, c .before .track-of3 .ensures, c .before .before .high-of .ensures, c .before .before .before .track-of2 .ensures, c .before .before .before .before .low-of .ensures, c .before .before .before .before .before .track-of .ensures)
+returns c =
+    rw (
+      c .track-of4 .ensures,
+      c .before .track-of3 .ensures,
+      c .before .before .high-of .ensures,
+      c .before .before .before .track-of2 .ensures,
+      c .before .before .before .before .low-of .ensures,
+      c .before .before .before .before .before .track-of .ensures,
+    )
 
 pub around-spec : {M : Type 1} → statement M
 around-spec =

@@ -24,7 +24,15 @@ unless-requires-3 c κs = search needs
 
 returns : tie.Need-returns
 unfolding bufferRules
-returns c = rw (c .unless3 .ensures, c .before .write-safe .ensures, c .before .before .unless2 .ensures, c .before .before .before .data-right .ensures, c .before .before .before .before .unless .ensures, c .before .before .before .before .before .mask-right .ensures)
+returns c =
+    rw (
+      c .unless3 .ensures,
+      c .before .write-safe .ensures,
+      c .before .before .unless2 .ensures,
+      c .before .before .before .data-right .ensures,
+      c .before .before .before .before .unless .ensures,
+      c .before .before .before .before .before .mask-right .ensures,
+    )
 
 pub buffer-rules-spec : {M : Type 1} → statement M
 buffer-rules-spec =

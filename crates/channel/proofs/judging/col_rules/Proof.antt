@@ -36,7 +36,19 @@ unless-requires-5 c κs = search needs
 
 returns : tie.Need-returns
 unfolding colRules
-returns c = rw (c .unless5 .ensures, c .before .finds-open .ensures, c .before .before .unless4 .ensures, c .before .before .before .row-ready .ensures, c .before .before .before .before .unless3 .ensures, c .before .before .before .before .before .turned .ensures, c .before .before .before .before .before .before .unless2 .ensures, c .before .before .before .before .before .before .before .retire-late .ensures, c .before .before .before .before .before .before .before .before .unless .ensures, c .before .before .before .before .before .before .before .before .before .columns-done .ensures)
+returns c =
+    rw (
+      c .unless5 .ensures,
+      c .before .finds-open .ensures,
+      c .before .before .unless4 .ensures,
+      c .before .before .before .row-ready .ensures,
+      c .before .before .before .before .unless3 .ensures,
+      c .before .before .before .before .before .turned .ensures,
+      c .before .before .before .before .before .before .unless2 .ensures,
+      c .before .before .before .before .before .before .before .retire-late .ensures,
+      c .before .before .before .before .before .before .before .before .unless .ensures,
+      c .before .before .before .before .before .before .before .before .before .columns-done .ensures,
+    )
 
 pub col-rules-spec : {M : Type 1} → statement M
 col-rules-spec =

@@ -18,7 +18,13 @@ pin-rules-requires c κs = search needs
 
 returns : tie.Need-returns
 unfolding found
-returns c = rw (c .pin-rules .ensures, c .before .row-rules .ensures, c .before .before .col-rules .ensures, c .before .before .before .buffer-rules .ensures)
+returns c =
+    rw (
+      c .pin-rules .ensures,
+      c .before .row-rules .ensures,
+      c .before .before .col-rules .ensures,
+      c .before .before .before .buffer-rules .ensures,
+    )
 
 pub find-spec : {M : Type 1} → statement M
 find-spec =

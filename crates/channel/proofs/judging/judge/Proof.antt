@@ -67,13 +67,41 @@ find-requires : tie.Need-find-requires
 find-requires c κs = search needs
 
 returns : tie.Need-returns
-returns c = rw (c .find .ensures, c .before .act-bound .ensures, c .before .before .before .before .around .ensures, c .before .before .before .before .before .before .slot-of4 .ensures .0, c .before .before .before .before .before .before .before .before .slot-of3 .ensures .0, c .before .before .before .before .before .before .before .before .before .high-of .ensures, c .before .before .before .before .before .before .before .before .before .before .before .slot-of2 .ensures .0, c .before .before .before .before .before .before .before .before .before .before .before .before .low-of .ensures, c .before .before .before .before .before .before .before .before .before .before .before .before .before .before .slot-of .ensures .0, c .before .before .before .before .before .before .before .before .before .before .before .before .before .before .before .held-of .ensures, c .before .before .before .before .before .before .before .before .before .before .before .before .before .before .before .before .view-of .ensures) (let a = c .before .before .before .before .before .before .before .before .before .before .before .before .before .before .before .before .before .args in judged-by (a .s) (a .t2) (a .r) (long (c .before .before .before .before .before .before .before .before .before .before .before .before .before .before .before .before .before)))
+returns c =
+    rw (
+      c .find .ensures,
+      c .before .act-bound .ensures,
+      c .before .before .before .before .around .ensures,
+      c .before .before .before .before .before .before .slot-of4 .ensures .0,
+      c .before .before .before .before .before .before .before .before .slot-of3 .ensures .0,
+      c .before .before .before .before .before .before .before .before .before .high-of .ensures,
+      c .before .before .before .before .before .before .before .before .before .before .before .slot-of2 .ensures .0,
+      c .before .before .before .before .before .before .before .before .before .before .before .before .low-of .ensures,
+      c .before .before .before .before .before .before .before .before .before .before .before .before .before .before .slot-of .ensures .0,
+      c .before .before .before .before .before .before .before .before .before .before .before .before .before .before .before .held-of .ensures,
+      c .before .before .before .before .before .before .before .before .before .before .before .before .before .before .before .before .view-of .ensures,
+    )
+    (let z = c .before .before .before .before .before .before .before .before .before .before .before .before .before .before .before .before .before in judged-by (z .args .s) (z .args .t2) (z .args .r) (long z))
 
 find-requires-2 : tie.Need-find-requires-2
 find-requires-2 c κs = search needs
 
 returns-2 : tie.Need-returns-2
-returns-2 c = rw (c .find2 .ensures, c .before .before .around .ensures, c .before .before .before .before .slot-of4 .ensures .0, c .before .before .before .before .before .before .slot-of3 .ensures .0, c .before .before .before .before .before .before .before .high-of .ensures, c .before .before .before .before .before .before .before .before .before .slot-of2 .ensures .0, c .before .before .before .before .before .before .before .before .before .before .low-of .ensures, c .before .before .before .before .before .before .before .before .before .before .before .before .slot-of .ensures .0, c .before .before .before .before .before .before .before .before .before .before .before .before .before .held-of .ensures, c .before .before .before .before .before .before .before .before .before .before .before .before .before .before .view-of .ensures) (let a = c .before .before .before .before .before .before .before .before .before .before .before .before .before .before .before .args in judged-closed (a .s) (a .t2) (a .r) (long (c .before .before .before .before .before .before .before .before .before .before .before .before .before .before .before)) (rw (c .before .before .before .before .before .before .before .before .before .before .before .before .before .before .view-of .ensures) at (c .before .if1 .left)))
+returns-2 c =
+    rw (
+      c .find2 .ensures,
+      c .before .before .around .ensures,
+      c .before .before .before .before .slot-of4 .ensures .0,
+      c .before .before .before .before .before .before .slot-of3 .ensures .0,
+      c .before .before .before .before .before .before .before .high-of .ensures,
+      c .before .before .before .before .before .before .before .before .before .slot-of2 .ensures .0,
+      c .before .before .before .before .before .before .before .before .before .before .low-of .ensures,
+      c .before .before .before .before .before .before .before .before .before .before .before .before .slot-of .ensures .0,
+      c .before .before .before .before .before .before .before .before .before .before .before .before .before .held-of .ensures,
+      c .before .before .before .before .before .before .before .before .before .before .before .before .before .before .view-of .ensures,
+    )
+    (let z = c .before .before .before .before .before .before .before .before .before .before .before .before .before .before .before in
+    judged-closed (z .args .s) (z .args .t2) (z .args .r) (long z) (rw (c .before .before .before .before .before .before .before .before .before .before .before .before .before .before .view-of .ensures) at (c .before .if1 .left)))
 
 pub judge-spec : {M : Type 1} → statement M
 judge-spec =

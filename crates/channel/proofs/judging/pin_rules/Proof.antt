@@ -24,7 +24,15 @@ unless-requires-3 c κs = search needs
 
 returns : tie.Need-returns
 unfolding pinRules
-returns c = rw (c .unless3 .ensures, c .before .in-order .ensures, c .before .before .unless2 .ensures, c .before .before .before .row-apart .ensures, c .before .before .before .before .unless .ensures, c .before .before .before .before .before .col-apart .ensures)
+returns c =
+    rw (
+      c .unless3 .ensures,
+      c .before .in-order .ensures,
+      c .before .before .unless2 .ensures,
+      c .before .before .before .row-apart .ensures,
+      c .before .before .before .before .unless .ensures,
+      c .before .before .before .before .before .col-apart .ensures,
+    )
 
 pub pin-rules-spec : {M : Type 1} → statement M
 pin-rules-spec =

@@ -36,7 +36,19 @@ unless-requires-5 c κs = search needs
 
 returns : tie.Need-returns
 unfolding rowRules
-returns c = rw (c .unless5 .ensures, c .before .finds-closed .ensures, c .before .before .unless4 .ensures, c .before .before .before .act-apart .ensures, c .before .before .before .before .unless3 .ensures, c .before .before .before .before .before .open-long .ensures, c .before .before .before .before .before .before .unless2 .ensures, c .before .before .before .before .before .before .before .closed-long .ensures, c .before .before .before .before .before .before .before .before .unless .ensures, c .before .before .before .before .before .before .before .before .before .pre-apart .ensures)
+returns c =
+    rw (
+      c .unless5 .ensures,
+      c .before .finds-closed .ensures,
+      c .before .before .unless4 .ensures,
+      c .before .before .before .act-apart .ensures,
+      c .before .before .before .before .unless3 .ensures,
+      c .before .before .before .before .before .open-long .ensures,
+      c .before .before .before .before .before .before .unless2 .ensures,
+      c .before .before .before .before .before .before .before .closed-long .ensures,
+      c .before .before .before .before .before .before .before .before .unless .ensures,
+      c .before .before .before .before .before .before .before .before .before .pre-apart .ensures,
+    )
 
 pub row-rules-spec : {M : Type 1} → statement M
 row-rules-spec =

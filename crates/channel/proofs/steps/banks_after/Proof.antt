@@ -75,7 +75,20 @@ array-set-from-next-3 c = search needs
 
 returns : tie.Need-returns
 unfolding banksNext
-returns c = rw (c .side-after2 .ensures, c .before .before .slot-of3 .ensures .0, c .before .before .before .side-of2 .ensures, c .before .before .before .before .high-of .ensures, c .before .before .before .before .before .side-after .ensures, c .before .before .before .before .before .before .before .slot-of2 .ensures .0, c .before .before .before .before .before .before .before .before .side-of .ensures, c .before .before .before .before .before .before .before .before .before .low-of .ensures, c .before .before .before .before .before .before .before .before .before .before .own-after .ensures, c .before .before .before .before .before .before .before .before .before .before .before .before .slot-of .ensures .0, c .before .before .before .before .before .before .before .before .before .before .before .before .before .spot-of .ensures)
+returns c =
+    rw (
+      c .side-after2 .ensures,
+      c .before .before .slot-of3 .ensures .0,
+      c .before .before .before .side-of2 .ensures,
+      c .before .before .before .before .high-of .ensures,
+      c .before .before .before .before .before .side-after .ensures,
+      c .before .before .before .before .before .before .before .slot-of2 .ensures .0,
+      c .before .before .before .before .before .before .before .before .side-of .ensures,
+      c .before .before .before .before .before .before .before .before .before .low-of .ensures,
+      c .before .before .before .before .before .before .before .before .before .before .own-after .ensures,
+      c .before .before .before .before .before .before .before .before .before .before .before .before .slot-of .ensures .0,
+      c .before .before .before .before .before .before .before .before .before .before .before .before .before .spot-of .ensures,
+    )
 
 pub banks-after-spec : {M : Type 1} → statement M
 banks-after-spec =

@@ -40,7 +40,19 @@ buffer-after-requires c κs = search needs
 
 returns : tie.Need-returns
 unfolding withBanks
-returns c = rw (c .buffer-after .ensures, c .before .pick-at5 .ensures, c .before .before .pick-at4 .ensures, c .before .before .before .pick-at3 .ensures, c .before .before .before .before .pick-at2 .ensures, c .before .before .before .before .before .pick-at .ensures, c .before .before .before .before .before .before .banks-after .ensures, c .before .before .before .before .before .before .before .before .held-of .ensures, c .before .before .before .before .before .before .before .before .before .view-of .ensures) (let a = c .before .before .before .before .before .before .before .before .before .before .args in after-is (a .ch) (long (c .before .before .before .before .before .before .before .before .before .before)) (a .r))
+returns c =
+    rw (
+      c .buffer-after .ensures,
+      c .before .pick-at5 .ensures,
+      c .before .before .pick-at4 .ensures,
+      c .before .before .before .pick-at3 .ensures,
+      c .before .before .before .before .pick-at2 .ensures,
+      c .before .before .before .before .before .pick-at .ensures,
+      c .before .before .before .before .before .before .banks-after .ensures,
+      c .before .before .before .before .before .before .before .before .held-of .ensures,
+      c .before .before .before .before .before .before .before .before .before .view-of .ensures,
+    )
+    (let z = c .before .before .before .before .before .before .before .before .before .before in after-is (z .args .ch) (long z) (z .args .r))
 
 pub next-spec : {M : Type 1} → statement M
 next-spec =

@@ -30,7 +30,17 @@ pick-at-requires-5 c κs = search needs
 
 returns : tie.Need-returns
 unfolding ownNext
-returns c = rw (c .pick-at5 .ensures, c .before .both .ensures, c .before .before .pick-at4 .ensures, c .before .before .before .pick-at3 .ensures, c .before .before .before .before .pick-at2 .ensures, c .before .before .before .before .before .pick-at .ensures, c .before .before .before .before .before .before .pick-bank .ensures, c .before .before .before .before .before .before .before .either .ensures)
+returns c =
+    rw (
+      c .pick-at5 .ensures,
+      c .before .both .ensures,
+      c .before .before .pick-at4 .ensures,
+      c .before .before .before .pick-at3 .ensures,
+      c .before .before .before .before .pick-at2 .ensures,
+      c .before .before .before .before .before .pick-at .ensures,
+      c .before .before .before .before .before .before .pick-bank .ensures,
+      c .before .before .before .before .before .before .before .either .ensures,
+    )
 
 pub own-next-spec : {M : Type 1} → statement M
 own-next-spec =

@@ -21,7 +21,14 @@ both-requires c κs = search needs
 
 returns : tie.Need-returns
 unfolding test13
-returns c = rw (c .both .ensures, c .before .keeps2 .ensures, c .before .before .keeps .ensures, c .before .before .before .after-three2 .ensures, c .before .before .before .before .after-three .ensures)
+returns c =
+    rw (
+      c .both .ensures,
+      c .before .keeps2 .ensures,
+      c .before .before .keeps .ensures,
+      c .before .before .before .after-three2 .ensures,
+      c .before .before .before .before .after-three .ensures,
+    )
 
 pub columns-done-spec : {M : Type 1} → statement M
 columns-done-spec =

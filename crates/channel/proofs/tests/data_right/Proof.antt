@@ -21,7 +21,14 @@ both-requires c κs = search needs
 
 returns : tie.Need-returns
 unfolding test15
-returns c = rw (c .both .ensures, c .before .wide323 .ensures .0, c .before .before .before .if1 .taken, c .before .before .before .before .wide322 .ensures .0, c .before .before .before .before .before .wide32 .ensures .0)
+returns c =
+    rw (
+      c .both .ensures,
+      c .before .wide323 .ensures .0,
+      c .before .before .before .if1 .taken,
+      c .before .before .before .before .wide322 .ensures .0,
+      c .before .before .before .before .before .wide32 .ensures .0,
+    )
 
 returns-2 : tie.Need-returns-2
 unfolding test15

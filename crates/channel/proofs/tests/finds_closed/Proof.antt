@@ -24,7 +24,15 @@ implies-requires c κs = search needs
 
 returns : tie.Need-returns
 unfolding test4
-returns c = rw (c .implies .ensures, c .before .both2 .ensures, c .before .before .is-closed3 .ensures, c .before .before .before .both .ensures, c .before .before .before .before .is-closed2 .ensures, c .before .before .before .before .before .is-closed .ensures)
+returns c =
+    rw (
+      c .implies .ensures,
+      c .before .both2 .ensures,
+      c .before .before .is-closed3 .ensures,
+      c .before .before .before .both .ensures,
+      c .before .before .before .before .is-closed2 .ensures,
+      c .before .before .before .before .before .is-closed .ensures,
+    )
 
 pub finds-closed-spec : {M : Type 1} → statement M
 finds-closed-spec =

@@ -30,7 +30,17 @@ both-requires-3 c κs = search needs
 
 returns : tie.Need-returns
 unfolding test9
-returns c = rw (c .both3 .ensures, c .before .both2 .ensures, c .before .before .implies3 .ensures, c .before .before .before .implies2 .ensures, c .before .before .before .before .implies .ensures, c .before .before .before .before .before .is-open2 .ensures, c .before .before .before .before .before .before .both .ensures, c .before .before .before .before .before .before .before .is-open .ensures)
+returns c =
+    rw (
+      c .both3 .ensures,
+      c .before .both2 .ensures,
+      c .before .before .implies3 .ensures,
+      c .before .before .before .implies2 .ensures,
+      c .before .before .before .before .implies .ensures,
+      c .before .before .before .before .before .is-open2 .ensures,
+      c .before .before .before .before .before .before .both .ensures,
+      c .before .before .before .before .before .before .before .is-open .ensures,
+    )
 
 pub finds-open-spec : {M : Type 1} → statement M
 finds-open-spec =

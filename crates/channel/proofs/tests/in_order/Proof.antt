@@ -33,7 +33,17 @@ both-requires-3 c κs = search needs
 
 returns : tie.Need-returns
 unfolding test1
-returns c = rw (c .both3 .ensures, c .before .keeps .ensures, c .before .before .wide323 .ensures .0, c .before .before .before .both2 .ensures, c .before .before .before .before .both .ensures, c .before .before .before .before .before .wide322 .ensures .0, c .before .before .before .before .before .before .delay-of .ensures, c .before .before .before .before .before .before .before .wide32 .ensures .0)
+returns c =
+    rw (
+      c .both3 .ensures,
+      c .before .keeps .ensures,
+      c .before .before .wide323 .ensures .0,
+      c .before .before .before .both2 .ensures,
+      c .before .before .before .before .both .ensures,
+      c .before .before .before .before .before .wide322 .ensures .0,
+      c .before .before .before .before .before .before .delay-of .ensures,
+      c .before .before .before .before .before .before .before .wide32 .ensures .0,
+    )
 
 pub in-order-spec : {M : Type 1} → statement M
 in-order-spec =

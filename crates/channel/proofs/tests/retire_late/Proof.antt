@@ -24,7 +24,14 @@ implies-requires c κs = search needs
 
 returns : tie.Need-returns
 unfolding test12
-returns c = rw (c .implies .ensures, c .before .wide323 .ensures .0, c .before .before .both .ensures, c .before .before .before .wide322 .ensures .0, c .before .before .before .before .wide32 .ensures .0)
+returns c =
+    rw (
+      c .implies .ensures,
+      c .before .wide323 .ensures .0,
+      c .before .before .both .ensures,
+      c .before .before .before .wide322 .ensures .0,
+      c .before .before .before .before .wide32 .ensures .0,
+    )
 
 pub retire-late-spec : {M : Type 1} → statement M
 retire-late-spec =

@@ -42,7 +42,21 @@ both-requires-3 c κs = search needs
 
 returns : tie.Need-returns
 unfolding test10
-returns c = rw (c .both3 .ensures, c .before .both2 .ensures, c .before .before .keeps3 .ensures, c .before .before .before .after-gap2 .ensures, c .before .before .before .before .keeps2 .ensures, c .before .before .before .before .before .since-wide .ensures, c .before .before .before .before .before .before .minus .ensures, c .before .before .before .before .before .before .before .wide322 .ensures .0, c .before .before .before .before .before .before .before .before .wide32 .ensures .0, c .before .before .before .before .before .before .before .before .before .keeps .ensures, c .before .before .before .before .before .before .before .before .before .before .after-gap .ensures, c .before .before .before .before .before .before .before .before .before .before .before .both .ensures)
+returns c =
+    rw (
+      c .both3 .ensures,
+      c .before .both2 .ensures,
+      c .before .before .keeps3 .ensures,
+      c .before .before .before .after-gap2 .ensures,
+      c .before .before .before .before .keeps2 .ensures,
+      c .before .before .before .before .before .since-wide .ensures,
+      c .before .before .before .before .before .before .minus .ensures,
+      c .before .before .before .before .before .before .before .wide322 .ensures .0,
+      c .before .before .before .before .before .before .before .before .wide32 .ensures .0,
+      c .before .before .before .before .before .before .before .before .before .keeps .ensures,
+      c .before .before .before .before .before .before .before .before .before .before .after-gap .ensures,
+      c .before .before .before .before .before .before .before .before .before .before .before .both .ensures,
+    )
 
 pub row-ready-spec : {M : Type 1} → statement M
 row-ready-spec =

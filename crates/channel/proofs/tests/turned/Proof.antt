@@ -27,7 +27,15 @@ keeps-requires c κs = search needs
 
 returns : tie.Need-returns
 unfolding test11
-returns c = rw (c .keeps .ensures, c .before .since-wide .ensures, c .before .before .minus .ensures, c .before .before .before .wide323 .ensures .0, c .before .before .before .before .wide322 .ensures .0, c .before .before .before .before .before .wide32 .ensures .0)
+returns c =
+    rw (
+      c .keeps .ensures,
+      c .before .since-wide .ensures,
+      c .before .before .minus .ensures,
+      c .before .before .before .wide323 .ensures .0,
+      c .before .before .before .before .wide322 .ensures .0,
+      c .before .before .before .before .before .wide32 .ensures .0,
+    )
 
 pub turned-spec : {M : Type 1} → statement M
 turned-spec =

@@ -21,7 +21,14 @@ implies-requires c κs = search needs
 
 returns : tie.Need-returns
 unfolding test14
-returns c = rw (c .implies .ensures, c .before .is-closed .ensures, c .before .before .both2 .ensures, c .before .before .before .both .ensures, c .before .before .before .before .is-near .ensures)
+returns c =
+    rw (
+      c .implies .ensures,
+      c .before .is-closed .ensures,
+      c .before .before .both2 .ensures,
+      c .before .before .before .both .ensures,
+      c .before .before .before .before .is-near .ensures,
+    )
 
 pub write-safe-spec : {M : Type 1} → statement M
 write-safe-spec =
