@@ -34,8 +34,8 @@ use Rattle.rdram.specs.declared.PacketAnswer.{PacketAnswer}
 use Rattle.rdram.specs.Words.{fieldsRight, rowCommand, colCommand, commandCoded, noWordAnswer, whyNoWord, wordAnswer, wordUnder, wordEncoded, rowNumbers, colNumbers, noPacket, rowAnswer, colAnswer, packetAnswer, packetUnder, wordDecoded}
 
 -- the kind of a command's word: ROW for 0 to 3, and else COL
-abbrev pub kindOf : ℕ → ℕ
-kindOf command = cond (leb command 3) 0 1
+abbrev pub kindOfCommand : ℕ → ℕ
+kindOfCommand command = cond (leb command 3) 0 1
 
 -- ---- what was encoded is decoded
 
@@ -79,7 +79,7 @@ col-is command bank place mask l f = go (eqb command 4) refl (eqb command 5) ref
 
 -- the packet of a command's word, where it has one, is the command
 decoded : (s : Settings) → Bounds s → (command bank place mask w : ℕ) → commandCoded s command bank place mask ≡ Word w
-    → packetAnswer s (kindOf command) w ≡ numbers command bank place mask
+    → packetAnswer s (kindOfCommand command) w ≡ numbers command bank place mask
 unfolding commandCoded rowCoded colCoded packetAnswer rowAnswer colAnswer
 decoded s b command bank place mask w e =
     let row = rowCommand command bank place in
@@ -94,17 +94,17 @@ decoded s b command bank place mask w e =
 
 -- what was encoded is decoded
 pub word-decode-encode : (settings : List ℕ) (command bank place mask : ℕ) → wordEncoded settings command bank place mask .number ≡ 0
-    → wordDecoded settings (kindOf command) (wordEncoded settings command bank place mask .word) ≡ record { number = 0; command = command; bank = bank; place = place; mask = mask }
+    → wordDecoded settings (kindOfCommand command) (wordEncoded settings command bank place mask .word) ≡ record { number = 0; command = command; bank = bank; place = place; mask = mask }
 unfolding wordEncoded wordDecoded wordUnder packetUnder wordAnswer noWordAnswer answerOf
 word-decode-encode settings command bank place mask e = go (settingsRead settings) refl e
   where
     word : (s : Settings) → Bounds s → (c : Coded) → commandCoded s command bank place mask ≡ c → wordAnswer (whyNoWord s command bank place) c .number ≡ 0
-        → packetAnswer s (kindOf command) (wordAnswer (whyNoWord s command bank place) c .word) ≡ numbers command bank place mask
+        → packetAnswer s (kindOfCommand command) (wordAnswer (whyNoWord s command bank place) c .word) ≡ numbers command bank place mask
     word s b NoWord q e = absurd (refused-number (whyNoWord s command bank place) e)
     word s b (Word w) q e = decoded s b command bank place mask w q
 
     go : (r : SettingsRead) → settingsRead settings ≡ r → wordUnder r command bank place mask .number ≡ 0
-        → packetUnder r (kindOf command) (wordUnder r command bank place mask .word) ≡ numbers command bank place mask
+        → packetUnder r (kindOfCommand command) (wordUnder r command bank place mask .word) ≡ numbers command bank place mask
     go Refused q e = absurd (omega arith)
     go (Accepted s) q e = word s (bounds s (accepted-valid settings s q)) (commandCoded s command bank place mask) refl e
 
