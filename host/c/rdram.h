@@ -1,5 +1,6 @@
 /*
- * rdram.h: Direct RDRAM packet words and block logs. Link with librdram.a.
+ * rdram.h: Direct RDRAM packet words, block logs and timing rules. Link with
+ * librdram.a.
  *
  * Common to all calls:
  * - A buffer is a pointer and its length in bytes. A null pointer is allowed
@@ -8,7 +9,8 @@
  * - The buffers of one call must not overlap.
  * - An answer with number 0 (RDRAM_OK) is accepted. Any other number is a
  *   refusal (enum rdram_refusal): every other field of the answer is then 0,
- *   except `place` where the call names one, and no buffer is changed.
+ *   except `place` and `rule` where the call names them, and no buffer is
+ *   changed.
  * - The library keeps no state and allocates nothing.
  */
 #ifndef RDRAM_H
@@ -69,7 +71,7 @@ enum rdram_kind {
     RDRAM_KIND_D = 2
 };
 
-/* Answer numbers. The calls below answer 0, 1, 8, 10, 12 and 13. */
+/* Answer numbers. The calls below answer 0, 1, 4, 5, 6, 8 and 10 to 13. */
 enum rdram_refusal {
     RDRAM_OK = 0,
     RDRAM_REFUSED_SETTINGS = 1,  /* settings not 32 bytes, or a figure out of range */
@@ -82,7 +84,7 @@ enum rdram_refusal {
     RDRAM_REFUSED_FULL = 8,      /* too little room in the buffer for the answer */
     RDRAM_REFUSED_STORE = 9,     /* wrong store length */
     RDRAM_REFUSED_WORD = 10,     /* a packet, word or record that has no coding */
-    RDRAM_REFUSED_RULE = 11,     /* a timing rule is broken */
+    RDRAM_REFUSED_RULE = 11,     /* a record breaks one of the sixteen rules */
     RDRAM_REFUSED_BLOCK = 12,    /* a damaged or misplaced block */
     RDRAM_REFUSED_LENGTH = 13    /* not whole requests, records or blocks */
 };
@@ -107,6 +109,12 @@ typedef struct {
     uint64_t place;
     uint64_t count;
 } rdram_copied;
+
+typedef struct {
+    uint32_t number;
+    uint32_t rule;
+    uint64_t place;
+} rdram_judged;
 
 /*
  * The word of a packet: 24 bits for a ROW packet, 40 for a COL packet. The
@@ -178,6 +186,70 @@ rdram_copied rdram_log_encode(const uint8_t *settings, size_t settings_len,
 rdram_copied rdram_log_decode(const uint8_t *settings, size_t settings_len,
                               const uint8_t *log, size_t log_len,
                               uint8_t *list, size_t list_len);
+
+/*
+ * Tests whether a list of records keeps the sixteen rules.
+ *
+ * list_len is a multiple of 32. The list starts with every bank closed, the
+ * write buffer empty and no earlier record. Number 0: it passes; an empty list
+ * passes. No buffer is written.
+ *
+ * Data come tCAC after their RD and go tCWD after their WR. Banks are
+ * neighbours where their numbers differ by 1, but for 15 and 16. PRER and REFP
+ * close their bank and each neighbour that is open or under refresh. A WR waits
+ * until the next COL packet other than RD retires it. In 4 to 8, 13 and 14 ACT
+ * stands for ACT and REFA, and PRER for PRER and REFP. "Near" is the same bank
+ * or a neighbour. A distance is the least one, in cycles.
+ *
+ *    1  ROW and COL instants never fall; all, data's too, 4 to 1,000,000,000
+ *    2  ROW to ROW: 4
+ *    3  COL to COL: tCC
+ *    4  ACT: its bank and the neighbours are closed
+ *    5  ACT to ACT: tRC where near, else tRR
+ *    6  ACT to PRER, near: tRAS
+ *    7  PRER to ACT, near it or a neighbour of a bank it closed: tRP
+ *    8  PRER to PRER: tPP
+ *    9  RD, WR and retire: the bank is open by ACT
+ *   10  ACT to RD or retire, same bank: tRCD; to WR: tRCD - tRTR, at least 0
+ *   11  RD to WR: tCC + tCAC - tCWD
+ *   12  WR to the packet that retires it: tRTR
+ *   13  RD to PRER, near: tRDP; retire to PRER, near: tRTP
+ *   14  PRER does not close the bank of a waiting write
+ *   15  D directly after each WR, at WR + tCWD (or the list ends), no other D
+ *   16  a mask (M = 1) only on a packet that retires a write
+ *
+ * Refusals, in this order:
+ *    1  settings: correct the settings bytes.
+ *   13  list_len is not a multiple of 32: pass whole records.
+ *   10  place is the first record (from 0) of the whole list that is not well
+ *       formed or whose word has no packet under these settings: correct that
+ *       record, or pass the settings under which it was written. No rule has
+ *       been tested.
+ *   11  place is the first record (from 0) that breaks a rule, given the
+ *       records before it, and rule the lowest that it breaks (1 to 16). The
+ *       records before it pass; those after it have not been judged. A D that
+ *       is missing is named at the record in its place. Move or correct that
+ *       record and check again.
+ */
+rdram_judged rdram_check(const uint8_t *settings, size_t settings_len,
+                         const uint8_t *list, size_t list_len);
+
+/*
+ * Tests whether the list that a log keeps keeps the sixteen rules of
+ * rdram_check. log_len is a multiple of 512. Number 0: it passes; an empty log
+ * passes. No buffer is written.
+ *
+ * Refusals, in this order:
+ *    1  settings: correct the settings bytes.
+ *   13  log_len is not a multiple of 512: pass whole blocks.
+ *   12  place is the first block (from 0) whose number, count, zeros, unused
+ *       records or check is wrong: the log is damaged there, or blocks are
+ *       missing or out of order. No record has been tested.
+ *   10, 11  as in rdram_check; records are counted over the whole log, so
+ *       record n is in block n / 15.
+ */
+rdram_judged rdram_check_log(const uint8_t *settings, size_t settings_len,
+                             const uint8_t *log, size_t log_len);
 
 #ifdef __cplusplus
 }

@@ -1,4 +1,4 @@
-//! Direct RDRAM packet words and block logs: safe wrappers of `librdram.a`.
+//! Direct RDRAM packet words, block logs and timing rules: safe wrappers of `librdram.a`.
 //!
 //! ```
 //! use rdram::{log_decode, log_encode, packet_record, word_encode, Kind, Packet, Settings, MASK_FULL};
@@ -279,6 +279,64 @@ pub fn log_decode(settings: &Settings, log: &[u8], list: &mut [u8]) -> Result<us
         )
     };
     copied(answer)
+}
+
+/// Tests whether `list`, whole records of 32 bytes, keeps the sixteen rules of document 01, from
+/// closed banks, an empty write buffer and no earlier record. An empty list passes.
+///
+/// Refused, in this order: [`Refusal::Settings`]; [`Refusal::Length`] for a list that is not whole
+/// records; [`Refusal::Word`] with the first record that is not well formed; [`Refusal::Rule`] with
+/// the first record that breaks a rule given the records before it, and the lowest rule it breaks.
+///
+/// ```
+/// # let settings = rdram::Settings {
+/// #     t_rc: 28, t_ras: 20, t_rp: 8, t_pp: 8, t_rr: 8, t_rcd: 9, t_rtr: 8, t_rdp: 4, t_rtp: 4,
+/// #     t_cc: 4, t_cac: 8, t_cwd: 6, rows: 2, columns: 4, device: 0,
+/// # };
+/// use rdram::{check, packet_record, Kind, Refusal};
+/// let act = packet_record(4, Kind::Row, 0x401000);
+/// let rd = |instant| packet_record(instant, Kind::Col, 0x80_0026_0000);
+/// assert_eq!(check(&settings, [act, rd(13)].as_flattened()), Ok(()));
+/// // tRCD is 9, so 12 is too soon after the ACT at 4.
+/// let refused = check(&settings, [act, rd(12)].as_flattened());
+/// assert_eq!(refused, Err(Refusal::Rule { rule: 10, place: 1 }));
+/// ```
+pub fn check(settings: &Settings, list: &[u8]) -> Result<(), Refusal> {
+    let s = settings.to_bytes();
+    // SAFETY: each pointer and length are those of one slice.
+    judged(unsafe { raw::rdram_check(s.as_ptr(), s.len(), list.as_ptr(), list.len()) })
+}
+
+/// Tests whether the list that `log` keeps, whole blocks of 512 bytes, passes [`check`].
+///
+/// Refused, in this order: [`Refusal::Settings`]; [`Refusal::Length`] for a log that is not whole
+/// blocks; [`Refusal::Block`] with the first bad block; [`Refusal::Word`] and [`Refusal::Rule`] as
+/// in [`check`], with records counted over the whole log.
+///
+/// ```
+/// # let settings = rdram::Settings {
+/// #     t_rc: 28, t_ras: 20, t_rp: 8, t_pp: 8, t_rr: 8, t_rcd: 9, t_rtr: 8, t_rdp: 4, t_rtp: 4,
+/// #     t_cc: 4, t_cac: 8, t_cwd: 6, rows: 2, columns: 4, device: 0,
+/// # };
+/// use rdram::{check_log, log_encode, packet_record, Kind, Refusal};
+/// let mut log = [0; 512];
+/// log_encode(&settings, &packet_record(3, Kind::Row, 0x401000), &mut log)?;
+/// // Instants start at 4.
+/// let refused = check_log(&settings, &log).unwrap_err();
+/// assert_eq!((refused.number(), refused.rule(), refused.place()), (11, Some(1), Some(0)));
+/// # Ok::<(), Refusal>(())
+/// ```
+pub fn check_log(settings: &Settings, log: &[u8]) -> Result<(), Refusal> {
+    let s = settings.to_bytes();
+    // SAFETY: each pointer and length are those of one slice.
+    judged(unsafe { raw::rdram_check_log(s.as_ptr(), s.len(), log.as_ptr(), log.len()) })
+}
+
+fn judged(answer: raw::Judged) -> Result<(), Refusal> {
+    match answer.number {
+        0 => Ok(()),
+        number => Err(Refusal::of_check(number, answer.rule, answer.place)),
+    }
 }
 
 /// A count is at most the length of a buffer, so it fits `usize`.

@@ -29,6 +29,15 @@ pub struct Copied {
     pub count: u64,
 }
 
+/// The answer of [`rdram_check`] and [`rdram_check_log`].
+#[repr(C)]
+#[derive(Clone, Copy, Debug, PartialEq, Eq)]
+pub struct Judged {
+    pub number: u32,
+    pub rule: u32,
+    pub place: u64,
+}
+
 extern "C" {
     pub fn rdram_word_encode(
         settings: *const u8,
@@ -63,4 +72,18 @@ extern "C" {
         list: *mut u8,
         list_len: usize,
     ) -> Copied;
+
+    pub fn rdram_check(
+        settings: *const u8,
+        settings_len: usize,
+        list: *const u8,
+        list_len: usize,
+    ) -> Judged;
+
+    pub fn rdram_check_log(
+        settings: *const u8,
+        settings_len: usize,
+        log: *const u8,
+        log_len: usize,
+    ) -> Judged;
 }

@@ -19,6 +19,9 @@ pub enum Refusal {
     /// 10: a packet, word or record has no coding under the settings. `place` is the first such
     /// record of a list, from 0; a single packet or word has none.
     Word { place: Option<u64> },
+    /// 11: a record breaks a rule, given the records before it. `place` is the first such record,
+    /// from 0, and `rule` the lowest rule that it breaks, 1 to 16.
+    Rule { rule: u32, place: u64 },
     /// 12: a block is damaged or out of order. `place` is the first such block, from 0.
     Block { place: u64 },
     /// 13: a length is not one of whole records or blocks.
@@ -37,6 +40,7 @@ impl Refusal {
             Refusal::Column => 6,
             Refusal::Full => 8,
             Refusal::Word { .. } => 10,
+            Refusal::Rule { .. } => 11,
             Refusal::Block { .. } => 12,
             Refusal::Length => 13,
             Refusal::Other { number } => number,
@@ -47,7 +51,15 @@ impl Refusal {
     pub fn place(&self) -> Option<u64> {
         match *self {
             Refusal::Word { place } => place,
-            Refusal::Block { place } => Some(place),
+            Refusal::Rule { place, .. } | Refusal::Block { place } => Some(place),
+            _ => None,
+        }
+    }
+
+    /// The broken rule, 1 to 16, where the refusal names one.
+    pub fn rule(&self) -> Option<u32> {
+        match *self {
+            Refusal::Rule { rule, .. } => Some(rule),
             _ => None,
         }
     }
@@ -75,7 +87,39 @@ impl Refusal {
             number => Refusal::Other { number },
         }
     }
+
+    /// The refusal of a check.
+    pub(crate) fn of_check(number: u32, rule: u32, place: u64) -> Refusal {
+        match number {
+            11 => Refusal::Rule { rule, place },
+            number => Refusal::of_log(number, place),
+        }
+    }
 }
+
+const LATER: &str = "send it later";
+
+/// What a record does that breaks rule 1, 2, .. 16, and what to do.
+#[rustfmt::skip]
+const RULES: [(&str, &str); 16] = [
+    ("its instant is below that of an earlier packet, or it or its data are outside 4 to 1,000,000,000",
+     "put packets in the order of their instants, within the range"),
+    ("a ROW packet less than 4 after a ROW packet", LATER),
+    ("a COL packet less than tCC after a COL packet", LATER),
+    ("ACT or REFA while its bank or a neighbour is not closed", "send PRER to that one first"),
+    ("ACT or REFA less than tRC after one to the same or a neighbour bank, or less than tRR after one to another", LATER),
+    ("PRER or REFP less than tRAS after ACT or REFA to the same or a neighbour bank", LATER),
+    ("ACT or REFA less than tRP after a PRER or REFP to its bank or a neighbour, or one that closed a neighbour", LATER),
+    ("PRER or REFP less than tPP after PRER or REFP", LATER),
+    ("RD, WR or a retire in a bank that is not open by ACT", "send ACT to that bank first"),
+    ("RD or a retire less than tRCD after ACT to its bank, or WR less than tRCD - tRTR after it", LATER),
+    ("WR less than tCC + tCAC - tCWD after RD", LATER),
+    ("a COL packet other than RD less than tRTR after the WR that it retires", LATER),
+    ("PRER or REFP less than tRDP after RD, or less than tRTP after a retire, in the same or a neighbour bank", LATER),
+    ("PRER or REFP closes the bank of a write that is not retired", "send NOCOP first"),
+    ("a WR without its D directly after it, at WR + tCWD, or a D elsewhere", "put one D after each WR, at that instant"),
+    ("a mask (M = 1) on a packet that retires no write", "send it with M = 0"),
+];
 
 impl fmt::Display for Refusal {
     fn fmt(&self, f: &mut fmt::Formatter<'_>) -> fmt::Result {
@@ -101,6 +145,17 @@ impl fmt::Display for Refusal {
                 "record {place} (from 0) is not well formed under these settings; \
                  correct the record, or use the settings under which it was written"
             ),
+            Refusal::Rule { rule, place } => {
+                let known = RULES.get((rule as usize).wrapping_sub(1));
+                let (what, remedy) = known.unwrap_or(&(
+                    "unknown rule",
+                    "use the crate and the archive of the same version",
+                ));
+                write!(
+                    f,
+                    "record {place} (from 0) breaks rule {rule}: {what}; {remedy}"
+                )
+            }
             Refusal::Block { place } => write!(
                 f,
                 "block {place} (from 0) is damaged or out of order; \

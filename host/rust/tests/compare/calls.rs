@@ -9,7 +9,7 @@ use std::collections::BTreeMap;
 pub struct Seen(BTreeMap<u32, u64>);
 
 impl Seen {
-    fn add(&mut self, number: u32) {
+    pub fn add(&mut self, number: u32) {
         *self.0.entry(number).or_default() += 1;
     }
 
@@ -32,7 +32,7 @@ fn number_of<T>(answer: &Result<T, Refused>) -> u32 {
 }
 
 /// The settings as the wrapper's struct, where it can hold them.
-fn typed(settings: &[u8]) -> Option<Settings> {
+pub fn typed(settings: &[u8]) -> Option<Settings> {
     if settings.len() != 32 || settings[24..26] != [0, 0] {
         return None;
     }

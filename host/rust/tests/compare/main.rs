@@ -3,9 +3,14 @@
 //! `cargo test -- --show-output`.
 
 mod calls;
+mod hand_lists;
+mod lists;
 mod logs;
 mod random;
 mod reference;
+mod reference_rules;
 mod refusals;
+mod rule_calls;
+mod rules;
 mod settings;
 mod words;

@@ -281,7 +281,7 @@ pub fn record_fits(f: &Figures, record: &[u8]) -> bool {
     }
 }
 
-fn first_bad_record(f: &Figures, list: &[u8]) -> Option<usize> {
+pub fn first_bad_record(f: &Figures, list: &[u8]) -> Option<usize> {
     list.chunks(32).position(|record| !record_fits(f, record))
 }
 
@@ -326,12 +326,12 @@ fn block_fits(block: &[u8], k: usize, n: usize) -> bool {
         && sum(block) == 0
 }
 
-fn first_bad_block(log: &[u8]) -> Option<usize> {
+pub fn first_bad_block(log: &[u8]) -> Option<usize> {
     let n = log.len() / 512;
     (0..n).find(|k| !block_fits(&log[512 * k..512 * (k + 1)], *k, n))
 }
 
-fn records(log: &[u8]) -> Vec<u8> {
+pub fn records(log: &[u8]) -> Vec<u8> {
     log.chunks(512)
         .flat_map(|b| b[..32 * number(&b[484..488]) as usize].to_vec())
         .collect()

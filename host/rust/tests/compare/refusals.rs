@@ -3,7 +3,7 @@
 use rdram::{raw, Refusal};
 use std::mem::{align_of, offset_of, size_of};
 
-const ALL: [Refusal; 10] = [
+const ALL: [Refusal; 11] = [
     Refusal::Settings,
     Refusal::Bank,
     Refusal::Row,
@@ -11,6 +11,7 @@ const ALL: [Refusal; 10] = [
     Refusal::Full,
     Refusal::Word { place: None },
     Refusal::Word { place: Some(7) },
+    Refusal::Rule { rule: 10, place: 5 },
     Refusal::Block { place: 3 },
     Refusal::Length,
     Refusal::Other { number: 99 },
@@ -18,10 +19,25 @@ const ALL: [Refusal; 10] = [
 
 #[test]
 fn numbers_and_places() {
-    assert_eq!(ALL.map(|r| r.number()), [1, 4, 5, 6, 8, 10, 10, 12, 13, 99]);
+    assert_eq!(
+        ALL.map(|r| r.number()),
+        [1, 4, 5, 6, 8, 10, 10, 11, 12, 13, 99]
+    );
     assert_eq!(
         ALL.map(|r| r.place()),
-        [None, None, None, None, None, None, Some(7), Some(3), None, None]
+        [
+            None,
+            None,
+            None,
+            None,
+            None,
+            None,
+            Some(7),
+            Some(5),
+            Some(3),
+            None,
+            None
+        ]
     );
 }
 
@@ -40,6 +56,29 @@ fn texts_name_number_and_place() {
     }
 }
 
+/// Each rule has a text of its own, in one line; a number that is no rule has one too.
+#[test]
+fn texts_of_rules() {
+    let mut texts: Vec<String> = Vec::new();
+    for rule in 1..=16 {
+        let refusal = Refusal::Rule { rule, place: 70 };
+        assert_eq!(refusal.rule(), Some(rule));
+        let text = refusal.to_string();
+        let front = format!("refusal 11: record 70 (from 0) breaks rule {rule}: ");
+        let rest = text.strip_prefix(&front).expect("number, record and rule");
+        assert!(rest.contains("; ") && !rest.contains('\n'), "{text}");
+        texts.push(rest.into());
+    }
+    texts.sort();
+    texts.dedup();
+    assert_eq!(texts.len(), 16);
+    for rule in [0, 17, u32::MAX] {
+        let text = Refusal::Rule { rule, place: 0 }.to_string();
+        assert!(text.contains("unknown rule; "), "{text}");
+    }
+    assert_eq!(Refusal::Length.rule(), None);
+}
+
 #[test]
 fn layout_of_answers() {
     assert_eq!(
@@ -53,5 +92,9 @@ fn layout_of_answers() {
     assert_eq!(
         (size_of::<raw::Copied>(), offset_of!(raw::Copied, count)),
         (24, 16)
+    );
+    assert_eq!(
+        (size_of::<raw::Judged>(), offset_of!(raw::Judged, place)),
+        (16, 8)
     );
 }

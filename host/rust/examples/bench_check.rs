@@ -1,0 +1,507 @@
+//! Times `check` on a legal list of 1,000,000 records, by the library and by plain Rust that makes
+//! the same tests. Run with `cargo run --release --offline --example bench_check`.
+
+use plain::Checker;
+use rdram::{data_record, packet_record, word_encode, Kind, Packet, Refusal, Settings, MASK_FULL};
+use std::hint::black_box;
+use std::time::Instant;
+
+const RECORDS: usize = 1_000_000;
+const RUNS: usize = 21;
+const SETTINGS: Settings = Settings {
+    t_rc: 28,
+    t_ras: 20,
+    t_rp: 8,
+    t_pp: 8,
+    t_rr: 8,
+    t_rcd: 9,
+    t_rtr: 8,
+    t_rdp: 4,
+    t_rtp: 4,
+    t_cc: 4,
+    t_cac: 8,
+    t_cwd: 6,
+    rows: 512,
+    columns: 128,
+    device: 5,
+};
+
+/// The check in plain Rust, written for speed: one pass, with the first instant that each rule
+/// still allows.
+mod plain {
+    /// Number, rule and place.
+    pub type Refused = (u32, u32, usize);
+
+    const LAST: u64 = 1_000_000_000;
+
+    #[rustfmt::skip]
+    const BOUNDS: [(u16, u16); 16] = [
+        (4, 64), (4, 64), (4, 64), (4, 64), (4, 64), (4, 64), (4, 64), (4, 64), (4, 64), (4, 16),
+        (7, 12), (1, 11), (0, 0), (1, 512), (1, 128), (0, 31),
+    ];
+    const RC: usize = 0;
+    const RAS: usize = 1;
+    const RP: usize = 2;
+    const PP: usize = 3;
+    const RR: usize = 4;
+    const RCD: usize = 5;
+    const RTR: usize = 6;
+    const RDP: usize = 7;
+    const RTP: usize = 8;
+    const CC: usize = 9;
+    const CAC: usize = 10;
+    const CWD: usize = 11;
+
+    #[derive(Clone, Copy, PartialEq, Eq)]
+    enum State {
+        Closed,
+        Open,
+        Refresh,
+    }
+
+    /// A bank, and the first instants that rules 5, 6, 7, 10 and 13 allow in it.
+    #[derive(Clone, Copy)]
+    struct Bank {
+        state: State,
+        last_act: Option<u64>,
+        act_5: u64,
+        prer_6: u64,
+        act_7: u64,
+        rd_10: u64,
+        wr_10: u64,
+        prer_13: u64,
+    }
+
+    const CLOSED: Bank = Bank {
+        state: State::Closed,
+        last_act: None,
+        act_5: 0,
+        prer_6: 0,
+        act_7: 0,
+        rd_10: 0,
+        wr_10: 0,
+        prer_13: 0,
+    };
+
+    /// What a well formed record is.
+    #[derive(Clone, Copy)]
+    enum Record {
+        Act { bank: usize, opens: bool },
+        Prer { bank: usize },
+        Rd { bank: usize, masked: bool },
+        Wr { bank: usize, masked: bool },
+        Nocop { masked: bool },
+        D,
+    }
+
+    pub struct Checker {
+        t: [u64; 12],
+        rows: u64,
+        columns: u64,
+        row_device: u64,
+        col_device: u64,
+        second_device: u64,
+        banks: [Bank; 32],
+        now: u64,
+        row_2: u64,
+        col_3: u64,
+        act_5: u64,
+        prer_8: u64,
+        wr_11: u64,
+        /// The bank of the waiting write, and the first instant that rule 12 allows.
+        waiting: Option<(usize, u64)>,
+        /// The instant of the D that is due.
+        due: Option<u64>,
+    }
+
+    /// A bank and its neighbours.
+    fn near(bank: usize) -> std::ops::Range<usize> {
+        let (first, last) = (matches!(bank, 0 | 16), matches!(bank, 15 | 31));
+        bank - usize::from(!first)..bank + 1 + usize::from(!last)
+    }
+
+    impl Checker {
+        pub fn new(settings: &[u8]) -> Option<Checker> {
+            let settings: &[u8; 32] = settings.try_into().ok()?;
+            let number = |i: usize| u16::from_le_bytes([settings[2 * i], settings[2 * i + 1]]);
+            let fits = (0..16).all(|i| (BOUNDS[i].0..=BOUNDS[i].1).contains(&number(i)));
+            if !fits || number(CWD) >= number(CAC) {
+                return None;
+            }
+            let device = u64::from(number(15));
+            Some(Checker {
+                t: std::array::from_fn(|i| number(i).into()),
+                rows: number(13).into(),
+                columns: number(14).into(),
+                row_device: (16 + device) << 18, // DR4T, DR4F, DR3 to DR0
+                col_device: (32 | device) << 34,
+                second_device: device << 11,
+                banks: [CLOSED; 32],
+                now: 4,
+                row_2: 0,
+                col_3: 0,
+                act_5: 0,
+                prer_8: 0,
+                wr_11: 0,
+                waiting: None,
+                due: None,
+            })
+        }
+
+        // ---- Form ----
+
+        fn row(&self, word: u64) -> Option<Record> {
+            let bank = (word >> 13 & 31) as usize;
+            match (word ^ self.row_device) & !(31 << 13) {
+                0x600 | 0x540 => Some(Record::Prer { bank }),
+                0x0C0 => Some(Record::Act { bank, opens: false }),
+                rest if rest.wrapping_sub(0x1000) < self.rows => {
+                    Some(Record::Act { bank, opens: true })
+                }
+                _ => None,
+            }
+        }
+
+        fn col(&self, word: u64) -> Option<Record> {
+            let rest = word ^ self.col_device;
+            let (masked, low) = (rest & 0x10000 != 0, rest & 0xFFFF);
+            let low_fits = (masked & (low != 0xFFFF)) | (!masked & (low == self.second_device));
+            if !low_fits | ((rest & !(31 << 29)) >> 21 >= self.columns) {
+                return None;
+            }
+            let bank = (rest >> 29 & 31) as usize;
+            match rest >> 17 & 15 {
+                1 => Some(Record::Wr { bank, masked }),
+                3 => Some(Record::Rd { bank, masked }),
+                0 if rest >> 17 == 0 => Some(Record::Nocop { masked }),
+                _ => None,
+            }
+        }
+
+        fn record(&self, bytes: &[u8; 32]) -> Option<Record> {
+            let number = |at: usize| u64::from_le_bytes(bytes[at..at + 8].try_into().unwrap());
+            let (kind, word) = (number(0) >> 32, number(8));
+            if kind == 2 {
+                return (word == 0).then_some(Record::D);
+            }
+            if number(16) | number(24) != 0 {
+                return None;
+            }
+            match kind {
+                0 => self.row(word),
+                1 => self.col(word),
+                _ => None,
+            }
+        }
+
+        // ---- Rules: each answers the lowest broken rule, or 0 and takes the record ----
+
+        fn act(&mut self, at: u64, bank: usize, opens: bool) -> u32 {
+            let t = &self.t;
+            let closed = |b: &Bank| b.state == State::Closed;
+            if at < self.row_2 {
+                return 2;
+            }
+            if !self.banks[near(bank)].iter().all(closed) {
+                return 4;
+            }
+            if at < self.banks[bank].act_5 || self.too_soon_for_others(at, bank) {
+                return 5;
+            }
+            if at < self.banks[bank].act_7 {
+                return 7;
+            }
+            if self.due.is_some() {
+                return 15;
+            }
+            for b in &mut self.banks[near(bank)] {
+                (b.act_5, b.prer_6) = (at + t[RC], at + t[RAS]);
+            }
+            let b = &mut self.banks[bank];
+            b.last_act = Some(at);
+            b.state = State::Refresh;
+            if opens {
+                b.state = State::Open;
+                b.rd_10 = at + t[RCD];
+                b.wr_10 = at + t[RCD].saturating_sub(t[RTR]);
+            }
+            (self.now, self.row_2, self.act_5) = (at, at + 4, at + t[RR]);
+            0
+        }
+
+        /// Rule 5 for banks that are not near. Where tRR is at most tRC the last ACT decides.
+        fn too_soon_for_others(&self, at: u64, bank: usize) -> bool {
+            let (rc, rr) = (self.t[RC], self.t[RR]);
+            if rr <= rc || at >= self.act_5 {
+                return at < self.act_5;
+            }
+            let others = (0..32).filter(|b| !near(bank).contains(b));
+            let mut instants = others.filter_map(|b| self.banks[b].last_act);
+            instants.any(|last| at < last + rr)
+        }
+
+        fn prer(&mut self, at: u64, bank: usize) -> u32 {
+            if at < self.row_2 {
+                return 2;
+            }
+            if at < self.banks[bank].prer_6 {
+                return 6;
+            }
+            if at < self.prer_8 {
+                return 8;
+            }
+            if at < self.banks[bank].prer_13 {
+                return 13;
+            }
+            if self.waiting.is_some_and(|(b, _)| near(bank).contains(&b)) {
+                return 14;
+            }
+            if self.due.is_some() {
+                return 15;
+            }
+            let from = at + self.t[RP];
+            for b in near(bank) {
+                if b == bank || self.banks[b].state != State::Closed {
+                    self.banks[near(b)].iter_mut().for_each(|c| c.act_7 = from);
+                }
+                self.banks[b].state = State::Closed;
+                self.banks[b].act_7 = from;
+            }
+            (self.now, self.row_2, self.prer_8) = (at, at + 4, at + self.t[PP]);
+            0
+        }
+
+        fn rd(&mut self, at: u64, bank: usize, masked: bool) -> u32 {
+            let t = &self.t;
+            if at + t[CAC] > LAST {
+                return 1;
+            }
+            if at < self.col_3 {
+                return 3;
+            }
+            if self.banks[bank].state != State::Open {
+                return 9;
+            }
+            if at < self.banks[bank].rd_10 {
+                return 10;
+            }
+            if self.due.is_some() {
+                return 15;
+            }
+            if masked {
+                return 16;
+            }
+            for b in &mut self.banks[near(bank)] {
+                b.prer_13 = b.prer_13.max(at + t[RDP]);
+            }
+            self.wr_11 = at + t[CC] + t[CAC] - t[CWD];
+            (self.now, self.col_3) = (at, at + t[CC]);
+            0
+        }
+
+        /// WR of a bank, or NOCOP where there is none.
+        fn other_col(&mut self, at: u64, wr: Option<usize>, masked: bool) -> u32 {
+            let t = &self.t;
+            if wr.is_some() && at + t[CWD] > LAST {
+                return 1;
+            }
+            if at < self.col_3 {
+                return 3;
+            }
+            if wr.is_some_and(|b| self.banks[b].state != State::Open) {
+                return 9;
+            }
+            let retired = self.waiting;
+            if wr.is_some_and(|b| at < self.banks[b].wr_10)
+                || retired.is_some_and(|(b, _)| at < self.banks[b].rd_10)
+            {
+                return 10;
+            }
+            if wr.is_some() && at < self.wr_11 {
+                return 11;
+            }
+            if retired.is_some_and(|(_, from)| at < from) {
+                return 12;
+            }
+            if self.due.is_some() {
+                return 15;
+            }
+            if masked && retired.is_none() {
+                return 16;
+            }
+            if let Some((bank, _)) = retired {
+                for b in &mut self.banks[near(bank)] {
+                    b.prer_13 = b.prer_13.max(at + t[RTP]);
+                }
+            }
+            self.waiting = wr.map(|bank| (bank, at + t[RTR]));
+            self.due = wr.map(|_| at + t[CWD]);
+            (self.now, self.col_3) = (at, at + t[CC]);
+            0
+        }
+
+        fn data(&mut self, at: u64) -> u32 {
+            if !(4..=LAST).contains(&at) {
+                return 1;
+            }
+            if self.due != Some(at) {
+                return 15;
+            }
+            self.due = None;
+            0
+        }
+
+        fn judge(&mut self, at: u64, record: Record) -> u32 {
+            if let Record::D = record {
+                return self.data(at);
+            }
+            if at < self.now || at > LAST {
+                return 1;
+            }
+            match record {
+                Record::Act { bank, opens } => self.act(at, bank, opens),
+                Record::Prer { bank } => self.prer(at, bank),
+                Record::Rd { bank, masked } => self.rd(at, bank, masked),
+                Record::Wr { bank, masked } => self.other_col(at, Some(bank), masked),
+                Record::Nocop { masked } => self.other_col(at, None, masked),
+                Record::D => 0,
+            }
+        }
+
+        /// The lowest rule that a well formed record breaks, or 0. Only in that case it is taken.
+        pub fn take(&mut self, bytes: &[u8; 32]) -> Option<u32> {
+            let record = self.record(bytes)?;
+            let at = u32::from_le_bytes(bytes[..4].try_into().unwrap());
+            Some(self.judge(at.into(), record))
+        }
+    }
+
+    /// After a broken rule the rest is tested for its form only.
+    pub fn check(settings: &[u8], list: &[u8]) -> Result<(), Refused> {
+        let mut checker = Checker::new(settings).ok_or((1, 0, 0))?;
+        let (records, rest) = list.as_chunks::<32>();
+        if !rest.is_empty() {
+            return Err((13, 0, 0));
+        }
+        for (place, bytes) in records.iter().enumerate() {
+            let rule = checker.take(bytes).ok_or((10, 0, place))?;
+            if rule != 0 {
+                let mut later = records[place..].iter();
+                let bad = later.position(|r| checker.record(r).is_none());
+                return Err(bad.map_or((11, rule, place), |i| (10, 0, place + i)));
+            }
+        }
+        Ok(())
+    }
+}
+
+/// A number below n.
+fn below(x: &mut u64, n: u64) -> u64 {
+    *x ^= *x << 13;
+    *x ^= *x >> 7;
+    *x ^= *x << 17;
+    (*x >> 33) % n
+}
+
+fn random_packet(x: &mut u64) -> (Kind, Packet) {
+    let (bank, row, column) = (
+        below(x, 32) as u8,
+        below(x, 512) as u16,
+        below(x, 128) as u8,
+    );
+    let mask = MASK_FULL;
+    match below(x, 64) {
+        0..8 => (Kind::Row, Packet::Act { bank, row }),
+        8..14 => (Kind::Row, Packet::Prer { bank }),
+        14 => (Kind::Row, Packet::Refa { bank }),
+        15 => (Kind::Row, Packet::Refp { bank }),
+        16..40 => (Kind::Col, Packet::Rd { bank, column, mask }),
+        40..60 => (Kind::Col, Packet::Wr { bank, column, mask }),
+        _ => {
+            let mask = below(x, 0xFFFF) as u16;
+            (Kind::Col, Packet::Nocop { mask })
+        }
+    }
+}
+
+/// A legal list: each packet at the least instant that the rules allow, banks interleaved.
+fn make_list() -> Vec<u8> {
+    let mut checker = Checker::new(&SETTINGS.to_bytes()).unwrap();
+    let (mut list, mut now, mut x) = (Vec::new(), 4, 0x9E37_79B9_7F4A_7C15);
+    while list.len() < 32 * RECORDS {
+        let (kind, packet) = random_packet(&mut x);
+        let word = word_encode(&SETTINGS, packet).unwrap();
+        for at in now.. {
+            let record = packet_record(at, kind, word);
+            match checker.take(&record).unwrap() {
+                0 => {
+                    list.extend(record);
+                    now = at;
+                    break;
+                }
+                4 | 9 | 14 | 16 => break, // not for any instant
+                _ => {}
+            }
+        }
+        if let Packet::Wr { .. } = packet {
+            let data = data_record(now + 6, &[below(&mut x, 256) as u8; 16]);
+            if checker.take(&data) == Some(0) {
+                list.extend(data);
+            }
+        }
+    }
+    list.truncate(32 * RECORDS);
+    list
+}
+
+fn refused(answer: Result<(), Refusal>) -> Result<(), plain::Refused> {
+    answer.map_err(|r| {
+        let place = r.place().unwrap_or(0) as usize;
+        (r.number(), r.rule().unwrap_or(0), place)
+    })
+}
+
+/// Library and plain Rust agree on the list, and on its first records with one byte changed.
+fn compare_answers(list: &[u8]) {
+    let settings = SETTINGS.to_bytes();
+    assert_eq!(rdram::check(&SETTINGS, list), Ok(()));
+    assert_eq!(plain::check(&settings, list), Ok(()));
+    let mut x = 7;
+    for _ in 0..2_000 {
+        let mut part = list[..32 * 1_000].to_vec();
+        let record = 32 * below(&mut x, 1_000) as usize;
+        let byte = [0, 0, 1, 4, 8, 9, 10, 12][below(&mut x, 8) as usize];
+        part[record + byte] ^= 1 << below(&mut x, 8);
+        let answer = plain::check(&settings, &part);
+        assert_eq!(refused(rdram::check(&SETTINGS, &part)), answer);
+    }
+}
+
+/// Nanoseconds a record of one call that must pass.
+fn time(call: impl FnOnce() -> bool) -> f64 {
+    let start = Instant::now();
+    let passes = black_box(call());
+    let elapsed = start.elapsed();
+    assert!(passes);
+    elapsed.as_secs_f64() * 1e9 / RECORDS as f64
+}
+
+fn main() {
+    let settings = SETTINGS.to_bytes();
+    let list = make_list();
+    compare_answers(&list);
+    let (mut library, mut plain) = (f64::MAX, f64::MAX);
+    for _ in 0..RUNS {
+        library = library.min(time(|| rdram::check(&SETTINGS, black_box(&list)).is_ok()));
+        plain = plain.min(time(|| {
+            plain::check(black_box(&settings), black_box(&list)).is_ok()
+        }));
+    }
+    println!("{RECORDS} records, best of {RUNS} runs");
+    println!(
+        "{:<12}{:>20}{:>20}{:>20}",
+        "call", "library ns/record", "plain ns/record", "library / plain"
+    );
+    let ratio = library / plain;
+    println!("{:<12}{library:>20.2}{plain:>20.2}{ratio:>20.2}", "check");
+}

@@ -1,0 +1,345 @@
+//! The sixteen rules as plain Rust, written from document 01 alone. A record is judged against
+//! each earlier record; no state is carried along: banks and the waiting write are found by
+//! looking back through the list.
+
+use crate::reference::{
+    figures, first_bad_block, first_bad_record, number, packet, records, Fields, ACT, NOCOP, PRER,
+    RD, REFA, REFP, WR,
+};
+
+const FIRST: u64 = 4;
+const LAST: u64 = 1_000_000_000;
+
+/// The twelve timings.
+pub struct Timings {
+    pub rc: u64,
+    pub ras: u64,
+    pub rp: u64,
+    pub pp: u64,
+    pub rr: u64,
+    pub rcd: u64,
+    pub rtr: u64,
+    pub rdp: u64,
+    pub rtp: u64,
+    pub cc: u64,
+    pub cac: u64,
+    pub cwd: u64,
+}
+
+impl Timings {
+    pub fn of(settings: &[u8]) -> Timings {
+        let n = |i: usize| number(&settings[2 * i..2 * i + 2]);
+        Timings {
+            rc: n(0),
+            ras: n(1),
+            rp: n(2),
+            pp: n(3),
+            rr: n(4),
+            rcd: n(5),
+            rtr: n(6),
+            rdp: n(7),
+            rtp: n(8),
+            cc: n(9),
+            cac: n(10),
+            cwd: n(11),
+        }
+    }
+}
+
+/// A set of rules.
+#[derive(Clone, Copy, Debug, Default, PartialEq, Eq)]
+pub struct Rules(u32);
+
+impl Rules {
+    fn add_if(&mut self, rule: u32, broken: bool) {
+        self.0 |= u32::from(broken) << rule;
+    }
+
+    pub fn none(self) -> bool {
+        self.0 == 0
+    }
+
+    pub fn lowest(self) -> u32 {
+        self.0.trailing_zeros()
+    }
+
+    /// Whether the set has one rule.
+    pub fn single(self) -> bool {
+        self.0.is_power_of_two()
+    }
+}
+
+// ---- Records and what they do ----
+
+/// A record, with what it finds and closes given the records before it.
+#[derive(Clone, Debug)]
+pub struct Step {
+    pub at: u64,
+    /// None: a D.
+    pub packet: Option<Fields>,
+    /// The place and bank of the write that waits when the record comes.
+    waiting: Option<(usize, u32)>,
+    /// The banks that a PRER or REFP closes, one bit each.
+    closes: u32,
+}
+
+impl Step {
+    pub fn new(earlier: &[Step], at: u64, packet: Option<Fields>) -> Step {
+        let closes = match packet {
+            Some(p) if is_prer(p) => closed_by(earlier, p.bank),
+            _ => 0,
+        };
+        Step {
+            at,
+            packet,
+            waiting: waiting(earlier),
+            closes,
+        }
+    }
+
+    /// The place and bank of the write that this record retires.
+    fn retired(&self) -> Option<(usize, u32)> {
+        let p = self.packet?;
+        self.waiting.filter(|_| is_col(p) && p.command != RD)
+    }
+
+    fn follows_wr(earlier: &[Step]) -> Option<u64> {
+        let last = earlier.last()?;
+        (last.packet?.command == WR).then_some(last.at)
+    }
+}
+
+/// ACT, or REFA where it counts as ACT.
+fn is_act(p: Fields) -> bool {
+    p.command == ACT || p.command == REFA
+}
+
+/// PRER, or REFP where it counts as PRER.
+fn is_prer(p: Fields) -> bool {
+    p.command == PRER || p.command == REFP
+}
+
+fn is_col(p: Fields) -> bool {
+    p.command >= NOCOP
+}
+
+/// Neighbours differ by 1 and are both in 0 to 15 or both in 16 to 31.
+pub fn neighbours(a: u32, b: u32) -> bool {
+    a.abs_diff(b) == 1 && a / 16 == b / 16
+}
+
+fn near(a: u32, b: u32) -> bool {
+    a == b || neighbours(a, b)
+}
+
+#[derive(Clone, Copy, Debug, PartialEq, Eq)]
+pub enum Bank {
+    Closed,
+    Open,
+    Refresh,
+}
+
+/// A bank after the earlier records: the last of them that acts on it decides.
+pub fn bank(earlier: &[Step], bank: u32) -> Bank {
+    let packets = earlier.iter().rev().filter_map(|step| step.packet);
+    for p in packets {
+        match p.command {
+            ACT if p.bank == bank => return Bank::Open,
+            REFA if p.bank == bank => return Bank::Refresh,
+            PRER | REFP if near(p.bank, bank) => return Bank::Closed,
+            _ => {}
+        }
+    }
+    Bank::Closed
+}
+
+/// The place and bank of the waiting write: the last COL packet other than RD, if that is a WR.
+pub fn waiting(earlier: &[Step]) -> Option<(usize, u32)> {
+    let place = earlier
+        .iter()
+        .rposition(|step| step.packet.is_some_and(|p| is_col(p) && p.command != RD))?;
+    let p = earlier[place].packet?;
+    (p.command == WR).then_some((place, p.bank))
+}
+
+/// A PRER closes its bank and any neighbour that is open or under refresh.
+fn closed_by(earlier: &[Step], prer: u32) -> u32 {
+    let closes = |b: u32| b == prer || (neighbours(b, prer) && bank(earlier, b) != Bank::Closed);
+    (0..32).filter(|b| closes(*b)).map(|b| 1 << b).sum()
+}
+
+// ---- Rules ----
+
+/// Every distance that `b` must keep from the earlier record `a` at `place`: its rule and cycles.
+fn distances(t: &Timings, place: usize, a: &Step, b: &Step, mut need: impl FnMut(u32, u64)) {
+    let (Some(p), Some(q)) = (a.packet, b.packet) else {
+        return;
+    };
+    let (same, near_banks) = (p.bank == q.bank, near(p.bank, q.bank));
+    need(1, 0);
+    if !is_col(p) && !is_col(q) {
+        need(2, 4);
+    }
+    if is_col(p) && is_col(q) {
+        need(3, t.cc);
+    }
+    if is_act(p) && is_act(q) {
+        need(5, if near_banks { t.rc } else { t.rr });
+    }
+    if is_act(p) && is_prer(q) && near_banks {
+        need(6, t.ras);
+    }
+    let beside_closed = (0..32).any(|c| a.closes >> c & 1 == 1 && neighbours(c, q.bank));
+    if is_prer(p) && is_act(q) && (near_banks || beside_closed) {
+        need(7, t.rp);
+    }
+    if is_prer(p) && is_prer(q) {
+        need(8, t.pp);
+    }
+    if p.command == ACT && q.command == RD && same {
+        need(10, t.rcd);
+    }
+    if p.command == ACT && b.retired().is_some_and(|(_, bank)| bank == p.bank) {
+        need(10, t.rcd);
+    }
+    if p.command == ACT && q.command == WR && same {
+        need(10, t.rcd.saturating_sub(t.rtr));
+    }
+    if p.command == RD && q.command == WR {
+        need(11, t.cc + t.cac - t.cwd);
+    }
+    if b.retired().is_some_and(|(write, _)| write == place) {
+        need(12, t.rtr);
+    }
+    if is_prer(q) && p.command == RD && near_banks {
+        need(13, t.rdp);
+    }
+    if is_prer(q) && a.retired().is_some_and(|(_, bank)| near(bank, q.bank)) {
+        need(13, t.rtp);
+    }
+}
+
+/// Rule 1, the range: the record's instant and that of its data.
+fn out_of_range(t: &Timings, new: &Step) -> bool {
+    let data = match new.packet.map(|p| p.command) {
+        Some(RD) => new.at + t.cac,
+        Some(WR) => new.at + t.cwd,
+        _ => new.at,
+    };
+    new.at < FIRST || data > LAST
+}
+
+/// Rules 9, 14 and 16 and, of an ACT, 4.
+fn breaks_by_state(earlier: &[Step], new: &Step, p: Fields, broken: &mut Rules) {
+    let not_closed = |b: u32| bank(earlier, b) != Bank::Closed;
+    let not_open = |b: u32| bank(earlier, b) != Bank::Open;
+    broken.add_if(
+        4,
+        is_act(p) && (0..32).any(|b| near(b, p.bank) && not_closed(b)),
+    );
+    let used = (p.command == RD || p.command == WR) && not_open(p.bank);
+    broken.add_if(9, used || new.retired().is_some_and(|(_, b)| not_open(b)));
+    let lost = new.waiting.is_some_and(|(_, b)| new.closes >> b & 1 == 1);
+    broken.add_if(14, lost);
+    let masked = is_col(p) && p.mask != 0xFFFF;
+    broken.add_if(16, masked && new.retired().is_none());
+}
+
+/// The rules that a record breaks, given the records before it.
+pub fn broken(t: &Timings, earlier: &[Step], new: &Step) -> Rules {
+    let mut broken = Rules::default();
+    broken.add_if(1, out_of_range(t, new));
+    for (place, a) in earlier.iter().enumerate() {
+        distances(t, place, a, new, |rule, cycles| {
+            broken.add_if(rule, new.at < a.at + cycles);
+        });
+    }
+    if let Some(p) = new.packet {
+        breaks_by_state(earlier, new, p, &mut broken);
+    }
+    let due = Step::follows_wr(earlier).map(|at| at + t.cwd);
+    let found = new.packet.is_none().then_some(new.at);
+    broken.add_if(15, due != found);
+    broken
+}
+
+/// The least instant at which a packet keeps every distance.
+pub fn least(t: &Timings, earlier: &[Step], packet: Fields) -> u64 {
+    let new = Step::new(earlier, 0, Some(packet));
+    let mut least = FIRST;
+    for (place, a) in earlier.iter().enumerate() {
+        distances(t, place, a, &new, |_, cycles| {
+            least = least.max(a.at + cycles)
+        });
+    }
+    least
+}
+
+// ---- Calls ----
+
+/// The answer of a check. `broken` has all rules that the named record breaks.
+#[derive(Clone, Copy, Debug, Default, PartialEq, Eq)]
+pub struct Answer {
+    pub number: u32,
+    pub rule: u32,
+    pub place: u64,
+    pub broken: Rules,
+}
+
+fn refused(number: u32, place: usize) -> Answer {
+    Answer {
+        number,
+        place: place as u64,
+        ..Answer::default()
+    }
+}
+
+/// The answer for records that are all well formed.
+fn judge(settings: &[u8], list: &[u8]) -> Answer {
+    let (f, t) = (figures(settings).unwrap(), Timings::of(settings));
+    let mut earlier = Vec::new();
+    for (place, record) in list.chunks(32).enumerate() {
+        let word = number(&record[8..16]);
+        let new = Step::new(
+            &earlier,
+            number(&record[..4]),
+            packet(&f, record[4].into(), word),
+        );
+        let broken = broken(&t, &earlier, &new);
+        if !broken.none() {
+            return Answer {
+                rule: broken.lowest(),
+                broken,
+                ..refused(11, place)
+            };
+        }
+        earlier.push(new);
+    }
+    Answer::default()
+}
+
+pub fn check(settings: &[u8], list: &[u8]) -> Answer {
+    let Some(f) = figures(settings) else {
+        return refused(1, 0);
+    };
+    if !list.len().is_multiple_of(32) {
+        return refused(13, 0);
+    }
+    match first_bad_record(&f, list) {
+        Some(place) => refused(10, place),
+        None => judge(settings, list),
+    }
+}
+
+pub fn check_log(settings: &[u8], log: &[u8]) -> Answer {
+    if figures(settings).is_none() {
+        return refused(1, 0);
+    }
+    if !log.len().is_multiple_of(512) {
+        return refused(13, 0);
+    }
+    match first_bad_block(log) {
+        Some(place) => refused(12, place),
+        None => check(settings, &records(log)),
+    }
+}

@@ -1,0 +1,111 @@
+//! The checks of the library, each compared with the reference: C functions and safe wrappers.
+
+use crate::calls::{typed, Seen};
+use crate::reference::blocks;
+use crate::reference_rules::{self as rules, Answer};
+use rdram::{raw, Refusal, Settings};
+
+/// How many checks had each answer number and each rule.
+#[derive(Default)]
+pub struct Verdicts {
+    numbers: Seen,
+    rules: [u64; 17],
+    /// Those in which the named record breaks no other rule.
+    single: [u64; 17],
+}
+
+impl Verdicts {
+    fn add(&mut self, answer: &Answer) {
+        self.numbers.add(answer.number);
+        if answer.number == 11 {
+            let rule = answer.rule as usize;
+            self.rules[rule] += 1;
+            self.single[rule] += u64::from(answer.broken.single());
+        }
+    }
+
+    /// Prints the counts; fails unless exactly these numbers were seen.
+    pub fn report(&self, name: &str, expected: &[u32]) {
+        self.numbers.report(name, expected);
+        let counts: Vec<String> = (1..=16)
+            .map(|n| format!("{n}: {} ({})", self.rules[n], self.single[n]))
+            .collect();
+        if expected.contains(&11) {
+            println!("{name}: rules (as the only one): {}", counts.join(", "));
+        }
+    }
+
+    /// Fails unless each of the rules was named, also for a record that breaks it alone.
+    pub fn all_rules(&self, name: &str) {
+        for rule in 1..=16 {
+            assert!(self.single[rule] > 0, "{name}: rule {rule} alone");
+        }
+    }
+}
+
+type CFunction = unsafe extern "C" fn(*const u8, usize, *const u8, usize) -> raw::Judged;
+type Wrapper = fn(&Settings, &[u8]) -> Result<(), Refusal>;
+
+/// What a wrapper must say.
+fn wrapped(answer: &Answer) -> Result<(), Refusal> {
+    let place = answer.place;
+    Err(match answer.number {
+        0 => return Ok(()),
+        1 => Refusal::Settings,
+        10 => Refusal::Word { place: Some(place) },
+        11 => Refusal::Rule {
+            rule: answer.rule,
+            place,
+        },
+        12 => Refusal::Block { place },
+        13 => Refusal::Length,
+        number => panic!("no refusal {number} of a check"),
+    })
+}
+
+/// Runs C function and wrapper, compares with the wanted answer, and sees that no input changes.
+fn compare(calls: (CFunction, Wrapper), settings: &[u8], input: &[u8], want: &Answer) {
+    let (s, i) = (settings.to_vec(), input.to_vec());
+    // SAFETY: each pointer and length are those of one slice.
+    let got = unsafe { calls.0(s.as_ptr(), s.len(), i.as_ptr(), i.len()) };
+    let raw = raw::Judged {
+        number: want.number,
+        rule: want.rule,
+        place: want.place,
+    };
+    assert_eq!(
+        got, raw,
+        "{want:?}, settings {settings:?}, input {input:02x?}"
+    );
+    assert!(s == settings && i == input, "an input was changed");
+    if let Some(settings) = typed(settings) {
+        assert_eq!(calls.1(&settings, input), wrapped(want));
+    }
+}
+
+pub fn check(seen: &mut Verdicts, settings: &[u8], list: &[u8]) -> Answer {
+    let want = rules::check(settings, list);
+    compare((raw::rdram_check, rdram::check), settings, list, &want);
+    seen.add(&want);
+    want
+}
+
+pub fn check_log(seen: &mut Verdicts, settings: &[u8], log: &[u8]) -> Answer {
+    let want = rules::check_log(settings, log);
+    compare(
+        (raw::rdram_check_log, rdram::check_log),
+        settings,
+        log,
+        &want,
+    );
+    seen.add(&want);
+    want
+}
+
+/// A list of well formed records and its log have the same answer.
+pub fn check_both(seen: &mut Verdicts, settings: &[u8], list: &[u8]) -> Answer {
+    let want = check(seen, settings, list);
+    let calls: (CFunction, Wrapper) = (raw::rdram_check_log, rdram::check_log);
+    compare(calls, settings, &blocks(list), &want);
+    want
+}
