@@ -13,20 +13,20 @@ use Rattle.num.specs.Search.{allUpTo}
 use Rattle.settings.specs.declared.Settings.{Settings}
 use Rattle.settings.specs.Instants.{horizon, isInstant}
 use Rattle.record.specs.declared.Record.{Record}
-use Rattle.channel.specs.declared.Bank.{Bank}
-use Rattle.channel.specs.declared.BankTrack.{BankTrack}
-use Rattle.channel.specs.declared.Channel.{Channel}
+use Rattle.rules.specs.declared.Bank.{Bank}
+use Rattle.rules.specs.declared.BankTrack.{BankTrack}
+use Rattle.rules.specs.declared.Channel.{Channel}
 use Rattle.channel.specs.declared.View.{View}
 use Rattle.channel.specs.declared.Held.{Held}
 use Rattle.channel.specs.declared.Tracks.{Tracks}
 use Rattle.channel.specs.declared.Lasts.{Lasts}
-use Rattle.channel.specs.Neighbour.{split, near}
-use Rattle.channel.specs.Packets.{traits, instant, isPacket}
-use Rattle.channel.specs.History.{isClosed, isOpen, only, bankOf, retiredBy, reaches, closes, has}
-use Rattle.channel.specs.Rules.{bankCount, gapNear, gapSame, freeFor, openFor, dataDelay, fromWrite, ofBank, dataRight}
-use Rattle.channel.specs.Broken.{lowest}
-use Rattle.channel.specs.Channel.{idle, trackOf, stateOf, waitingOf, dueOf}
-use Rattle.channel.specs.Checks.{since, asks, maxUpTo, boundOf, boundIf, boundBanks, bound1, bound2, bound3, bound5, bound6, bound7, bound8, bound10, bound11, bound13Read, bound13Retire, checks, judged}
+use Rattle.rules.specs.Neighbour.{split, near}
+use Rattle.rules.specs.Packets.{traits, instant, isPacket}
+use Rattle.rules.specs.History.{isClosed, isOpen, only, bankOf, retiredBy, reaches, closes, has}
+use Rattle.rules.specs.Rules.{bankCount, gapNear, gapSame, freeFor, openFor, dataDelay, fromWrite, ofBank, dataRight}
+use Rattle.rules.specs.Broken.{lowest}
+use Rattle.rules.specs.Channel.{idle, trackOf, stateOf, waitingOf, dueOf}
+use Rattle.rules.specs.Checks.{since, asks, maxUpTo, boundOf, boundIf, boundBanks, bound1, bound2, bound3, bound5, bound6, bound7, bound8, bound10, bound11, bound13Read, bound13Retire, checks, judged}
 use Rattle.channel.specs.View.{lowOf, highOf, slotOf, heldAt, three, viewOf, heldOf}
 use Rattle.channel.specs.Tests.{tracksOf, aroundOf, actBound, kept, retired, lastsOf, test1, test2, test3, test4, test5, test6, test7, test8, test9, test10, test11, test12, test13, test14, test15, test16, pinRules, rowRules, colRules, bufferRules, found}
 use Rattle.channel.proofs.NearLaws.{near-max, same-max, near-all}

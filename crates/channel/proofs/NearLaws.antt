@@ -13,10 +13,10 @@ use borrow.Author.Tests.{eq-eqb, ne-eqb, eqb-true, eqb-false, ltb-true, ltb-fals
 use lib.Dec.{eqb, leb, ltb}
 use Rattle.num.specs.Search.{allUpTo}
 use Rattle.num.proofs.SearchLaws.{all-at, all-intro}
-use Rattle.channel.specs.Neighbour.{split, near}
-use Rattle.channel.specs.History.{only}
-use Rattle.channel.specs.Rules.{gapNear, gapSame}
-use Rattle.channel.specs.Checks.{since, asks, maxUpTo}
+use Rattle.rules.specs.Neighbour.{split, near}
+use Rattle.rules.specs.History.{only}
+use Rattle.rules.specs.Rules.{gapNear, gapSame}
+use Rattle.rules.specs.Checks.{since, asks, maxUpTo}
 use Rattle.channel.specs.View.{lowOf, highOf, three}
 
 -- ---- tests

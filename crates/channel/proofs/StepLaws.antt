@@ -19,16 +19,16 @@ use Rattle.settings.specs.declared.DataAt.{DataAt}
 use Rattle.record.specs.declared.Dualoct.{Dualoct}
 use Rattle.record.specs.declared.Record.{Record}
 use Rattle.record.specs.declared.Record.the-variants.{RowAt, ColAt, DataOf}
-use Rattle.channel.specs.declared.BankTrack.{BankTrack}
-use Rattle.channel.specs.declared.Buffer.{Buffer}
-use Rattle.channel.specs.declared.Buffer.the-variants.{Empty, Waiting, Due}
-use Rattle.channel.specs.declared.Channel.{Channel}
+use Rattle.rules.specs.declared.BankTrack.{BankTrack}
+use Rattle.rules.specs.declared.Buffer.{Buffer}
+use Rattle.rules.specs.declared.Buffer.the-variants.{Empty, Waiting, Due}
+use Rattle.rules.specs.declared.Channel.{Channel}
 use Rattle.channel.specs.declared.View.{View}
 use Rattle.channel.specs.declared.Held.{Held}
-use Rattle.channel.specs.Neighbour.{split, near}
-use Rattle.channel.specs.Packets.{traits, rowTraits, colTraits, instant}
-use Rattle.channel.specs.History.{bankBy, isClosed}
-use Rattle.channel.specs.Channel.{idle, trackOf, waitingOf, imap, bankNext, trackNext, settled, bufferBy, bufferNext, afterPacket, afterData, after}
+use Rattle.rules.specs.Neighbour.{split, near}
+use Rattle.rules.specs.Packets.{traits, rowTraits, colTraits, instant}
+use Rattle.rules.specs.History.{bankBy, isClosed}
+use Rattle.rules.specs.Channel.{idle, trackOf, waitingOf, imap, bankNext, trackNext, settled, bufferBy, bufferNext, afterPacket, afterData, after}
 use Rattle.channel.specs.View.{lowOf, highOf, slotOf, colTo, rowView, colView, viewOf, heldOf}
 use Rattle.channel.specs.Steps.{spotOf, sideOf, ownNext, sideNext, touch, banksNext, bufferStep, withBanks}
 use Rattle.channel.proofs.NearLaws.{Beside, own, low, high, near-beside, near-low, near-high, or-right}

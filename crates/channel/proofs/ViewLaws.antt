@@ -10,13 +10,13 @@ use Rattle.packet.specs.declared.RowPacket.the-variants.{Act, Prer, Refa, Refp}
 use Rattle.packet.specs.declared.ColPacket.the-variants.{Nocop, Wr, Rd}
 use Rattle.record.specs.declared.Record.{Record}
 use Rattle.record.specs.declared.Record.the-variants.{RowAt, ColAt, DataOf}
-use Rattle.channel.specs.declared.Buffer.{Buffer}
-use Rattle.channel.specs.declared.Buffer.the-variants.{Empty, Waiting, Due}
+use Rattle.rules.specs.declared.Buffer.{Buffer}
+use Rattle.rules.specs.declared.Buffer.the-variants.{Empty, Waiting, Due}
 use Rattle.channel.specs.declared.View.{View}
-use Rattle.channel.specs.Packets.{Traits, traits, rowTraits, colTraits, instant, isPacket}
-use Rattle.channel.specs.History.{only, bankOf}
-use Rattle.channel.specs.Rules.{dataDelay, fromWrite}
-use Rattle.channel.specs.Channel.{waitingOf, dueOf}
+use Rattle.rules.specs.Packets.{Traits, traits, rowTraits, colTraits, instant, isPacket}
+use Rattle.rules.specs.History.{only, bankOf}
+use Rattle.rules.specs.Rules.{dataDelay, fromWrite}
+use Rattle.rules.specs.Channel.{waitingOf, dueOf}
 use Rattle.channel.specs.View.{rowView, colView, viewOf, heldOf}
 use Rattle.channel.specs.Tests.{delayOf}
 

@@ -6,15 +6,15 @@ use mathlib.Core.List.{List}
 use lib.Dec.{eqb, ltb}
 use lib.ListN.{getD, set}
 use Rattle.settings.specs.declared.PacketAt.{PacketAt}
-use Rattle.channel.specs.declared.Bank.the-variants.{Closed}
-use Rattle.channel.specs.declared.BankTrack.{BankTrack}
-use Rattle.channel.specs.declared.Buffer.{Buffer}
-use Rattle.channel.specs.declared.Buffer.the-variants.{Empty, Due}
-use Rattle.channel.specs.declared.Channel.{Channel}
+use Rattle.rules.specs.declared.Bank.the-variants.{Closed}
+use Rattle.rules.specs.declared.BankTrack.{BankTrack}
+use Rattle.rules.specs.declared.Buffer.{Buffer}
+use Rattle.rules.specs.declared.Buffer.the-variants.{Empty, Due}
+use Rattle.rules.specs.declared.Channel.{Channel}
 use Rattle.channel.specs.declared.View.{View}
 use Rattle.channel.specs.declared.Held.{Held}
-use Rattle.channel.specs.History.{isClosed}
-use Rattle.channel.specs.Channel.{idle, settled}
+use Rattle.rules.specs.History.{isClosed}
+use Rattle.rules.specs.Channel.{idle, settled}
 use Rattle.channel.specs.View.{lowOf, highOf, slotOf}
 use Rattle.channel.specs.Tests.{retired}
 

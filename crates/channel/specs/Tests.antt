@@ -8,16 +8,16 @@ use lib.Dec.{eqb, leb}
 use lib.ListN.{getD}
 use Rattle.settings.specs.declared.Settings.{Settings}
 use Rattle.settings.specs.Instants.{horizon, isInstant}
-use Rattle.channel.specs.declared.BankTrack.{BankTrack}
-use Rattle.channel.specs.declared.Channel.{Channel}
+use Rattle.rules.specs.declared.BankTrack.{BankTrack}
+use Rattle.rules.specs.declared.Channel.{Channel}
 use Rattle.channel.specs.declared.View.{View}
 use Rattle.channel.specs.declared.Held.{Held}
 use Rattle.channel.specs.declared.Tracks.{Tracks}
 use Rattle.channel.specs.declared.Lasts.{Lasts}
-use Rattle.channel.specs.Neighbour.{near, split}
-use Rattle.channel.specs.History.{isClosed, isOpen}
-use Rattle.channel.specs.Channel.{idle}
-use Rattle.channel.specs.Checks.{since, maxUpTo, boundIf}
+use Rattle.rules.specs.Neighbour.{near, split}
+use Rattle.rules.specs.History.{isClosed, isOpen}
+use Rattle.rules.specs.Channel.{idle}
+use Rattle.rules.specs.Checks.{since, maxUpTo, boundIf}
 use Rattle.channel.specs.View.{lowOf, highOf, heldAt, three}
 
 -- the tracks that a packet concerns

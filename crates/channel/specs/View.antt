@@ -9,16 +9,16 @@ use Rattle.packet.specs.declared.ColPacket.{ColPacket}
 use Rattle.packet.specs.declared.ColPacket.the-variants.{Nocop, Wr, Rd}
 use Rattle.record.specs.declared.Record.{Record}
 use Rattle.record.specs.declared.Record.the-variants.{RowAt, ColAt, DataOf}
-use Rattle.channel.specs.declared.Bank.{Bank}
-use Rattle.channel.specs.declared.Bank.the-variants.{Closed, Open, Refresh}
-use Rattle.channel.specs.declared.BankTrack.{BankTrack}
-use Rattle.channel.specs.declared.Buffer.{Buffer}
-use Rattle.channel.specs.declared.Buffer.the-variants.{Empty, Waiting, Due}
+use Rattle.rules.specs.declared.Bank.{Bank}
+use Rattle.rules.specs.declared.Bank.the-variants.{Closed, Open, Refresh}
+use Rattle.rules.specs.declared.BankTrack.{BankTrack}
+use Rattle.rules.specs.declared.Buffer.{Buffer}
+use Rattle.rules.specs.declared.Buffer.the-variants.{Empty, Waiting, Due}
 use Rattle.channel.specs.declared.View.{View}
 use Rattle.channel.specs.declared.Held.{Held}
-use Rattle.channel.specs.Packets.{carries}
-use Rattle.channel.specs.Channel.{idle}
-use Rattle.channel.specs.Checks.{since}
+use Rattle.rules.specs.Packets.{carries}
+use Rattle.rules.specs.Channel.{idle}
+use Rattle.rules.specs.Checks.{since}
 
 -- ---- banks beside a bank, where 15 and 16 are not neighbours
 

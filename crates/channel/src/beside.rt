@@ -3,11 +3,11 @@ ghost use mathlib.Core.Path.{_≡_};
 ghost use mathlib.Core.Bool.{cond, _&&_, _||_};
 ghost use Prim.Native.Nat.{_<_};
 ghost use lib.Dec.{ltb};
-ghost use Rattle.channel.specs.Neighbour.{split, near};
-ghost use Rattle.channel.specs.Channel.{idle};
+ghost use Rattle.rules.specs.Neighbour.{split, near};
+ghost use Rattle.rules.specs.Channel.{idle};
 ghost use Rattle.channel.specs.View.{lowOf, highOf, slotOf, heldAt};
-use crate::Bank;
-use crate::BankTrack;
+use rules::Bank;
+use rules::BankTrack;
 use settings::PacketAt;
 
 // Whether bank x is bank b or a neighbour of it.

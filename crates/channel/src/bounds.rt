@@ -2,7 +2,7 @@
 ghost use mathlib.Core.Path.{_≡_};
 ghost use Prim.Native.Nat.{_<_, _^_, _-_, max};
 ghost use lib.Dec.{leb};
-ghost use Rattle.channel.specs.Checks.{since, boundIf};
+ghost use Rattle.rules.specs.Checks.{since, boundIf};
 ghost use Rattle.channel.specs.View.{three};
 
 // The later of two.

@@ -1,11 +1,9 @@
 // The lowest rule that a record breaks in a state of the channel.
 ghost use mathlib.Core.Path.{_≡_};
 ghost use mathlib.Core.Bool.{cond};
-ghost use Rattle.channel.specs.Neighbour.{near, split};
-ghost use Rattle.channel.specs.Checks.{judged};
+ghost use Rattle.rules.specs.Neighbour.{near, split};
+ghost use Rattle.rules.specs.Checks.{judged};
 ghost use Rattle.channel.specs.Tests.{actBound, pinRules, rowRules, colRules, bufferRules, found, aroundOf};
-use crate::BankTrack;
-use crate::Channel;
 use crate::Held;
 use crate::Lasts;
 use crate::Tracks;
@@ -21,6 +19,8 @@ use crate::tests;
 use crate::views::held_of;
 use crate::views::view_of;
 use record::Record;
+use rules::BankTrack;
+use rules::Channel;
 use settings::Settings;
 
 // The rule where its test failed, or what the later rules found.

@@ -1,4 +1,4 @@
-// The channel: what a planner, a checker and a device model keep of the packets so far (document 01, "Banks", "Write buffer").
+// The state of the channel in code: the lowest rule that a record breaks in it, and the state after the record.
 pub mod beside;
 pub mod bounds;
 pub mod judging;
@@ -6,50 +6,8 @@ pub mod steps;
 pub mod tests;
 pub mod views;
 
-use settings::PacketAt;
-
-// "A bank is closed, open on a row, or under refresh."
-pub enum Bank {
-    Closed,
-    Open(u32),
-    Refresh,
-}
-
-// A bank with its last instants, 0 where there was none: of an ACT or REFA, of an ACT, of a PRER or REFP to it or one that
-// closed it, of an RD, and of a retire.
-pub struct BankTrack {
-    pub bank: Bank,
-    pub opened: PacketAt,
-    pub act: PacketAt,
-    pub pre: PacketAt,
-    pub rd: PacketAt,
-    pub retire: PacketAt,
-}
-
-// A write in the buffer: its bank and column, and the instant of its WR.
-pub struct Write {
-    pub bank: u32,
-    pub column: u32,
-    pub at: PacketAt,
-}
-
-// The write buffer. Due: the record of the write's data is the next in the list.
-pub enum Buffer {
-    Empty,
-    Waiting(Write),
-    Due(Write),
-}
-
-// The banks, the last instants of the whole channel (of any packet, ROW, COL, PRER or REFP, RD; 0: none), and the buffer.
-pub struct Channel {
-    pub banks: [BankTrack; 32],
-    pub last: PacketAt,
-    pub row: PacketAt,
-    pub col: PacketAt,
-    pub pre: PacketAt,
-    pub rd: PacketAt,
-    pub buffer: Buffer,
-}
+use rules::Bank;
+use rules::BankTrack;
 
 // What a record is to the rules: its instant, the bank and column that it names (0: none) and what it makes of that bank; then
 // whether it opens the bank (ACT, REFA), is an ACT, precharges (PRER, REFP), reads (RD), writes (WR), takes the ROW pins or

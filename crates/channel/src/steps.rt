@@ -1,16 +1,11 @@
 // The state of the channel after a record.
 ghost use mathlib.Core.Path.{_≡_};
 ghost use mathlib.Core.Bool.{cond};
-ghost use Rattle.channel.specs.Neighbour.{split};
-ghost use Rattle.channel.specs.Channel.{fresh, settled, after};
+ghost use Rattle.rules.specs.Neighbour.{split};
+ghost use Rattle.rules.specs.Channel.{fresh, settled, after};
 ghost use Rattle.channel.specs.Steps.{spotOf, sideOf, ownNext, sideNext, changed, banksNext, bufferStep, withBanks};
-use crate::Bank;
-use crate::BankTrack;
-use crate::Buffer;
-use crate::Channel;
 use crate::Held;
 use crate::View;
-use crate::Write;
 use crate::beside::choose;
 use crate::beside::high_of;
 use crate::beside::low_of;
@@ -20,6 +15,11 @@ use crate::views::held_of;
 use crate::views::is_closed;
 use crate::views::view_of;
 use record::Record;
+use rules::Bank;
+use rules::BankTrack;
+use rules::Buffer;
+use rules::Channel;
+use rules::Write;
 use settings::PacketAt;
 
 // One of two instants.

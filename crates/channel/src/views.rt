@@ -1,17 +1,17 @@
 // What a record and the write buffer are to the rules.
 ghost use mathlib.Core.Path.{_≡_};
 ghost use mathlib.Core.Bool.{not, _||_};
-ghost use Rattle.channel.specs.Packets.{carries};
-ghost use Rattle.channel.specs.History.{isClosed, isOpen};
+ghost use Rattle.rules.specs.Packets.{carries};
+ghost use Rattle.rules.specs.History.{isClosed, isOpen};
 ghost use Rattle.channel.specs.View.{nothing, rowView, colView, viewOf, heldOf};
-use crate::Bank;
-use crate::BankTrack;
-use crate::Buffer;
 use crate::Held;
 use crate::View;
 use packet::ColPacket;
 use packet::RowPacket;
 use record::Record;
+use rules::Bank;
+use rules::BankTrack;
+use rules::Buffer;
 
 // A view of data at an instant.
 fn data_view(at: u32) -> View

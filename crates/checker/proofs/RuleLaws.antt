@@ -16,11 +16,11 @@ use Rattle.record.specs.declared.RecordRead.the-variants.{NoRecord, Known}
 use Rattle.record.specs.declared.Refusal.the-variants.{Rule}
 use Rattle.record.specs.Record.{recordRead, recordFits, wellFormed, isKnown}
 use Rattle.record.proofs.RoundTrip.{record-read-fits}
-use Rattle.channel.specs.Neighbour.{split}
-use Rattle.channel.specs.Broken.{recordOf, ruleAt, firstBroken}
-use Rattle.channel.specs.Checks.{foundAt, firstFound}
-use Rattle.channel.proofs.NeighbourLaws.{split-neighbours}
-use Rattle.channel.proofs.CheckerRight.{checker-right}
+use Rattle.rules.specs.Neighbour.{split}
+use Rattle.rules.specs.Broken.{recordOf, ruleAt, firstBroken}
+use Rattle.rules.specs.Checks.{foundAt, firstFound}
+use Rattle.rules.proofs.NeighbourLaws.{split-neighbours}
+use Rattle.rules.proofs.CheckerRight.{checker-right}
 use Rattle.checker.specs.declared.Judged.{Judged}
 use Rattle.checker.specs.declared.Judged.the-variants.{Passed, Refused}
 use Rattle.checker.specs.Check.{known, ruleAnswer}

@@ -18,10 +18,10 @@ use native.Mathlib.Numerals.{add-one}
 use Rattle.record.specs.Record.{recordRead, recordAt, recordsIn, recordFits, wellFormed, firstBad}
 use Rattle.log.specs.Block.{used, blocksIn, blockAt, firstBadBlock, listOf}
 use Rattle.log.proofs.ListThenLog.{recordsAt, used-most, used-full, length-list, list-blocks, part-list}
-use Rattle.channel.specs.Neighbour.{split}
-use Rattle.channel.specs.Broken.{recordOf}
-use Rattle.channel.specs.Channel.{after}
-use Rattle.channel.specs.Checks.{channelAfter}
+use Rattle.rules.specs.Neighbour.{split}
+use Rattle.rules.specs.Broken.{recordOf}
+use Rattle.rules.specs.Channel.{after}
+use Rattle.rules.specs.Checks.{channelAfter}
 use Rattle.checker.specs.Check.{known, recordsUpTo, recordsOf}
 use Rattle.checker.proofs.RuleLaws.{known-fits}
 use Rattle.checker.specs.Walk.{placeOf, recordVia, recordsVia}

@@ -14,8 +14,8 @@ use Rattle.record.specs.declared.Refusal.{Refusal}
 use Rattle.record.specs.declared.Refusal.the-variants.{Word, Rule, Block, Length}
 use Rattle.record.specs.Record.{recordRead, recordAt, recordsIn, firstBad}
 use Rattle.log.specs.Block.{blocksIn, firstBadBlock, listOf}
-use Rattle.channel.specs.Neighbour.{split}
-use Rattle.channel.specs.Broken.{ruleAt, firstBroken}
+use Rattle.rules.specs.Neighbour.{split}
+use Rattle.rules.specs.Broken.{ruleAt, firstBroken}
 use Rattle.checker.specs.declared.Judged.{Judged}
 use Rattle.checker.specs.declared.Judged.the-variants.{Passed, Refused}
 

@@ -1,5 +1,5 @@
 -- `channel::beside::is_near` meets its contract: the tests are those of the definition.
-use Rattle.channel.specs.Neighbour.{split}
+use Rattle.rules.specs.Neighbour.{split}
 use borrow.Author.Needs.{needs}
 use Rattle.channel.proofs.beside.is_near.Statement.{statement}
 use Rattle.channel.proofs.beside.is_near.Tie as tie

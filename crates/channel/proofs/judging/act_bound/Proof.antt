@@ -2,7 +2,7 @@
 use Prim.Native.Nat.{_-_, _≤_}
 use mathlib.Core.Path.{_≡_, refl, _∙_}
 use native.Mathlib.Omega.{arith}
-use Rattle.channel.specs.Checks.{maxUpTo}
+use Rattle.rules.specs.Checks.{maxUpTo}
 use Rattle.channel.specs.Tests.{actTerm}
 use Rattle.channel.proofs.NearLaws.{max-step}
 use borrow.Author.Needs.{needs}

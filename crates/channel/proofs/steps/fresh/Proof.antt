@@ -1,6 +1,6 @@
 -- `channel::steps::fresh` meets its contract: every bank is idle.
-use Rattle.channel.specs.Channel.{fresh}
-use Rattle.channel.specs.Rules.{bankCount}
+use Rattle.rules.specs.Channel.{fresh}
+use Rattle.rules.specs.Rules.{bankCount}
 use borrow.Author.Needs.{needs}
 use Rattle.channel.proofs.steps.fresh.Statement.{statement}
 use Rattle.channel.proofs.steps.fresh.Tie as tie

@@ -1,5 +1,5 @@
 -- `channel::steps::settle` meets its contract: by the state of the buffer.
-use Rattle.channel.specs.Channel.{settled}
+use Rattle.rules.specs.Channel.{settled}
 use borrow.Author.Needs.{needs}
 use Rattle.channel.proofs.steps.settle.Statement.{statement}
 use Rattle.channel.proofs.steps.settle.Tie as tie

@@ -1,5 +1,5 @@
 -- `channel::views::is_closed` meets its contract: by the state.
-use Rattle.channel.specs.History.{isClosed}
+use Rattle.rules.specs.History.{isClosed}
 use borrow.Author.Needs.{needs}
 use Rattle.channel.proofs.views.is_closed.Statement.{statement}
 use Rattle.channel.proofs.views.is_closed.Tie as tie

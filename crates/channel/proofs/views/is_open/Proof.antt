@@ -1,5 +1,5 @@
 -- `channel::views::is_open` meets its contract: by the state.
-use Rattle.channel.specs.History.{isOpen}
+use Rattle.rules.specs.History.{isOpen}
 use borrow.Author.Needs.{needs}
 use Rattle.channel.proofs.views.is_open.Statement.{statement}
 use Rattle.channel.proofs.views.is_open.Tie as tie

@@ -8,11 +8,11 @@ use native.Mathlib.Omega.{arith}
 use borrow.Author.Count.{below-more}
 use lib.ListN.{length}
 use Rattle.record.specs.declared.Record.{Record}
-use Rattle.channel.specs.declared.Channel.{Channel}
-use Rattle.channel.specs.Neighbour.{split}
-use Rattle.channel.specs.Broken.{recordOf}
-use Rattle.channel.specs.Channel.{after}
-use Rattle.channel.specs.Checks.{judged, channelAfter, foundAt}
+use Rattle.rules.specs.declared.Channel.{Channel}
+use Rattle.rules.specs.Neighbour.{split}
+use Rattle.rules.specs.Broken.{recordOf}
+use Rattle.rules.specs.Channel.{after}
+use Rattle.rules.specs.Checks.{judged, channelAfter, foundAt}
 use Rattle.checker.specs.Check.{known, ruleAnswer}
 use Rattle.checker.specs.Walk.{placeOf, recordVia, recordsVia}
 use Rattle.checker.proofs.WalkLaws.{length-via, via-at, via-fits, channel-next}

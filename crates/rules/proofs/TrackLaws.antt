@@ -19,21 +19,21 @@ use Rattle.packet.specs.Col.{colFits}
 use Rattle.record.specs.declared.Record.{Record}
 use Rattle.record.specs.declared.Record.the-variants.{RowAt, ColAt, DataOf}
 use Rattle.record.specs.Record.{recordFits}
-use Rattle.channel.specs.declared.Bank.{Bank}
-use Rattle.channel.specs.declared.Bank.the-variants.{Closed}
-use Rattle.channel.specs.declared.BankTrack.{BankTrack}
-use Rattle.channel.specs.declared.Buffer.{Buffer}
-use Rattle.channel.specs.declared.Buffer.the-variants.{Empty, Waiting, Due}
-use Rattle.channel.specs.declared.Channel.{Channel}
-use Rattle.channel.specs.Neighbour.{Relation, near}
-use Rattle.channel.specs.Packets.{traits, rowTraits, colTraits, instant, isPacket}
-use Rattle.channel.specs.History.{bankBy, bankAfter, waitingBy, waitingAfter, bankOf, only, retiredBy, Event, reaches, closes, eventOf, events, has}
-use Rattle.channel.specs.Rules.{bankCount, dueAfter}
-use Rattle.channel.specs.Channel.{idle, fresh, trackOf, stateOf, waitingOf, dueOf, inBank, imap, bankNext, trackNext, settled, bufferBy, bufferNext, afterPacket, afterData, after}
-use Rattle.channel.proofs.Bools.{and-left}
-use Rattle.channel.proofs.ListLaws.{length-imap, getD-imap}
-use Rattle.channel.proofs.HistoryLaws.{lastOf, newest, Sorted, Within, All}
-use Rattle.channel.proofs.PrechargeLaws.{touches, Reaching}
+use Rattle.rules.specs.declared.Bank.{Bank}
+use Rattle.rules.specs.declared.Bank.the-variants.{Closed}
+use Rattle.rules.specs.declared.BankTrack.{BankTrack}
+use Rattle.rules.specs.declared.Buffer.{Buffer}
+use Rattle.rules.specs.declared.Buffer.the-variants.{Empty, Waiting, Due}
+use Rattle.rules.specs.declared.Channel.{Channel}
+use Rattle.rules.specs.Neighbour.{Relation, near}
+use Rattle.rules.specs.Packets.{traits, rowTraits, colTraits, instant, isPacket}
+use Rattle.rules.specs.History.{bankBy, bankAfter, waitingBy, waitingAfter, bankOf, only, retiredBy, Event, reaches, closes, eventOf, events, has}
+use Rattle.rules.specs.Rules.{bankCount, dueAfter}
+use Rattle.rules.specs.Channel.{idle, fresh, trackOf, stateOf, waitingOf, dueOf, inBank, imap, bankNext, trackNext, settled, bufferBy, bufferNext, afterPacket, afterData, after}
+use Rattle.rules.proofs.Bools.{and-left}
+use Rattle.rules.proofs.ListLaws.{length-imap, getD-imap}
+use Rattle.rules.proofs.HistoryLaws.{lastOf, newest, Sorted, Within, All}
+use Rattle.rules.proofs.PrechargeLaws.{touches, Reaching}
 
 -- the banks of an event are below 32
 pub record Fine (nbr : Relation) (e : Event) : Type 0 where

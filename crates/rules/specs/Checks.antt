@@ -10,13 +10,13 @@ use Rattle.num.specs.Search.{firstFalse}
 use Rattle.settings.specs.declared.Settings.{Settings}
 use Rattle.settings.specs.Instants.{horizon, isInstant}
 use Rattle.record.specs.declared.Record.{Record}
-use Rattle.channel.specs.declared.Channel.{Channel}
-use Rattle.channel.specs.Neighbour.{Relation}
-use Rattle.channel.specs.Packets.{traits, instant, isPacket}
-use Rattle.channel.specs.History.{bankOf, retiredBy, closes, has}
-use Rattle.channel.specs.Rules.{bankCount, gapAct, gapNear, gapSame, freeFor, openFor, dataDelay, fromWrite, ofBank, dataRight}
-use Rattle.channel.specs.Broken.{lowest, recordOf}
-use Rattle.channel.specs.Channel.{fresh, trackOf, stateOf, waitingOf, dueOf, after}
+use Rattle.rules.specs.declared.Channel.{Channel}
+use Rattle.rules.specs.Neighbour.{Relation}
+use Rattle.rules.specs.Packets.{traits, instant, isPacket}
+use Rattle.rules.specs.History.{bankOf, retiredBy, closes, has}
+use Rattle.rules.specs.Rules.{bankCount, gapAct, gapNear, gapSame, freeFor, openFor, dataDelay, fromWrite, ofBank, dataRight}
+use Rattle.rules.specs.Broken.{lowest, recordOf}
+use Rattle.rules.specs.Channel.{fresh, trackOf, stateOf, waitingOf, dueOf, after}
 
 -- the instant that a last one and a distance ask of the next; none asks nothing
 abbrev pub since : ℕ → ℕ → ℕ

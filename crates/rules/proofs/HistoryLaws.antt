@@ -11,10 +11,10 @@ use borrow.Author.Tests.{leb-true, le-leb, eqb-true, eq-eqb, ne-eqb}
 use native.Mathlib.Nat.{add-zero}
 use native.Mathlib.Omega.{arith}
 use Rattle.num.specs.Search.{allUpTo}
-use Rattle.channel.specs.History.{Event, only, over, pair, kept, keeps}
-use Rattle.channel.specs.Channel.{inBank}
-use Rattle.channel.specs.Checks.{since, asks, maxUpTo, boundOf, boundIf}
-use Rattle.channel.proofs.Bools.{all-ext, all-true, all-and, all-point, leb-maxUpTo}
+use Rattle.rules.specs.History.{Event, only, over, pair, kept, keeps}
+use Rattle.rules.specs.Channel.{inBank}
+use Rattle.rules.specs.Checks.{since, asks, maxUpTo, boundOf, boundIf}
+use Rattle.rules.proofs.Bools.{all-ext, all-true, all-and, all-point, leb-maxUpTo}
 
 -- the instant of the newest event that q holds of, or 0
 abbrev pub lastOf : (Event → Bool) → List Event → ℕ

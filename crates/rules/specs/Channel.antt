@@ -12,17 +12,17 @@ use Rattle.packet.specs.declared.ColPacket.{ColPacket}
 use Rattle.packet.specs.declared.ColPacket.the-variants.{Nocop, Wr, Rd}
 use Rattle.record.specs.declared.Record.{Record}
 use Rattle.record.specs.declared.Record.the-variants.{RowAt, ColAt, DataOf}
-use Rattle.channel.specs.declared.Bank.{Bank}
-use Rattle.channel.specs.declared.Bank.the-variants.{Closed}
-use Rattle.channel.specs.declared.BankTrack.{BankTrack}
-use Rattle.channel.specs.declared.Write.{Write}
-use Rattle.channel.specs.declared.Buffer.{Buffer}
-use Rattle.channel.specs.declared.Buffer.the-variants.{Empty, Waiting, Due}
-use Rattle.channel.specs.declared.Channel.{Channel}
-use Rattle.channel.specs.Neighbour.{Relation}
-use Rattle.channel.specs.Packets.{traits, instant}
-use Rattle.channel.specs.History.{bankBy, retiredBy, closes, has}
-use Rattle.channel.specs.Rules.{bankCount}
+use Rattle.rules.specs.declared.Bank.{Bank}
+use Rattle.rules.specs.declared.Bank.the-variants.{Closed}
+use Rattle.rules.specs.declared.BankTrack.{BankTrack}
+use Rattle.rules.specs.declared.Write.{Write}
+use Rattle.rules.specs.declared.Buffer.{Buffer}
+use Rattle.rules.specs.declared.Buffer.the-variants.{Empty, Waiting, Due}
+use Rattle.rules.specs.declared.Channel.{Channel}
+use Rattle.rules.specs.Neighbour.{Relation}
+use Rattle.rules.specs.Packets.{traits, instant}
+use Rattle.rules.specs.History.{bankBy, retiredBy, closes, has}
+use Rattle.rules.specs.Rules.{bankCount}
 
 -- no instant
 abbrev pub never : PacketAt

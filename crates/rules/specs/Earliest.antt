@@ -7,14 +7,14 @@ use mathlib.Core.Option.{Option, none, some}
 use Rattle.settings.specs.declared.Settings.{Settings}
 use Rattle.record.specs.declared.Record.{Record}
 use Rattle.record.specs.declared.Record.the-variants.{RowAt, ColAt, DataOf}
-use Rattle.channel.specs.declared.Write.{Write}
-use Rattle.channel.specs.declared.Channel.{Channel}
-use Rattle.channel.specs.Neighbour.{Relation}
-use Rattle.channel.specs.Packets.{traits}
-use Rattle.channel.specs.History.{bankOf, retiredBy, closes, has}
-use Rattle.channel.specs.Rules.{freeFor, openFor, ofBank, dataRight}
-use Rattle.channel.specs.Channel.{stateOf, waitingOf, dueOf}
-use Rattle.channel.specs.Checks.{boundIf, bound1, bound2, bound3, bound5, bound6, bound7, bound8, bound10, bound11, bound13Read, bound13Retire}
+use Rattle.rules.specs.declared.Write.{Write}
+use Rattle.rules.specs.declared.Channel.{Channel}
+use Rattle.rules.specs.Neighbour.{Relation}
+use Rattle.rules.specs.Packets.{traits}
+use Rattle.rules.specs.History.{bankOf, retiredBy, closes, has}
+use Rattle.rules.specs.Rules.{freeFor, openFor, ofBank, dataRight}
+use Rattle.rules.specs.Channel.{stateOf, waitingOf, dueOf}
+use Rattle.rules.specs.Checks.{boundIf, bound1, bound2, bound3, bound5, bound6, bound7, bound8, bound10, bound11, bound13Read, bound13Retire}
 
 -- a record at another instant
 unfoldable pub placedAt : ℕ → Record → Record

@@ -11,11 +11,11 @@ use Rattle.packet.specs.declared.ColPacket.{ColPacket}
 use Rattle.packet.specs.declared.ColPacket.the-variants.{Nocop, Wr, Rd}
 use Rattle.record.specs.declared.Record.{Record}
 use Rattle.record.specs.declared.Record.the-variants.{RowAt, ColAt, DataOf}
-use Rattle.channel.specs.declared.Bank.{Bank}
-use Rattle.channel.specs.declared.Bank.the-variants.{Closed, Open, Refresh}
-use Rattle.channel.specs.declared.Write.{Write}
-use Rattle.channel.specs.Neighbour.{Relation, near}
-use Rattle.channel.specs.Packets.{Traits, traits, instant}
+use Rattle.rules.specs.declared.Bank.{Bank}
+use Rattle.rules.specs.declared.Bank.the-variants.{Closed, Open, Refresh}
+use Rattle.rules.specs.declared.Write.{Write}
+use Rattle.rules.specs.Neighbour.{Relation, near}
+use Rattle.rules.specs.Packets.{Traits, traits, instant}
 
 -- ---- banks
 

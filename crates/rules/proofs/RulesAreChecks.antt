@@ -9,19 +9,19 @@ use lib.Dec.{leb}
 use Rattle.settings.specs.declared.Settings.{Settings}
 use Rattle.settings.specs.Instants.{horizon, isInstant}
 use Rattle.record.specs.declared.Record.{Record}
-use Rattle.channel.specs.declared.Bank.{Bank}
-use Rattle.channel.specs.declared.Channel.{Channel}
-use Rattle.channel.specs.Neighbour.{Relation, Neighbours, near}
-use Rattle.channel.specs.Packets.{traits, instant, isPacket}
-use Rattle.channel.specs.History.{Event, bankAfter, isClosed, isOpen, waitingAfter, bankOf, retiredBy, closes, events, keeps, over, has}
-use Rattle.channel.specs.Rules.{bankCount, gapAct, gapNear, gapSame, freeFor, openFor, dataDelay, fromWrite, ofBank, dataRight, rules}
-use Rattle.channel.specs.Rules.{rule1, rule2, rule3, rule4, rule5, rule6, rule7, rule8, rule9, rule10, rule11, rule12, rule13, rule14, rule15, rule16}
-use Rattle.channel.specs.Channel.{inBank, trackOf, stateOf, waitingOf, dueOf}
-use Rattle.channel.specs.Checks.{boundBanks, bound1, bound2, bound3, bound5, bound6, bound7, bound8, bound10, bound11, bound13Read, bound13Retire, checks}
-use Rattle.channel.proofs.Bools.{all-ext}
-use Rattle.channel.proofs.HistoryLaws.{lastOf, Within, all-map, kind-law, order-law, bank-law}
-use Rattle.channel.proofs.PrechargeLaws.{Reaching, seven-law}
-use Rattle.channel.proofs.TrackLaws.{Fine, Tracks}
+use Rattle.rules.specs.declared.Bank.{Bank}
+use Rattle.rules.specs.declared.Channel.{Channel}
+use Rattle.rules.specs.Neighbour.{Relation, Neighbours, near}
+use Rattle.rules.specs.Packets.{traits, instant, isPacket}
+use Rattle.rules.specs.History.{Event, bankAfter, isClosed, isOpen, waitingAfter, bankOf, retiredBy, closes, events, keeps, over, has}
+use Rattle.rules.specs.Rules.{bankCount, gapAct, gapNear, gapSame, freeFor, openFor, dataDelay, fromWrite, ofBank, dataRight, rules}
+use Rattle.rules.specs.Rules.{rule1, rule2, rule3, rule4, rule5, rule6, rule7, rule8, rule9, rule10, rule11, rule12, rule13, rule14, rule15, rule16}
+use Rattle.rules.specs.Channel.{inBank, trackOf, stateOf, waitingOf, dueOf}
+use Rattle.rules.specs.Checks.{boundBanks, bound1, bound2, bound3, bound5, bound6, bound7, bound8, bound10, bound11, bound13Read, bound13Retire, checks}
+use Rattle.rules.proofs.Bools.{all-ext}
+use Rattle.rules.proofs.HistoryLaws.{lastOf, Within, all-map, kind-law, order-law, bank-law}
+use Rattle.rules.proofs.PrechargeLaws.{Reaching, seven-law}
+use Rattle.rules.proofs.TrackLaws.{Fine, Tracks}
 
 -- ---- tests on banks go by the states alone
 

@@ -13,20 +13,20 @@ use Rattle.settings.specs.declared.Settings.{Settings}
 use Rattle.settings.specs.Instants.{horizon, isInstant}
 use Rattle.record.specs.declared.Record.{Record}
 use Rattle.record.specs.Record.{recordFits}
-use Rattle.channel.specs.declared.Channel.{Channel}
-use Rattle.channel.specs.Neighbour.{Relation, Neighbours}
-use Rattle.channel.specs.Packets.{instant, isPacket}
-use Rattle.channel.specs.History.{events}
-use Rattle.channel.specs.Rules.{dataDelay}
-use Rattle.channel.specs.Broken.{earlier, recordOf, lowest, lowestRule, ruleAt, firstBroken, everyRule}
-use Rattle.channel.specs.Channel.{after}
-use Rattle.channel.specs.Checks.{bound1, checks, judged, channelAfter, foundAt, firstFound}
-use Rattle.channel.proofs.Bools.{and-left, and-right}
-use Rattle.channel.proofs.BrokenLaws.{lowest-none}
-use Rattle.channel.proofs.ListLaws.{earlier-next}
-use Rattle.channel.proofs.HistoryLaws.{newest}
-use Rattle.channel.proofs.TrackLaws.{Tracks, tracks-fresh, tracks-step}
-use Rattle.channel.proofs.RulesAreChecks.{rules-are-checks}
+use Rattle.rules.specs.declared.Channel.{Channel}
+use Rattle.rules.specs.Neighbour.{Relation, Neighbours}
+use Rattle.rules.specs.Packets.{instant, isPacket}
+use Rattle.rules.specs.History.{events}
+use Rattle.rules.specs.Rules.{dataDelay}
+use Rattle.rules.specs.Broken.{earlier, recordOf, lowest, lowestRule, ruleAt, firstBroken, everyRule}
+use Rattle.rules.specs.Channel.{after}
+use Rattle.rules.specs.Checks.{bound1, checks, judged, channelAfter, foundAt, firstFound}
+use Rattle.rules.proofs.Bools.{and-left, and-right}
+use Rattle.rules.proofs.BrokenLaws.{lowest-none}
+use Rattle.rules.proofs.ListLaws.{earlier-next}
+use Rattle.rules.proofs.HistoryLaws.{newest}
+use Rattle.rules.proofs.TrackLaws.{Tracks, tracks-fresh, tracks-step}
+use Rattle.rules.proofs.RulesAreChecks.{rules-are-checks}
 
 module _ (s : Settings) (nbr : Relation) (ns : Neighbours nbr) where
   -- of one record, the rule that is found is the rule that it breaks

@@ -13,19 +13,19 @@ use Rattle.settings.specs.declared.Settings.{Settings}
 use Rattle.settings.specs.Instants.{horizon, isInstant}
 use Rattle.record.specs.declared.Record.{Record}
 use Rattle.record.specs.declared.Record.the-variants.{RowAt, ColAt, DataOf}
-use Rattle.channel.specs.declared.Write.{Write}
-use Rattle.channel.specs.declared.Channel.{Channel}
-use Rattle.channel.specs.Neighbour.{Relation, Neighbours}
-use Rattle.channel.specs.Packets.{traits, instant, isPacket}
-use Rattle.channel.specs.History.{bankOf, retiredBy, closes, has}
-use Rattle.channel.specs.Rules.{freeFor, openFor, dataDelay, fromWrite, ofBank, dataRight}
-use Rattle.channel.specs.Broken.{lowest, lowestRule}
-use Rattle.channel.specs.Channel.{stateOf, waitingOf, dueOf}
-use Rattle.channel.specs.Checks.{boundIf, bound1, bound2, bound3, bound5, bound6, bound7, bound8, bound10, bound11, bound13Read, bound13Retire, checks, judged}
-use Rattle.channel.specs.Earliest.{placedAt, afterWrite, bound12, fits, earliest}
-use Rattle.channel.proofs.Bools.{not-both, and-left, and-right, leb-max}
-use Rattle.channel.proofs.TrackLaws.{Tracks}
-use Rattle.channel.proofs.CheckerRight.{judged-right}
+use Rattle.rules.specs.declared.Write.{Write}
+use Rattle.rules.specs.declared.Channel.{Channel}
+use Rattle.rules.specs.Neighbour.{Relation, Neighbours}
+use Rattle.rules.specs.Packets.{traits, instant, isPacket}
+use Rattle.rules.specs.History.{bankOf, retiredBy, closes, has}
+use Rattle.rules.specs.Rules.{freeFor, openFor, dataDelay, fromWrite, ofBank, dataRight}
+use Rattle.rules.specs.Broken.{lowest, lowestRule}
+use Rattle.rules.specs.Channel.{stateOf, waitingOf, dueOf}
+use Rattle.rules.specs.Checks.{boundIf, bound1, bound2, bound3, bound5, bound6, bound7, bound8, bound10, bound11, bound13Read, bound13Retire, checks, judged}
+use Rattle.rules.specs.Earliest.{placedAt, afterWrite, bound12, fits, earliest}
+use Rattle.rules.proofs.Bools.{not-both, and-left, and-right, leb-max}
+use Rattle.rules.proofs.TrackLaws.{Tracks}
+use Rattle.rules.proofs.CheckerRight.{judged-right}
 
 -- all tests pass
 abbrev pub every : List Bool → Bool

@@ -8,7 +8,7 @@ use borrow.Author.Tests.{leb-true, leb-false, le-leb, lt-leb, eqb-true, eqb-fals
 use native.Mathlib.Omega.{arith}
 use Rattle.num.specs.Search.{allUpTo}
 use Rattle.num.proofs.SearchLaws.{all-at, all-intro}
-use Rattle.channel.specs.Checks.{maxUpTo}
+use Rattle.rules.specs.Checks.{maxUpTo}
 
 -- two tests are equal if each passes where the other does
 pub iff-eq : (a b : Bool) → (a ≡ true → b ≡ true) → (b ≡ true → a ≡ true) → a ≡ b

@@ -15,14 +15,14 @@ use Rattle.packet.specs.declared.ColPacket.{ColPacket}
 use Rattle.packet.specs.declared.ColPacket.the-variants.{Nocop, Wr, Rd}
 use Rattle.record.specs.declared.Record.{Record}
 use Rattle.record.specs.declared.Record.the-variants.{RowAt, ColAt, DataOf}
-use Rattle.channel.specs.Neighbour.{split}
-use Rattle.channel.specs.Packets.{rowTraits, colTraits, traits, instant, isPacket}
-use Rattle.channel.specs.History.{bankBy, bankAfter, isClosed, isOpen, waitingBy, waitingAfter, eventOf, events, keeps}
-use Rattle.channel.specs.Rules.{bankCount, dataDelay, dueAfter, rules}
-use Rattle.channel.specs.Rules.{rule1, rule2, rule3, rule4, rule5, rule6, rule7, rule8, rule9, rule10, rule11, rule12, rule13, rule14, rule15, rule16}
-use Rattle.channel.specs.Broken.{earlier, recordOf, lowest, lowestRule, ruleAt, firstBroken, everyRule}
-use Rattle.channel.specs.Channel.{fresh, waitingOf, dueOf, bankNext, trackNext, settled, bufferBy, bufferNext, afterPacket, afterData, after}
-use Rattle.channel.specs.Checks.{maxUpTo, checks, judged, channelAfter, foundAt, firstFound}
+use Rattle.rules.specs.Neighbour.{split}
+use Rattle.rules.specs.Packets.{rowTraits, colTraits, traits, instant, isPacket}
+use Rattle.rules.specs.History.{bankBy, bankAfter, isClosed, isOpen, waitingBy, waitingAfter, eventOf, events, keeps}
+use Rattle.rules.specs.Rules.{bankCount, dataDelay, dueAfter, rules}
+use Rattle.rules.specs.Rules.{rule1, rule2, rule3, rule4, rule5, rule6, rule7, rule8, rule9, rule10, rule11, rule12, rule13, rule14, rule15, rule16}
+use Rattle.rules.specs.Broken.{earlier, recordOf, lowest, lowestRule, ruleAt, firstBroken, everyRule}
+use Rattle.rules.specs.Channel.{fresh, waitingOf, dueOf, bankNext, trackNext, settled, bufferBy, bufferNext, afterPacket, afterData, after}
+use Rattle.rules.specs.Checks.{maxUpTo, checks, judged, channelAfter, foundAt, firstFound}
 
 pub setH : Settings
 setH =
