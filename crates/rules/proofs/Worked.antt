@@ -24,7 +24,7 @@ use Rattle.rules.specs.Broken.{earlier, recordOf, lowest, lowestRule, ru
 use Rattle.rules.specs.Channel.{fresh, waitingOf, dueOf, bankNext, trackNext, settled, bufferBy, bufferNext, afterPacket, afterData, after}
 use Rattle.rules.specs.Checks.{maxUpTo, checks, judged, channelAfter, foundAt, firstFound}
 
-pub setH : Settings
+unfoldable pub setH : Settings
 setH =
     record {
       rc = 28;

@@ -1,0 +1,39 @@
+-- The planner's state (document 01, "Planner", "What is turned back").
+-- Assumes nothing.
+use Prim.Native.Nat.{ℕ}
+use mathlib.Core.Bool.{Bool, true, false, not, _&&_}
+use lib.Dec.{ltb}
+use Rattle.num.specs.Search.{allUpTo}
+use Rattle.settings.specs.declared.Settings.{Settings}
+use Rattle.settings.specs.Instants.{isInstant}
+use Rattle.rules.specs.declared.Bank.{Bank}
+use Rattle.rules.specs.declared.Bank.the-variants.{Closed, Open, Refresh}
+use Rattle.rules.specs.declared.Buffer.{Buffer}
+use Rattle.rules.specs.declared.Buffer.the-variants.{Empty, Waiting, Due}
+use Rattle.rules.specs.Neighbour.{Relation}
+use Rattle.rules.specs.Rules.{bankCount}
+use Rattle.rules.specs.Channel.{fresh, stateOf}
+use Rattle.state.specs.Valid.{channelValid}
+use Rattle.plan.specs.declared.Planner.{Planner}
+
+-- "Fresh: banks closed, buffer empty, refresh bank 0, now 4."
+unfoldable pub freshPlanner : Planner
+freshPlanner = record { channel = fresh; now = record { 0 = 4 }; refresh = 0; mask = 0 }
+
+unfoldable pub notRefresh : Bank → Bool
+notRefresh Closed = true
+notRefresh (Open r) = true
+notRefresh Refresh = false
+
+unfoldable pub notDue : Buffer → Bool
+notDue Empty = true
+notDue (Waiting w) = true
+notDue (Due w) = false
+
+-- a state that is not refused: "a field out of its range", "two neighbours are both not closed, or the bank of a waiting write
+-- is not open by ACT, and a planner state with a bank under refresh". Between requests no data are due.
+unfoldable pub plannerValid : Settings → Relation → Planner → Bool
+plannerValid s nbr p =
+    channelValid s nbr (p .channel)
+    && (allUpTo (λ x. notRefresh (stateOf (p .channel) x)) bankCount
+    && (notDue (p .channel .buffer) && (isInstant (p .now .0) && (ltb (p .refresh) bankCount && ltb (p .mask) 0x10000))))

@@ -1,0 +1,1 @@
+// The state of the channel as a planner or a model keeps it between calls: which states are refused, and its bytes.
