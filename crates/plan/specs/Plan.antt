@@ -24,11 +24,11 @@ use Rattle.rules.specs.History.{isClosed, bankOf, has}
 use Rattle.rules.specs.Rules.{bankCount, ofBank}
 use Rattle.rules.specs.Channel.{never, stateOf, waitingOf, after}
 use Rattle.rules.specs.Earliest.{placedAt, earliest}
-use Rattle.plan.specs.declared.Planner.{Planner}
+use Rattle.plan.specs.declared.PlannerState.{PlannerState}
 
 -- a planner with the records that it has made for a request so far, oldest first
 pub record Draft : Type 0 where
-  pub planner : Planner
+  pub planner : PlannerState
   pub records : List Record
 
 -- packets that have no instant yet
@@ -71,13 +71,13 @@ hits (some w) bank column = eqb (w .bank) bank && eqb (w .column) column
 module _ (s : Settings) (nbr : Relation) where
   -- "Each ROW or COL packet takes the least instant, not before now, that the rules allow." (the theorem that joins this to the
   -- rules: proofs/Least.antt)
-  unfoldable pub slot : Planner → Record → ℕ
+  unfoldable pub slot : PlannerState → Record → ℕ
   slot p r = max (p .now .0) (earliest s nbr (p .channel) r)
 
   -- a packet sent; "Now is the latest ROW or COL instant"
   unfoldable pub sent : Record → Draft → Draft
   sent r d =
-      let p : Planner = d .planner in
+      let p : PlannerState = d .planner in
       let q : Record = placedAt (slot p r) r in
       record {
         planner = record { channel = after nbr (p .channel) q; now = record { 0 = slot p r }; refresh = p .refresh; mask = p .mask };
@@ -111,7 +111,7 @@ module _ (s : Settings) (nbr : Relation) where
   -- D after a WR, which now waits with its own mask: "Each WR is followed in the list by its data record D, at WR + tCWD"
   unfoldable pub loaded : ℕ → Dualoct → Draft → Draft
   loaded mask bytes d =
-      let p : Planner = d .planner in
+      let p : PlannerState = d .planner in
       let q : Record = DataOf (record { 0 = p .now .0 + s .cwd }) bytes in
       record {
         planner = record { channel = after nbr (p .channel) q; now = p .now; refresh = p .refresh; mask = mask };
@@ -129,7 +129,7 @@ module _ (s : Settings) (nbr : Relation) where
   -- the next bank's turn
   unfoldable pub turned : Draft → Draft
   turned d =
-      let p : Planner = d .planner in
+      let p : PlannerState = d .planner in
       record { planner = record { channel = p .channel; now = p .now; refresh = (p .refresh + 1) % bankCount; mask = p .mask }; records = d .records }
 
   -- "Refresh: close as above, REFA, REFP, next bank modulo 32."
@@ -141,7 +141,7 @@ module _ (s : Settings) (nbr : Relation) where
   -- "wait adds to" now
   unfoldable pub plannedWait : ℕ → Draft → Draft
   plannedWait cycles d =
-      let p : Planner = d .planner in
+      let p : PlannerState = d .planner in
       record { planner = record { channel = p .channel; now = record { 0 = p .now .0 + cycles }; refresh = p .refresh; mask = p .mask }; records = d .records }
 
   -- "Drain: NOCOP if a write is buffered, then PRER to each open bank in rising order."
@@ -156,5 +156,5 @@ module _ (s : Settings) (nbr : Relation) where
   stepsOf Drain d = plannedDrain d
 
   -- what a request makes of a planner, with its records
-  unfoldable pub planned : Request → Planner → Draft
+  unfoldable pub planned : Request → PlannerState → Draft
   planned q p = stepsOf q (record { planner = p; records = [] })

@@ -14,10 +14,10 @@ use Rattle.rules.specs.Neighbour.{Relation}
 use Rattle.rules.specs.Rules.{bankCount}
 use Rattle.rules.specs.Channel.{fresh, stateOf}
 use Rattle.state.specs.Valid.{channelValid}
-use Rattle.plan.specs.declared.Planner.{Planner}
+use Rattle.plan.specs.declared.PlannerState.{PlannerState}
 
 -- "Fresh: banks closed, buffer empty, refresh bank 0, now 4."
-unfoldable pub freshPlanner : Planner
+unfoldable pub freshPlanner : PlannerState
 freshPlanner = record { channel = fresh; now = record { 0 = 4 }; refresh = 0; mask = 0 }
 
 unfoldable pub notRefresh : Bank → Bool
@@ -32,7 +32,7 @@ notDue (Due w) = false
 
 -- a state that is not refused: "a field out of its range", "two neighbours are both not closed, or the bank of a waiting write
 -- is not open by ACT, and a planner state with a bank under refresh". Between requests no data are due.
-unfoldable pub plannerValid : Settings → Relation → Planner → Bool
+unfoldable pub plannerValid : Settings → Relation → PlannerState → Bool
 plannerValid s nbr p =
     channelValid s nbr (p .channel)
     && (allUpTo (λ x. notRefresh (stateOf (p .channel) x)) bankCount

@@ -6,7 +6,7 @@ use mathlib.Core.List.{List, [], _∷_, _++_}
 use Rattle.settings.specs.declared.Settings.{Settings}
 use Rattle.record.specs.declared.Record.{Record}
 use Rattle.rules.specs.Neighbour.{Relation}
-use Rattle.plan.specs.declared.Planner.{Planner}
+use Rattle.plan.specs.declared.PlannerState.{PlannerState}
 use Rattle.plan.specs.Call.{planNext, planRecords}
 
 -- "A plan call gives the planner one request, of any bytes, with any free room, none included."
@@ -16,11 +16,11 @@ pub record Call : Type 0 where
 
 module _ (s : Settings) (nbr : Relation) where
   -- the planner after a list of calls
-  unfoldable pub plannerAfter : Planner → List Call → Planner
+  unfoldable pub plannerAfter : PlannerState → List Call → PlannerState
   plannerAfter p [] = p
   plannerAfter p (c ∷ l) = plannerAfter (planNext s nbr p (c .request) (c .room)) l
 
   -- the packet list that they make
-  unfoldable pub listed : Planner → List Call → List Record
+  unfoldable pub listed : PlannerState → List Call → List Record
   listed p [] = []
   listed p (c ∷ l) = planRecords s nbr p (c .request) (c .room) ++ listed (planNext s nbr p (c .request) (c .room)) l

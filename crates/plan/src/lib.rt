@@ -5,7 +5,7 @@ use settings::PacketAt;
 
 // A planner between two requests: the channel after its packets, now, the bank of the next refresh, and the mask of the
 // waiting write.
-pub struct Planner {
+pub struct PlannerState {
     pub channel: Channel,
     pub now: PacketAt,
     pub refresh: u32,
