@@ -1,12 +1,12 @@
 -- Laws of splice: a copy of all of a list is a splice, two splices side by side are one, and the length stays.
 -- Assumes nothing.
-use mathlib.Core.Path.{_≡_, ap, ap₂, _∙_, sym}
+use mathlib.Core.Path.{_≡_, refl, ap, ap₂, _∙_, sym}
 use mathlib.Core.List.{List, [], _∷_, _++_, append-assoc, append-nil}
 use Prim.Native.Nat.{ℕ, suc, _+_, _-_, _<_, _≤_}
 use native.Mathlib.Nat.{add-zero, zero-add}
 use native.Mathlib.Numerals.{add-one}
 use native.Mathlib.Omega.{arith}
-use lib.ListN.{length, take, drop, set, length-append, length-take, length-drop, take-append-drop, length-replicate}
+use lib.ListN.{length, take, drop, set, length-append, length-take, length-drop, length-set, take-append-drop, length-replicate}
 use lib.Seq.{take-length, drop-length, paste, take-at, drop-at, drop-drop, set-split, length-take-le}
 use Rattle.num.specs.Bytes.{splice, part, zeros}
 
@@ -38,6 +38,12 @@ splice-more l at xs ys k e h =
 -- the same from the front on
 pub splice-next : (l xs ys : List ℕ) (k : ℕ) → length xs ≡ k → k ≤ length l → splice (splice l 0 xs) k ys ≡ splice l 0 (xs ++ ys)
 splice-next l xs ys k e h = rw zero-add at (splice-more l 0 xs ys k e (omega arith))
+
+-- two stores side by side are a splice of two elements
+pub splice-two : (l : List ℕ) (at x y : ℕ) → at + 2 ≤ length l → set (set l at x) (at + 1) y ≡ splice l at (x ∷ y ∷ [])
+splice-two l at x y h =
+    rw (splice-one (set l at x) (at + 1) y (simp length-set (omega arith)), splice-one l at x (omega arith))
+    (splice-more l at (x ∷ []) (y ∷ []) 1 refl (omega arith))
 
 -- what was put is what stands there
 pub part-splice : (l : List ℕ) (at : ℕ) (xs : List ℕ) (n : ℕ) → length xs ≡ n → at ≤ length l → part (splice l at xs) at n ≡ xs

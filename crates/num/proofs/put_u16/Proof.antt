@@ -1,11 +1,9 @@
 -- `num::put_u16` meets its contract: two stores side by side are one splice.
-use Prim.Native.Nat.{_+_, _/_, _%_}
-use mathlib.Core.List.{[], _∷_}
+use Prim.Native.Nat.{_/_, _%_}
 use native.Mathlib.Omega.{arith}
-use lib.ListN.{set, length-set}
+use lib.ListN.{length-set}
 use Rattle.num.specs.Bytes.{bytes}
-use Rattle.num.proofs.SpliceLaws.{splice-one, splice-more}
-use mathlib.Core.Path.{refl}
+use Rattle.num.proofs.SpliceLaws.{splice-two}
 use borrow.Author.Needs.{needs}
 use Rattle.num.proofs.put_u16.Statement.{statement}
 use Rattle.num.proofs.put_u16.Tie as tie
@@ -30,12 +28,7 @@ same-length c = search needs
 
 returns : tie.Need-returns
 unfolding bytes
-returns c =
-    let l = c .args .b .now in
-    let a = c .args .at in
-    let x = c .args .x in
-    rw (splice-one (set l a (x % 256)) (a + 1) (x / 256 % 256) (simp length-set (omega arith)), splice-one l a (x % 256) (omega arith))
-    (splice-more l a (x % 256 ∷ []) (x / 256 % 256 ∷ []) 1 refl (omega arith))
+returns c = let x = c .args .x in splice-two (c .args .b .now) (c .args .at) (x % 256) (x / 256 % 256) (omega arith)
 
 pub put-u16-spec : {M : Type 1} → statement M
 put-u16-spec =

@@ -1,4 +1,5 @@
 -- `decode_answer` meets its contract: the tests are the definition's, in their order.
+use Prim.Native.Nat.{_/_}
 use mathlib.Core.Path.{_≡_, _∙_, sym}
 use borrow.Author.Tests.{eq-eqb, ne-eqb, le-leb, lt-leb}
 use Rattle.log.specs.Log.{decodeAnswer}
@@ -36,18 +37,20 @@ unfolding decodeAnswer
 returns-4 c =
     let i = c .before .before .before .before in
     let d = i .before .before in
+    let room = d .before .before .before .args .room in
     let e = d .faults .ensures .1 (i .if2 .left) in
     let n = c .before .before .before .records-in .ensures in
-    rw (eq-eqb _ 0 (d .before .if1 .left), eq-eqb _ _ (sym (d .faults .ensures .0) ∙ i .if2 .left), eq-eqb _ _ (sym e ∙ c .before .if3 .left ∙ n), ← n, le-leb _ _ (c .if4 .taken))
+    rw (eq-eqb _ 0 (d .before .if1 .left), eq-eqb _ _ (sym (d .faults .ensures .0) ∙ i .if2 .left), eq-eqb _ _ (sym e ∙ c .before .if3 .left ∙ n), ← n, le-leb _ (room / 32) (c .if4 .taken))
 
 returns-5 : tie.Need-returns-5
 unfolding decodeAnswer
 returns-5 c =
     let i = c .before .before .before .before in
     let d = i .before .before in
+    let room = d .before .before .before .args .room in
     let e = d .faults .ensures .1 (i .if2 .left) in
     let n = c .before .before .before .records-in .ensures in
-    rw (eq-eqb _ 0 (d .before .if1 .left), eq-eqb _ _ (sym (d .faults .ensures .0) ∙ i .if2 .left), eq-eqb _ _ (sym e ∙ c .before .if3 .left ∙ n), ← n, lt-leb _ _ (c .if4 .left))
+    rw (eq-eqb _ 0 (d .before .if1 .left), eq-eqb _ _ (sym (d .faults .ensures .0) ∙ i .if2 .left), eq-eqb _ _ (sym e ∙ c .before .if3 .left ∙ n), ← n, lt-leb _ (room / 32) (c .if4 .left))
 
 pub decode-answer-spec : {M : Type 1} → statement M
 decode-answer-spec =

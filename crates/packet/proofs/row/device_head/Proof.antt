@@ -17,11 +17,11 @@ add-result-2 c = search needs
 
 returns : tie.Need-returns
 unfolding deviceHead
-returns c = rw (lt-ltb _ _ (c .if1 .taken)) (omega arith, omega arith)
+returns c = rw (lt-ltb _ 16 (c .if1 .taken)) (omega arith, omega arith)
 
 returns-2 : tie.Need-returns-2
 unfolding deviceHead
-returns-2 c = rw (le-ltb _ _ (c .if1 .left)) (omega arith, omega arith)
+returns-2 c = rw (le-ltb _ 16 (c .if1 .left)) (omega arith, omega arith)
 
 pub device-head-spec : {M : Type 1} → statement M
 device-head-spec = tie.close (tie.spec wide-requires add-result add-result-2 returns returns-2)

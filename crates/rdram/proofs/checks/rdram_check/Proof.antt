@@ -29,7 +29,7 @@ returns c = rw (sym (c .before .before .before .read-settings .ensures) ∙ c .b
 
 returns-2 : tie.Need-returns-2
 unfolding listChecked listUnder
-returns-2 c = rw (sym (c .before .before .before .before .before .read-settings .ensures) ∙ c .before .before .before .s .given .1, ← c .before .check-list .ensures) (c .check-answer2 .ensures)
+returns-2 c = rw (sym (c .before .before .before .before .before .read-settings .ensures) ∙ c .before .before .before .s .given .1) (rw (c .before .check-list .ensures) at (c .check-answer2 .ensures))
 
 pub rdram-check-spec : {M : Type 1} → statement M
 rdram-check-spec =

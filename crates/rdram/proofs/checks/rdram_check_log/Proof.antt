@@ -29,7 +29,7 @@ returns c = rw (sym (c .before .before .before .read-settings .ensures) ∙ c .b
 
 returns-2 : tie.Need-returns-2
 unfolding logChecked logUnder
-returns-2 c = rw (sym (c .before .before .before .before .before .read-settings .ensures) ∙ c .before .before .before .s .given .1, ← c .before .check-log .ensures) (c .check-answer2 .ensures)
+returns-2 c = rw (sym (c .before .before .before .before .before .read-settings .ensures) ∙ c .before .before .before .s .given .1) (rw (c .before .check-log .ensures) at (c .check-answer2 .ensures))
 
 pub rdram-check-log-spec : {M : Type 1} → statement M
 rdram-check-log-spec =

@@ -37,7 +37,7 @@ unfolding logDecodeAnswer logDecoded decodeUnder decodedUnder
 returns-2 c =
     let d = c .before .before .before in
     let e = sym (d .before .before .before .before .before .read-settings .ensures) ∙ d .before .before .before .s .given .1 in
-    (rw (e, ← d .decode .ensures .0) (c .copy-answer2 .ensures), rw e (d .decode .ensures .1))
+    (rw e (rw (d .decode .ensures .0) at (c .copy-answer2 .ensures)), rw e (d .decode .ensures .1))
 
 pub rdram-log-decode-spec : {M : Type 1} → statement M
 rdram-log-decode-spec =

@@ -13,7 +13,7 @@ row-answer-requires c κs = search needs
 
 returns : tie.Need-returns
 unfolding packetAnswer
-returns c = rw (eq-eqb _ 0 (c .before .before .if1 .taken), ← c .before .decode-row .ensures) (c .row-answer .ensures)
+returns c = rw (eq-eqb _ 0 (c .before .before .if1 .taken)) (rw (c .before .decode-row .ensures) at (c .row-answer .ensures))
 
 decode-col-requires : tie.Need-decode-col-requires
 decode-col-requires c κs = search needs
@@ -23,7 +23,7 @@ col-answer-requires c κs = search needs
 
 returns-2 : tie.Need-returns-2
 unfolding packetAnswer
-returns-2 c = rw (ne-eqb _ 0 (c .before .before .before .if1 .left), eq-eqb _ 1 (c .before .before .if2 .taken), ← c .before .decode-col .ensures) (c .col-answer .ensures)
+returns-2 c = rw (ne-eqb _ 0 (c .before .before .before .if1 .left), eq-eqb _ 1 (c .before .before .if2 .taken)) (rw (c .before .decode-col .ensures) at (c .col-answer .ensures))
 
 no-packet-requires : tie.Need-no-packet-requires
 no-packet-requires c κs = search needs

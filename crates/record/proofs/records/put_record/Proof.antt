@@ -33,14 +33,14 @@ same-length c = search needs
 
 returns : tie.Need-returns
 unfolding recordBytes
-returns c = rw (c .before .before .before .before .before .before .r .given .1, ← c .before .before .before .row-word .ensures) (c .before .before .put-fields .ensures)
+returns c = rw (c .before .before .before .before .before .before .r .given .1) (rw (c .before .before .before .row-word .ensures) at (c .before .before .put-fields .ensures))
 
 same-length-2 : tie.Need-same-length-2
 same-length-2 c = search needs
 
 returns-2 : tie.Need-returns-2
 unfolding recordBytes
-returns-2 c = rw (c .before .before .before .before .before .before .r2 .given .1, ← c .before .before .before .col-word .ensures) (c .before .before .put-fields2 .ensures)
+returns-2 c = rw (c .before .before .before .before .before .before .r2 .given .1) (rw (c .before .before .before .col-word .ensures) at (c .before .before .put-fields2 .ensures))
 
 same-length-3 : tie.Need-same-length-3
 same-length-3 c = search needs

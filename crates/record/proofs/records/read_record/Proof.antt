@@ -65,12 +65,13 @@ returns-2 c =
       field-in l at 16 8 (omega arith),
       field-in l at 24 8 (omega arith),
       add-zero,
-      ← c .before .before .before .before .u32-at2 .ensures,
-      ← c .before .before .before .u64-at .ensures,
-      ← c .before .before .u64-at2 .ensures,
-      ← c .before .u64-at3 .ensures,
     )
-    (c .record-of .ensures)
+    (rw (
+      c .before .before .before .before .u32-at2 .ensures,
+      c .before .before .before .u64-at .ensures,
+      c .before .before .u64-at2 .ensures,
+      c .before .u64-at3 .ensures,
+    ) at (c .record-of .ensures))
 
 pub read-record-spec : {M : Type 1} → statement M
 read-record-spec =

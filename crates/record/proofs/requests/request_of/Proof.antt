@@ -16,7 +16,7 @@ placed-requires c κs = search needs
 
 returns : tie.Need-returns
 unfolding requestOf
-returns c = rw (eq-eqb _ 0 (c .before .if1 .taken), ← c .before .before .place-of .ensures) (c .placed .ensures)
+returns c = rw (eq-eqb _ 0 (c .before .if1 .taken)) (rw (c .before .before .place-of .ensures) at (c .placed .ensures))
 
 u64-at-requires : tie.Need-u64-at-requires
 u64-at-requires c κs = search needs
@@ -33,14 +33,13 @@ placed-requires-2 c κs = search needs
 returns-2 : tie.Need-returns-2
 unfolding requestOf
 returns-2 c =
-    rw (
-      ne-eqb _ 0 (c .before .before .before .before .before .if1 .left),
-      eq-eqb _ 1 (c .before .before .before .before .if2 .taken),
-      ← c .before .before .before .before .before .before .place-of .ensures,
-      ← c .before .u16-at .ensures .0,
-      ← c .before .before .u64-at2 .ensures,
-      ← c .before .before .before .u64-at .ensures,
-    ) (c .placed2 .ensures)
+    rw (ne-eqb _ 0 (c .before .before .before .before .before .if1 .left), eq-eqb _ 1 (c .before .before .before .before .if2 .taken))
+    (rw (
+      c .before .before .before .before .before .before .place-of .ensures,
+      c .before .u16-at .ensures .0,
+      c .before .before .u64-at2 .ensures,
+      c .before .before .before .u64-at .ensures,
+    ) at (c .placed2 .ensures))
 
 returns-3 : tie.Need-returns-3
 unfolding requestOf
