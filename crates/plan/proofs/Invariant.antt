@@ -59,6 +59,53 @@ pub record Inv (s : Settings) (nbr : Relation) (p : PlannerState) : Type 0 where
 
 -- ---- a state that is not refused keeps it
 
+-- what a state that is not refused is, test by test
+pub record Tested (s : Settings) (nbr : Relation) (p : PlannerState) : Type 0 where
+  pub size : eqb (length (p .channel .banks)) bankCount ≡ true
+  pub tracks : allUpTo (λ x. trackValid s (trackOf (p .channel) x)) bankCount ≡ true
+  pub lasts : lastsValid (p .channel) ≡ true
+  pub write : writeValid s (waitingOf (p .channel .buffer)) ≡ true
+  pub one-closed : apart nbr (stateOf (p .channel)) ≡ true
+  pub opened : openFor (stateOf (p .channel)) (bankOf (waitingOf (p .channel .buffer))) ≡ true
+  pub quiet : allUpTo (λ x. notRefresh (stateOf (p .channel) x)) bankCount ≡ true
+  pub calm : notDue (p .channel .buffer) ≡ true
+  pub now-in : isInstant (p .now .0) ≡ true
+  pub refresh-in : ltb (p .refresh) bankCount ≡ true
+  pub mask-in : ltb (p .mask) 0x10000 ≡ true
+
+pub valid-tested : (s : Settings) (nbr : Relation) (p : PlannerState) → plannerValid s nbr p ≡ true → Tested s nbr p
+unfolding plannerValid channelValid
+valid-tested s nbr p e =
+    let ch : Channel = p .channel in
+    let w : Option Write = waitingOf (ch .buffer) in
+    let a = and-left (channelValid s nbr ch) _ e in
+    let ranges : Bool = eqb (length (ch .banks)) bankCount && (allUpTo (λ x. trackValid s (trackOf ch x)) bankCount && (lastsValid ch && writeValid s w)) in
+    let b = and-left ranges _ a in
+    let c = and-right (eqb (length (ch .banks)) bankCount) _ b in
+    let d = and-right (allUpTo (λ x. trackValid s (trackOf ch x)) bankCount) _ c in
+    let f = and-right (channelValid s nbr ch) _ e in
+    let g = and-right (allUpTo (λ x. notRefresh (stateOf ch x)) bankCount) _ f in
+    let h = and-right (notDue (ch .buffer)) _ g in
+    let i = and-right (isInstant (p .now .0)) _ h in
+    record {
+      size = and-left (eqb (length (ch .banks)) bankCount) _ b;
+      tracks = and-left (allUpTo (λ x. trackValid s (trackOf ch x)) bankCount) _ c;
+      lasts = and-left (lastsValid ch) _ d;
+      write = and-right (lastsValid ch) _ d;
+      one-closed = and-left (apart nbr (stateOf ch)) _ (and-right ranges _ a);
+      opened = and-right (apart nbr (stateOf ch)) _ (and-right ranges _ a);
+      quiet = and-left (allUpTo (λ x. notRefresh (stateOf ch x)) bankCount) _ f;
+      calm = and-left (notDue (ch .buffer)) _ g;
+      now-in = and-left (isInstant (p .now .0)) _ h;
+      refresh-in = and-left (ltb (p .refresh) bankCount) _ i;
+      mask-in = and-right (ltb (p .refresh) bankCount) _ i;
+    }
+
+pub tested-valid : (s : Settings) (nbr : Relation) (p : PlannerState) → Tested s nbr p → plannerValid s nbr p ≡ true
+unfolding plannerValid channelValid
+tested-valid s nbr p t =
+    rw (t .size, t .tracks, t .lasts, t .write, t .one-closed, t .opened, t .quiet, t .calm, t .now-in, t .refresh-in, t .mask-in)
+
 or-else : (a b : Bool) → not a || b ≡ true → a ≡ true → b ≡ true
 or-else a b h e = rw e at h
 
@@ -69,33 +116,24 @@ in-write s (some w) h =
     (ltb-true _ _ (and-left (ltb (w .bank) bankCount) _ h), ltb-true _ _ (and-left (ltb (w .column) (s .columns)) _ (and-right (ltb (w .bank) bankCount) _ h)))
 
 pub valid-inv : (s : Settings) (nbr : Relation) (p : PlannerState) → plannerValid s nbr p ≡ true → Inv s nbr p
-unfolding plannerValid channelValid trackValid apart
+unfolding trackValid apart
 valid-inv s nbr p e =
-    let ch : Channel = p .channel in
-    let w : Option Write = waitingOf (ch .buffer) in
-    let a = and-left (channelValid s nbr ch) _ e in
-    let ranges = and-left (eqb (length (ch .banks)) bankCount && (allUpTo (λ x. trackValid s (trackOf ch x)) bankCount && (lastsValid ch && writeValid s w))) _ a in
-    let joined = and-right (eqb (length (ch .banks)) bankCount && (allUpTo (λ x. trackValid s (trackOf ch x)) bankCount && (lastsValid ch && writeValid s w))) _ a in
-    let tracks = and-right (eqb (length (ch .banks)) bankCount) _ ranges in
-    let writes = and-right (lastsValid ch) _ (and-right (allUpTo (λ x. trackValid s (trackOf ch x)) bankCount) _ tracks) in
-    let b = and-right (channelValid s nbr ch) _ e in
-    let c = and-right (allUpTo (λ x. notRefresh (stateOf ch x)) bankCount) _ b in
-    let d = and-right (notDue (ch .buffer)) _ c in
-    let f = and-right (isInstant (p .now .0)) _ d in
+    let t : Tested s nbr p = valid-tested s nbr p e in
+    let state : ℕ → Bank = stateOf (p .channel) in
     record {
-      size = eqb-true _ _ (and-left (eqb (length (ch .banks)) bankCount) _ ranges);
+      size = eqb-true _ _ (t .size);
       banked = record {
-        rows-in = λ x m. and-left (bankValid s (stateOf ch x)) _ (all-at (λ x. trackValid s (trackOf ch x)) bankCount x (and-left (allUpTo (λ x. trackValid s (trackOf ch x)) bankCount) _ tracks) m);
-        quiet = λ x m. all-at (λ x. notRefresh (stateOf ch x)) bankCount x (and-left (allUpTo (λ x. notRefresh (stateOf ch x)) bankCount) _ b) m;
+        rows-in = λ x m. and-left (bankValid s (state x)) _ (all-at (λ x. trackValid s (trackOf (p .channel) x)) bankCount x (t .tracks) m);
+        quiet = λ x m. all-at (λ x. notRefresh (state x)) bankCount x (t .quiet) m;
         one-closed = λ x y mx my n.
             or-else (nbr x y) _
-            (all-at (λ y. not (nbr x y) || (isClosed (stateOf ch x) || isClosed (stateOf ch y))) bankCount y
-            (all-at (λ x. allUpTo (λ y. not (nbr x y) || (isClosed (stateOf ch x) || isClosed (stateOf ch y))) bankCount) bankCount x (and-left (apart nbr (stateOf ch)) _ joined) mx) my) n;
+            (all-at (λ y. not (nbr x y) || (isClosed (state x) || isClosed (state y))) bankCount y
+            (all-at (λ x. allUpTo (λ y. not (nbr x y) || (isClosed (state x) || isClosed (state y))) bankCount) bankCount x (t .one-closed) mx) my) n;
       };
-      held = record { write-in = in-write s w writes; opened = and-right (apart nbr (stateOf ch)) _ joined; calm = and-left (notDue (ch .buffer)) _ c };
-      refresh-in = ltb-true _ _ (and-left (ltb (p .refresh) bankCount) _ f);
-      mask-in = ltb-true _ _ (and-right (ltb (p .refresh) bankCount) _ f);
-      low = leb-true _ _ (and-left (leb 4 (p .now .0)) _ (and-left (isInstant (p .now .0)) _ d));
+      held = record { write-in = in-write s (waitingOf (p .channel .buffer)) (t .write); opened = t .opened; calm = t .calm };
+      refresh-in = ltb-true _ _ (t .refresh-in);
+      mask-in = ltb-true _ _ (t .mask-in);
+      low = leb-true _ _ (and-left (leb 4 (p .now .0)) _ (t .now-in));
     }
 
 -- ---- bank states after a step
