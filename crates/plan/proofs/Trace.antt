@@ -39,23 +39,24 @@ abbrev pub Each : (List Record → Record → Type 0) → List Record → Type 0
 Each P [] = Unit {0}
 Each P (r ∷ es) = P es r × Each P es
 
-each-earlier : (P : List Record → Record → Type 0) (l : List Record) (n : ℕ) → n ≤ length l → Each P (earlier l n) → (j : ℕ) → j < n → P (earlier l j) (recordOf l j)
-each-earlier P l zero m k j h = absurd (omega arith)
-each-earlier P l (suc n) m k j h = go (eqb j n) refl (λ q. each-earlier P l n (omega arith) (both .1) j q)
+each-down : (P : List Record → Record → Type 0) (l : List Record) (n : ℕ) → n ≤ length l → Each P (earlier l n) → (j : ℕ) → j ≤ n → Each P (earlier l j)
+each-down P l zero m k j h = let z : j ≡ 0 = omega arith in rw z k
+each-down P l (suc n) m k j h = go (eqb j (suc n)) refl (λ q. each-down P l n (omega arith) (below .1) j q)
   where
-    both : P (earlier l n) (recordOf l n) × Each P (earlier l n)
-    both = rw (earlier-next l n (omega arith)) at k
+    below : P (earlier l n) (recordOf l n) × Each P (earlier l n)
+    below = rw (earlier-next l n (omega arith)) at k
 
-    go : (b : Bool) → eqb j n ≡ b → (j < n → P (earlier l j) (recordOf l j)) → P (earlier l j) (recordOf l j)
-    go true e ih = rw (eqb-true j n e) (both .0)
-    go false e ih = ih (omega (arith, eqb-false j n e))
+    go : (b : Bool) → eqb j (suc n) ≡ b → (j ≤ n → Each P (earlier l j)) → Each P (earlier l j)
+    go true e ih = rw (eqb-true j (suc n) e) k
+    go false e ih = ih (omega (arith, eqb-false j (suc n) e))
+
+pub each-before : (P : List Record → Record → Type 0) (l : List Record) → Each P (reverse l) → (j : ℕ) → j ≤ length l → Each P (earlier l j)
+each-before P l k j h = each-down P l (length l) (omega arith) (rw (take-length l) k) j h
 
 pub each-at : (P : List Record → Record → Type 0) (l : List Record) → Each P (reverse l) → (j : ℕ) → j < length l → P (earlier l j) (recordOf l j)
-each-at P l k j h = each-earlier P l (length l) (omega arith) (rw (take-length l) k) j h
-
-pub each-map : (P Q : List Record → Record → Type 0) → ((es : List Record) (r : Record) → P es r → Q es r) → (es : List Record) → Each P es → Each Q es
-each-map P Q f [] k = tt
-each-map P Q f (r ∷ es) k = (f es r (k .0), each-map P Q f es (k .1))
+each-at P l k j h =
+    let both : P (earlier l j) (recordOf l j) × Each P (earlier l j) = rw (earlier-next l j h) at (each-before P l k (suc j) h) in
+    both .0
 
 -- ---- the state and now after records, newest first
 
