@@ -1,0 +1,125 @@
+-- A plan call, accepted or refused: the planner and the records that it makes.
+-- Assumes nothing.
+use Prim.Native.Nat.{ℕ, _+_, _/_, _≤_}
+use mathlib.Core.Path.{_≡_, refl}
+use mathlib.Core.Bool.{Bool, true, false, _&&_, cond}
+use mathlib.Core.List.{List, [], _∷_, reverse, reverseAux}
+use lib.Dec.{leb}
+use lib.ListN.{length}
+use borrow.Author.Tests.{leb-true}
+use native.Mathlib.Omega.{arith}
+use Rattle.num.specs.Bytes.{Bytes}
+use Rattle.settings.specs.declared.Settings.{Settings}
+use Rattle.settings.specs.Instants.{horizon}
+use Rattle.record.specs.declared.Record.{Record}
+use Rattle.record.specs.declared.Request.{Request}
+use Rattle.record.specs.declared.Request.the-variants.{Read, Write as WriteTo, Refresh as RefreshBank, Wait, Drain}
+use Rattle.record.specs.declared.Refusal.{Refusal}
+use Rattle.record.specs.declared.Refusal.the-variants.{Horizon, Full}
+use Rattle.record.specs.declared.RequestRead.{RequestRead}
+use Rattle.record.specs.declared.RequestRead.the-variants.{Refused as RefusedRequest, Accepted}
+use Rattle.record.specs.Request.{requestRead}
+use Rattle.record.proofs.RequestLaws.{InRange, accepted-range}
+use Rattle.rules.specs.Neighbour.{Relation, Neighbours}
+use Rattle.rules.specs.Packets.{instant}
+use Rattle.rules.specs.Rules.{dataDelay}
+use Rattle.rules.proofs.Bools.{not-both, and-left, and-right}
+use Rattle.plan.specs.declared.PlannerState.{PlannerState}
+use Rattle.plan.specs.declared.Outcome.the-variants.{Refused, Made as MadeSome}
+use Rattle.plan.specs.Plan.{Draft, plannedWait, stepsOf, planned}
+use Rattle.plan.specs.Call.{inTime, timely, outcomeOf, outcomeBy, planOutcome, isMade, accepted, draftBy, draftOf, planNext, planRecords}
+use Rattle.plan.proofs.Invariant.{Inv}
+use Rattle.plan.proofs.Trace.{Each, channelBy, Placed, Trace, trace-start}
+use Rattle.plan.proofs.PlanLaws.{Good, good-read, good-write, good-refresh, good-drain}
+
+-- what a call makes of planner p: the state after its records, each in its place
+pub record Made (s : Settings) (nbr : Relation) (p : PlannerState) (d : Draft) : Type 0 where
+  pub channel : d .planner .channel ≡ channelBy nbr (p .channel) (reverse (d .records))
+  pub each : Each (Placed s nbr p) (reverse (d .records))
+  pub inv : Inv s nbr (d .planner)
+
+-- no packet or data instant passes the last instant
+abbrev pub InTime : Settings → List Record → Record → Type 0
+InTime s es r = instant r + dataDelay s r ≤ horizon
+
+pub each-in-time : (s : Settings) (l : List Record) → inTime s l ≡ true → Each (InTime s) (reverse l)
+unfolding inTime
+each-in-time s l e = go l [] e tt
+  where
+    go : (l es : List Record) → inTime s l ≡ true → Each (InTime s) es → Each (InTime s) (reverseAux l es)
+    go [] es e k = k
+    go (r ∷ l) es e k =
+        go l (r ∷ es) (and-right (leb (instant r + dataDelay s r) horizon) _ e) (leb-true _ _ (and-left (leb (instant r + dataDelay s r) horizon) _ e), k)
+
+module _ (s : Settings) (nbr : Relation) where
+  made-good : (p : PlannerState) (d : Draft) → Good s nbr p d → Made s nbr p d
+  made-good p d k = record { channel = k .trace .channel; each = k .trace .each; inv = k .inv }
+
+  made-nothing : (p : PlannerState) → Inv s nbr p → Made s nbr p (record { planner = p; records = [] })
+  made-nothing p v = made-good p (record { planner = p; records = [] }) (record { trace = trace-start s nbr p; inv = v })
+
+  pub planned-made : Neighbours nbr → (p : PlannerState) → Inv s nbr p → (q : Request) → InRange s q → Made s nbr p (planned s nbr q p)
+  unfolding planned stepsOf plannedWait channelBy
+  planned-made ns p v q i = go q i
+    where
+      d : Draft
+      d = record { planner = p; records = [] }
+
+      k : Good s nbr p d
+      k = record { trace = trace-start s nbr p; inv = v }
+
+      go : (q : Request) → InRange s q → Made s nbr p (stepsOf s nbr q d)
+      go (Read at) i = made-good p _ (good-read s nbr ns p d k at i)
+      go (WriteTo at mask bytes) i = made-good p _ (good-write s nbr ns p d k at mask bytes (i .0) (i .1))
+      go RefreshBank i = made-good p _ (good-refresh s nbr ns p d k)
+      go (Wait cycles) i =
+          record {
+            channel = refl;
+            each = tt;
+            inv = record { size = v .size; banked = v .banked; held = v .held; refresh-in = v .refresh-in; mask-in = v .mask-in; low = omega (arith, v .low) };
+          }
+      go Drain i = made-good p _ (good-drain s nbr ns p d k)
+
+  -- ---- a call
+
+  -- an accepted call passed the test of the instants
+  accepted-timely : (p : PlannerState) (x : RequestRead) (room : ℕ) → isMade (outcomeBy s nbr p x room) ≡ true → timely s (draftBy s nbr p x) ≡ true
+  unfolding outcomeBy outcomeOf draftBy isMade
+  accepted-timely p (RefusedRequest why) room e = cc
+  accepted-timely p (Accepted q) room e = go (timely s (planned s nbr q p)) (leb (length (planned s nbr q p .records)) (room / 32)) e
+    where
+      go : (a b : Bool) → isMade (cond a (cond b (MadeSome (length (planned s nbr q p .records))) (Refused Full)) (Refused Horizon)) ≡ true → a ≡ true
+      go true b h = refl
+      go false b h = h
+
+  module _ (p : PlannerState) (request : List ℕ) (room : ℕ) where
+    -- the planner and the records that the call makes
+    abbrev pub called : Draft
+    called = record { planner = planNext s nbr p request room; records = planRecords s nbr p request room }
+
+    -- a claim of what an accepted call makes, and of a refused one
+    called-either : (P : Draft → Type 0) → (accepted s nbr p request room ≡ true → P (draftOf s nbr p request)) → P (record { planner = p; records = [] }) → P called
+    unfolding planNext planRecords
+    called-either P f g = go (accepted s nbr p request room) refl
+      where
+        go : (b : Bool) → accepted s nbr p request room ≡ b → P (record { planner = cond b (draftOf s nbr p request .planner) p; records = cond b (draftOf s nbr p request .records) [] })
+        go true e = f e
+        go false e = g
+
+    pub call-made : Neighbours nbr → Bytes request → Inv s nbr p → Made s nbr p called
+    unfolding draftBy
+    call-made ns w v = called-either (Made s nbr p) (λ _. go (requestRead s request) refl) (made-nothing p v)
+      where
+        go : (x : RequestRead) → requestRead s request ≡ x → Made s nbr p (draftBy s nbr p x)
+        go (RefusedRequest why) e = made-nothing p v
+        go (Accepted q) e = planned-made ns p v q (accepted-range s request q w e)
+
+    pub call-timely : leb (p .now .0) horizon ≡ true → timely s called ≡ true
+    unfolding planOutcome timely inTime
+    call-timely e = called-either (λ d. timely s d ≡ true) (λ h. accepted-timely p (requestRead s request) room h) e
+
+    pub call-in-time : inTime s (planRecords s nbr p request room) ≡ true
+    unfolding planOutcome timely inTime
+    call-in-time =
+        called-either (λ d. inTime s (d .records) ≡ true)
+        (λ h. and-left (inTime s (draftOf s nbr p request .records)) _ (accepted-timely p (requestRead s request) room h)) refl
