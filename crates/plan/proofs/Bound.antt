@@ -1,9 +1,9 @@
 -- "No request makes more than 17 records." (document 01, "Planner"), and a drain that makes 17.
 -- Assumes nothing.
 use Prim.Native.Nat.{ℕ, zero, suc, _+_, _*_, _-_, _/_, _≤_, _<_}
-use mathlib.Core.Path.{_≡_, refl, sym, ap, _∙_}
+use mathlib.Core.Path.{_≡_, refl, sym, _∙_}
 use mathlib.Core.Bool.{Bool, true, false, not, _&&_, _||_, cond}
-use mathlib.Core.List.{List, [], _∷_, _++_, map}
+use mathlib.Core.List.{List, [], _∷_, map}
 use mathlib.Core.Option.{Option, none, some}
 use lib.Dec.{eqb}
 use lib.ListN.{length, length-append}
@@ -14,7 +14,7 @@ use Rattle.num.specs.Bytes.{bytes, number}
 use Rattle.num.specs.Search.{allUpTo}
 use Rattle.settings.specs.declared.Settings.{Settings}
 use Rattle.packet.specs.declared.RowPacket.the-variants.{Act, Prer, Refa, Refp}
-use Rattle.packet.specs.declared.ColPacket.the-variants.{Nocop, Wr, Rd}
+use Rattle.packet.specs.declared.ColPacket.the-variants.{Nocop, Rd}
 use Rattle.record.specs.declared.Dualoct.{Dualoct}
 use Rattle.record.specs.declared.Record.{Record}
 use Rattle.record.specs.declared.Place.{Place}
@@ -37,7 +37,7 @@ use Rattle.plan.specs.Planner.{freshPlanner, plannerValid}
 use Rattle.plan.specs.Call.{inTime, timely, outcomeOf, outcomeBy, planOutcome, isMade, draftBy, planNext, planRecords}
 use Rattle.plan.specs.Runs.{Call, plannerAfter}
 use Rattle.plan.specs.Plan.{Draft, rowPacket, colPacket, when, waiting, stateIn, openOn, hits, maskFor, slot, sent, flushed, closed, closedUpTo, reached, plannedRead, loaded, written, plannedWrite, turned, plannedRefresh, plannedWait, plannedDrain, stepsOf, planned}
-use Rattle.plan.proofs.SentLaws.{when-either, Sized, sent-records, flushed-waiting, flushed-size, flushed-state, row-waiting, read-waiting, saved, up-to-size, up-to-shut}
+use Rattle.plan.proofs.SentLaws.{when-either, Sized, sent-records, flushed-waiting, flushed-size, flushed-state, row-waiting, read-waiting, saved, up-to-shut}
 use Rattle.plan.proofs.Invariant.{Inv, Banked, valid-inv}
 
 -- ---- how many of the first banks a test picks
