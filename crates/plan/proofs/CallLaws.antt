@@ -2,7 +2,7 @@
 -- Assumes nothing.
 use Prim.Native.Nat.{ℕ, _+_, _/_, _≤_}
 use mathlib.Core.Path.{_≡_, refl}
-use mathlib.Core.Bool.{Bool, true, false, _&&_, cond}
+use mathlib.Core.Bool.{Bool, true, false, cond}
 use mathlib.Core.List.{List, [], _∷_, reverse, reverseAux}
 use lib.Dec.{leb}
 use lib.ListN.{length}
@@ -14,7 +14,6 @@ use Rattle.settings.specs.Instants.{horizon}
 use Rattle.record.specs.declared.Record.{Record}
 use Rattle.record.specs.declared.Request.{Request}
 use Rattle.record.specs.declared.Request.the-variants.{Read, Write as WriteTo, Refresh as RefreshBank, Wait, Drain}
-use Rattle.record.specs.declared.Refusal.{Refusal}
 use Rattle.record.specs.declared.Refusal.the-variants.{Horizon, Full}
 use Rattle.record.specs.declared.RequestRead.{RequestRead}
 use Rattle.record.specs.declared.RequestRead.the-variants.{Refused as RefusedRequest, Accepted}
@@ -23,13 +22,13 @@ use Rattle.record.proofs.RequestLaws.{InRange, accepted-range}
 use Rattle.rules.specs.Neighbour.{Relation, Neighbours}
 use Rattle.rules.specs.Packets.{instant}
 use Rattle.rules.specs.Rules.{dataDelay}
-use Rattle.rules.proofs.Bools.{not-both, and-left, and-right}
+use Rattle.rules.proofs.Bools.{and-left, and-right}
 use Rattle.plan.specs.declared.PlannerState.{PlannerState}
 use Rattle.plan.specs.declared.Outcome.the-variants.{Refused, Made as MadeSome}
 use Rattle.plan.specs.Plan.{Draft, plannedWait, stepsOf, planned}
 use Rattle.plan.specs.Call.{inTime, timely, outcomeOf, outcomeBy, planOutcome, isMade, accepted, draftBy, draftOf, planNext, planRecords}
 use Rattle.plan.proofs.Invariant.{Inv}
-use Rattle.plan.proofs.Trace.{Each, channelBy, Placed, Trace, trace-start}
+use Rattle.plan.proofs.Trace.{Each, channelBy, Placed, trace-start}
 use Rattle.plan.proofs.PlanLaws.{Good, good-read, good-write, good-refresh, good-drain}
 
 -- what a call makes of planner p: the state after its records, each in its place

@@ -1,13 +1,13 @@
--- What a planner keeps between its steps, as far as no instant is in it: it holds of every planner state that is not refused,
--- and lets each packet of the planner in.
+-- What a planner keeps between its steps, instants apart: it holds of every planner state that is not refused, and each packet
+-- that the planner sends then passes the tests on the state (rules 4, 9, 14, 15 and 16).
 -- Assumes nothing.
 use Prim.Native.Nat.{ℕ, _≤_, _<_, _^_}
-use mathlib.Core.Path.{_≡_, refl, sym, ap, _∙_}
-use mathlib.Core.Bool.{Bool, true, false, not, _&&_, _||_, cond, and-true}
+use mathlib.Core.Path.{_≡_, refl, sym, _∙_}
+use mathlib.Core.Bool.{Bool, true, false, not, _&&_, _||_, cond, or-true}
 use mathlib.Core.Option.{Option, none, some}
 use lib.Dec.{eqb, leb, ltb}
 use lib.ListN.{length}
-use borrow.Author.Tests.{leb-true, ltb-true, lt-ltb, eqb-true, eq-eqb}
+use borrow.Author.Tests.{leb-true, ltb-true, lt-ltb, eqb-true}
 use native.Mathlib.Omega.{arith}
 use Rattle.num.specs.Search.{allUpTo}
 use Rattle.num.proofs.SearchLaws.{all-at, all-intro}
@@ -22,8 +22,8 @@ use Rattle.rules.specs.declared.Buffer.the-variants.{Empty, Waiting, Due}
 use Rattle.rules.specs.declared.Channel.{Channel}
 use Rattle.rules.specs.Neighbour.{Relation, Neighbours, near}
 use Rattle.rules.specs.Packets.{carries, traits, isPacket}
-use Rattle.rules.specs.History.{isClosed, isOpen, bankOf, only, retiredBy, reaches, closes, has}
-use Rattle.rules.specs.Rules.{bankCount, freeFor, openFor, ofBank, dataRight}
+use Rattle.rules.specs.History.{isClosed, isOpen, bankOf, only, retiredBy, reaches, has}
+use Rattle.rules.specs.Rules.{bankCount, freeFor, openFor, ofBank}
 use Rattle.rules.specs.Channel.{trackOf, stateOf, waitingOf, dueOf}
 use Rattle.rules.specs.Earliest.{fits}
 use Rattle.rules.proofs.Bools.{not-both, and-left, and-right, neither}
@@ -35,7 +35,7 @@ use Rattle.plan.specs.Plan.{carried}
 -- open rows are in range, no bank is under refresh, and of two neighbours one is closed
 pub record Banked (s : Settings) (nbr : Relation) (state : ℕ → Bank) : Type 0 where
   pub rows-in : (x : ℕ) → x < bankCount → bankValid s (state x) ≡ true
-  pub quiet : (x : ℕ) → x < bankCount → notRefresh (state x) ≡ true
+  pub no-refresh : (x : ℕ) → x < bankCount → notRefresh (state x) ≡ true
   pub one-closed : (x y : ℕ) → x < bankCount → y < bankCount → nbr x y ≡ true → isClosed (state x) || isClosed (state y) ≡ true
 
 -- the bank and column of a waiting write are in range
@@ -47,7 +47,7 @@ WriteIn s (some w) = (w .bank < bankCount) × (w .column < s .columns)
 pub record Held (s : Settings) (ch : Channel) : Type 0 where
   pub write-in : WriteIn s (waitingOf (ch .buffer))
   pub opened : openFor (stateOf ch) (bankOf (waitingOf (ch .buffer))) ≡ true
-  pub calm : notDue (ch .buffer) ≡ true
+  pub no-due : notDue (ch .buffer) ≡ true
 
 pub record Inv (s : Settings) (nbr : Relation) (p : PlannerState) : Type 0 where
   pub size : length (p .channel .banks) ≡ bankCount
@@ -67,8 +67,8 @@ pub record Tested (s : Settings) (nbr : Relation) (p : PlannerState) : Type 0 wh
   pub write : writeValid s (waitingOf (p .channel .buffer)) ≡ true
   pub one-closed : apart nbr (stateOf (p .channel)) ≡ true
   pub opened : openFor (stateOf (p .channel)) (bankOf (waitingOf (p .channel .buffer))) ≡ true
-  pub quiet : allUpTo (λ x. notRefresh (stateOf (p .channel) x)) bankCount ≡ true
-  pub calm : notDue (p .channel .buffer) ≡ true
+  pub no-refresh : allUpTo (λ x. notRefresh (stateOf (p .channel) x)) bankCount ≡ true
+  pub no-due : notDue (p .channel .buffer) ≡ true
   pub now-in : isInstant (p .now .0) ≡ true
   pub refresh-in : ltb (p .refresh) bankCount ≡ true
   pub mask-in : ltb (p .mask) 0x10000 ≡ true
@@ -94,8 +94,8 @@ valid-tested s nbr p e =
       write = and-right (lastsValid ch) _ d;
       one-closed = and-left (apart nbr (stateOf ch)) _ (and-right ranges _ a);
       opened = and-right (apart nbr (stateOf ch)) _ (and-right ranges _ a);
-      quiet = and-left (allUpTo (λ x. notRefresh (stateOf ch x)) bankCount) _ f;
-      calm = and-left (notDue (ch .buffer)) _ g;
+      no-refresh = and-left (allUpTo (λ x. notRefresh (stateOf ch x)) bankCount) _ f;
+      no-due = and-left (notDue (ch .buffer)) _ g;
       now-in = and-left (isInstant (p .now .0)) _ h;
       refresh-in = and-left (ltb (p .refresh) bankCount) _ i;
       mask-in = and-right (ltb (p .refresh) bankCount) _ i;
@@ -104,7 +104,7 @@ valid-tested s nbr p e =
 pub tested-valid : (s : Settings) (nbr : Relation) (p : PlannerState) → Tested s nbr p → plannerValid s nbr p ≡ true
 unfolding plannerValid channelValid
 tested-valid s nbr p t =
-    rw (t .size, t .tracks, t .lasts, t .write, t .one-closed, t .opened, t .quiet, t .calm, t .now-in, t .refresh-in, t .mask-in)
+    rw (t .size, t .tracks, t .lasts, t .write, t .one-closed, t .opened, t .no-refresh, t .no-due, t .now-in, t .refresh-in, t .mask-in)
 
 or-else : (a b : Bool) → not a || b ≡ true → a ≡ true → b ≡ true
 or-else a b h e = rw e at h
@@ -124,13 +124,13 @@ valid-inv s nbr p e =
       size = eqb-true _ _ (t .size);
       banked = record {
         rows-in = λ x m. and-left (bankValid s (state x)) _ (all-at (λ x. trackValid s (trackOf (p .channel) x)) bankCount x (t .tracks) m);
-        quiet = λ x m. all-at (λ x. notRefresh (state x)) bankCount x (t .quiet) m;
+        no-refresh = λ x m. all-at (λ x. notRefresh (state x)) bankCount x (t .no-refresh) m;
         one-closed = λ x y mx my n.
             or-else (nbr x y) _
             (all-at (λ y. not (nbr x y) || (isClosed (state x) || isClosed (state y))) bankCount y
             (all-at (λ x. allUpTo (λ y. not (nbr x y) || (isClosed (state x) || isClosed (state y))) bankCount) bankCount x (t .one-closed) mx) my) n;
       };
-      held = record { write-in = in-write s (waitingOf (p .channel .buffer)) (t .write); opened = t .opened; calm = t .calm };
+      held = record { write-in = in-write s (waitingOf (p .channel .buffer)) (t .write); opened = t .opened; no-due = t .no-due };
       refresh-in = ltb-true _ _ (t .refresh-in);
       mask-in = ltb-true _ _ (t .mask-in);
       low = leb-true _ _ (and-left (leb 4 (p .now .0)) _ (t .now-in));
@@ -150,13 +150,6 @@ either-bank : (P : Bank → Bool) (q : Bool) (a b : Bank) → P a ≡ true → P
 either-bank P true a b e f = e
 either-bank P false a b e f = f
 
-or-true : (q : Bool) → q || true ≡ true
-or-true true = refl
-or-true false = refl
-
-pub near-self : (nbr : Relation) (b : ℕ) → near nbr b b ≡ true
-near-self nbr b = rw (eq-eqb b b refl)
-
 pub near-beside : (nbr : Relation) (b x : ℕ) → nbr b x ≡ true → near nbr b x ≡ true
 near-beside nbr b x e = rw e (or-true (eqb x b))
 
@@ -166,7 +159,7 @@ module _ (s : Settings) (nbr : Relation) (state state′ : ℕ → Bank) (k : Ba
   banked-shut q e =
       record {
         rows-in = λ x m. rw (e x m) (either-bank (bankValid s) (q x) Closed (state x) refl (k .rows-in x m));
-        quiet = λ x m. rw (e x m) (either-bank notRefresh (q x) Closed (state x) refl (k .quiet x m));
+        no-refresh = λ x m. rw (e x m) (either-bank notRefresh (q x) Closed (state x) refl (k .no-refresh x m));
         one-closed = λ x y mx my n. rw (e x mx, e y my) (shut (q x) (q y) (state x) (state y) (k .one-closed x y mx my n));
       }
     where
@@ -180,7 +173,7 @@ module _ (s : Settings) (nbr : Relation) (state state′ : ℕ → Bank) (k : Ba
   banked-open ns b row l c e =
       record {
         rows-in = λ x m. rw (e x m) (either-bank (bankValid s) (eqb x b) (Open row) (state x) (lt-ltb row (s .rows) l) (k .rows-in x m));
-        quiet = λ x m. rw (e x m) (either-bank notRefresh (eqb x b) (Open row) (state x) refl (k .quiet x m));
+        no-refresh = λ x m. rw (e x m) (either-bank notRefresh (eqb x b) (Open row) (state x) refl (k .no-refresh x m));
         one-closed = λ x y mx my n. rw (e x mx, e y my) (go x y mx my n (eqb x b) (eqb y b) refl refl);
       }
     where
@@ -219,7 +212,7 @@ module _ (s : Settings) (nbr : Relation) (state : ℕ → Bank) where
   held-stays state′ q new none i f e h = refl
   held-stays state′ q new (some w) i f e h = rw (e (w .bank) (i .0), f) h
 
--- ---- each packet is let in
+-- ---- the tests on the state
 
 due-none : (s : Settings) (b : Buffer) → notDue b ≡ true → dueOf s b ≡ none
 unfolding notDue dueOf
@@ -235,7 +228,7 @@ loses-none : (o : Option ℕ) (p q : ℕ → Bool) → ofBank o p ≡ false → 
 loses-none none p q h = refl
 loses-none (some b) p q h = rw h
 
--- a packet is let in where its bank is free or open, where it closes no bank of a waiting write, and where its mask is right
+-- a packet passes them where its bank is free or open, where it closes no bank of a waiting write, and where its mask is right
 pub fits-by : (s : Settings) (nbr : Relation) (ch : Channel) → Held s ch → (r : Record) → isPacket r ≡ true
     → freeFor nbr (stateOf ch) (traits r .opens) ≡ true → openFor (stateOf ch) (traits r .reads) ≡ true → openFor (stateOf ch) (traits r .writes) ≡ true
     → ofBank (bankOf (waitingOf (ch .buffer))) (reaches nbr (traits r .precharges)) ≡ false
@@ -244,7 +237,7 @@ pub fits-by : (s : Settings) (nbr : Relation) (ch : Channel) → Held s ch → (
 unfolding fits
 fits-by s nbr ch h r packet free reads writes far mask =
     let w : Option ℕ = bankOf (waitingOf (ch .buffer)) in
-    rw (free, reads, writes, open-only (stateOf ch) (traits r .notRead) w (h .opened), due-none s (ch .buffer) (h .calm), packet, mask)
+    rw (free, reads, writes, open-only (stateOf ch) (traits r .notRead) w (h .opened), due-none s (ch .buffer) (h .no-due), packet, mask)
     (rw (loses-none w (reaches nbr (traits r .precharges)) (λ x. not (isClosed (stateOf ch x))) far))
 
 pub free-near : (nbr : Relation) (state : ℕ → Bank) (b : ℕ) → NearClosed nbr state b → freeFor nbr state (some b) ≡ true

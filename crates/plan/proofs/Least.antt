@@ -1,8 +1,8 @@
 -- "Each ROW or COL packet takes the least instant, not before now, that the rules allow." (document 01, "Planner"): of every
 -- packet of every call of a run, by the rules over all records before it.
 -- Assumes nothing.
-use Prim.Native.Nat.{ℕ, _+_, _≤_, _<_, max}
-use mathlib.Core.Path.{_≡_, refl, sym, ap, _∙_}
+use Prim.Native.Nat.{ℕ, _+_, _≤_, _<_}
+use mathlib.Core.Path.{_≡_, sym, ap, _∙_}
 use mathlib.Core.Bool.{true}
 use mathlib.Core.List.{List, [], _∷_, _++_, append-nil, append-assoc, reverse, reverse-append}
 use lib.ListN.{length, length-append, take}
@@ -15,7 +15,7 @@ use Rattle.rules.specs.declared.Channel.{Channel}
 use Rattle.rules.specs.Neighbour.{Relation, Neighbours}
 use Rattle.rules.specs.Packets.{instant, isPacket}
 use Rattle.rules.specs.Broken.{earlier, recordOf, lowestRule}
-use Rattle.rules.specs.Earliest.{placedAt, earliest}
+use Rattle.rules.specs.Earliest.{placedAt}
 use Rattle.rules.proofs.TrackLaws.{Tracks}
 use Rattle.rules.proofs.EarliestLaws.{slot-least}
 use Rattle.plan.specs.declared.PlannerState.{PlannerState}

@@ -1,33 +1,27 @@
 -- Whole runs: every list that plan calls make keeps every rule, and the planner's channel is the state after it (document 01,
 -- "Rules over every earlier and later record", "Flat memory and whole runs").
 -- Assumes nothing.
-use Prim.Native.Nat.{ℕ, _+_, _≤_, _<_}
+use Prim.Native.Nat.{ℕ, _<_}
 use mathlib.Core.Path.{_≡_, refl, sym, ap, _∙_}
-use mathlib.Core.Bool.{Bool, true, false, _&&_, _||_}
+use mathlib.Core.Bool.{true}
 use mathlib.Core.List.{List, [], _∷_, _++_, append-nil, append-assoc, reverse, reverse-append}
-use mathlib.Core.Option.{none}
-use lib.Dec.{eqb, leb, lit≤, lit<}
-use lib.ListN.{length, length-replicate, getD-replicate}
+use lib.Dec.{eqb}
+use lib.ListN.{length}
 use lib.Seq.{take-length}
 use borrow.Author.Tests.{le-leb, eqb-true, eq-eqb}
 use native.Mathlib.Omega.{arith}
 use Rattle.num.specs.Bytes.{Bytes}
 use Rattle.num.proofs.SearchLaws.{all-intro}
 use Rattle.settings.specs.declared.Settings.{Settings}
-use Rattle.settings.specs.Instants.{horizon}
 use Rattle.record.specs.declared.Record.{Record}
 use Rattle.record.specs.Record.{recordFits}
 use Rattle.rules.specs.declared.Channel.{Channel}
-use Rattle.rules.specs.declared.BankTrack.{BankTrack}
 use Rattle.rules.specs.Neighbour.{Relation, Neighbours}
-use Rattle.rules.specs.Packets.{instant}
-use Rattle.rules.specs.Rules.{bankCount, dataDelay}
-use Rattle.rules.specs.Broken.{earlier, recordOf, lowestRule, ruleAt, everyRule}
-use Rattle.rules.specs.Channel.{idle, fresh}
-use Rattle.rules.specs.Checks.{judged, channelAfter}
-use Rattle.rules.specs.Earliest.{fits, earliest}
+use Rattle.rules.specs.Broken.{recordOf, lowestRule, ruleAt, everyRule}
+use Rattle.rules.specs.Channel.{fresh}
+use Rattle.rules.specs.Checks.{judged, channelAfter, firstFound}
 use Rattle.rules.proofs.TrackLaws.{Tracks, tracks-fresh}
-use Rattle.rules.proofs.CheckerRight.{judged-right, tracks-next}
+use Rattle.rules.proofs.CheckerRight.{judged-right, tracks-next, passes-iff}
 use Rattle.rules.proofs.EarliestLaws.{checks-split}
 use Rattle.plan.specs.declared.PlannerState.{PlannerState}
 use Rattle.plan.specs.Planner.{freshPlanner}
@@ -70,7 +64,7 @@ module _ (s : Settings) (nbr : Relation) (ns : Neighbours nbr) where
       let ih = call-tracks p h k a es (e .1) (t .1) in
       let ch : Channel = channelBy nbr (p .channel) es in
       let here : Placed s nbr p es r = e .0 in
-      let free : eqb (judged s nbr ch r) 0 ≡ true = checks-split s nbr ch r ∙ rw (here .let-in, le-leb _ _ (here .late), le-leb _ _ (t .0)) in
+      let free : eqb (judged s nbr ch r) 0 ≡ true = checks-split s nbr ch r ∙ rw (here .fitting, le-leb _ _ (here .late), le-leb _ _ (t .0)) in
       let none-broken : lowestRule s nbr (es ++ h) r ≡ 0 = sym (judged-right s nbr ns ch (es ++ h) (ih .0) r) ∙ eqb-true _ _ free in
       (tracks-next s nbr ns ch (es ++ h) (ih .0) r (here .word) none-broken, ((here .word, none-broken), ih .1))
 
@@ -124,3 +118,7 @@ module _ (s : Settings) (nbr : Relation) (ns : Neighbours nbr) where
     rules-hold =
         let l : List Record = listed s nbr freshPlanner calls in
         all-intro (λ j. eqb (ruleAt s nbr l j) 0) (length l) (λ j m. eq-eqb _ _ (each-at (Allowed s nbr) l (run-made .each) j m .1))
+
+    -- so the checker passes it
+    pub run-passes : eqb (firstFound s nbr (listed s nbr freshPlanner calls)) (length (listed s nbr freshPlanner calls)) ≡ true
+    run-passes = passes-iff s nbr ns (listed s nbr freshPlanner calls) run-words ∙ rules-hold

@@ -1,16 +1,14 @@
--- Every step of the planner keeps its invariant, and places its records where the state lets them in.
+-- Every step of the planner keeps its invariant, and each of its records passes the tests on the state, at the least instant.
 -- Assumes nothing.
-use Prim.Native.Nat.{ℕ, zero, suc, _+_, _%_, _≤_, _<_, _^_}
-use mathlib.Core.Path.{_≡_, refl, sym, ap, _∙_}
+use Prim.Native.Nat.{ℕ, zero, suc, _+_, _≤_, _<_, _^_}
+use mathlib.Core.Path.{_≡_, refl, ap, _∙_}
 use mathlib.Core.Bool.{Bool, true, false, not, _&&_, _||_, cond}
-use mathlib.Core.List.{List, [], _∷_, _++_, reverse}
 use mathlib.Core.Option.{Option, none, some}
 use lib.Dec.{eqb, ltb}
 use borrow.Author.Tests.{lt-ltb, eqb-true, eq-eqb, not-false}
 use native.Mathlib.Nat.{mod-lt}
 use native.Mathlib.Omega.{arith}
 use Rattle.settings.specs.declared.Settings.{Settings}
-use Rattle.packet.specs.declared.RowPacket.{RowPacket}
 use Rattle.packet.specs.declared.RowPacket.the-variants.{Act, Prer, Refa, Refp}
 use Rattle.packet.specs.declared.ColPacket.the-variants.{Nocop, Wr, Rd}
 use Rattle.packet.specs.Row.{rowFits}
@@ -18,25 +16,22 @@ use Rattle.packet.specs.Col.{colFits}
 use Rattle.record.specs.declared.Dualoct.{Dualoct}
 use Rattle.record.specs.declared.Record.{Record}
 use Rattle.record.specs.declared.Place.{Place}
-use Rattle.record.specs.declared.Request.{Request}
-use Rattle.record.specs.declared.Request.the-variants.{Read, Write as WriteTo, Refresh as RefreshBank, Wait, Drain}
 use Rattle.record.specs.Record.{recordFits}
-use Rattle.record.proofs.RequestLaws.{InPlace, InRange}
+use Rattle.record.proofs.RequestLaws.{InPlace}
 use Rattle.rules.specs.declared.Bank.{Bank}
 use Rattle.rules.specs.declared.Bank.the-variants.{Closed, Open, Refresh}
-use Rattle.rules.specs.declared.Write.{Write}
 use Rattle.rules.specs.Neighbour.{Relation, Neighbours, near}
 use Rattle.rules.specs.Packets.{traits, rowTraits, colTraits, instant, isPacket}
 use Rattle.rules.specs.History.{bankBy, isClosed, isOpen, bankOf, has}
-use Rattle.rules.specs.Rules.{bankCount, openFor, ofBank}
-use Rattle.rules.specs.Channel.{stateOf, waitingOf, dueOf, bankNext, settled, bufferBy, bufferNext, afterPacket, afterData, after}
-use Rattle.rules.specs.Earliest.{placedAt, fits, earliest}
+use Rattle.rules.specs.Rules.{bankCount, ofBank}
+use Rattle.rules.specs.Channel.{waitingOf, dueOf, bankNext, settled, bufferBy, bufferNext, afterPacket, afterData, after}
+use Rattle.rules.specs.Earliest.{placedAt, fits}
 use Rattle.plan.specs.declared.PlannerState.{PlannerState}
 use Rattle.plan.specs.Planner.{notDue}
-use Rattle.plan.specs.Plan.{Draft, rowPacket, colPacket, when, waiting, stateIn, carried, maskFor, openOn, hits, slot, sent, flushed, closed, closedUpTo, reached, plannedRead, loaded, written, plannedWrite, turned, plannedRefresh, plannedWait, plannedDrain, stepsOf, planned}
-use Rattle.plan.proofs.SentLaws.{placed-traits, calm-next, settled-calm, settled-waits, after-buffer, after-size, after-state, when-either, Sized, placedIn, sent-size, sent-state, sent-waiting, row-waiting, read-waiting, flushed-waiting, flushed-size, flushed-state, saved, saved-far, saved-state, closed-state, up-to-picked}
-use Rattle.plan.proofs.Invariant.{Banked, WriteIn, Held, Inv, NearClosed, Changed, near-self, banked-shut, banked-open, held-far, far-other, held-stays, fits-by, free-near, carried-right, carried-in}
-use Rattle.plan.proofs.Trace.{Each, channelBy, nowBy, Placed, Trace, trace-start, trace-sent, trace-loaded}
+use Rattle.plan.specs.Plan.{Draft, rowPacket, colPacket, when, waiting, stateIn, maskFor, openOn, hits, slot, sent, flushed, closed, closedUpTo, reached, plannedRead, loaded, written, plannedWrite, turned, plannedRefresh, plannedDrain}
+use Rattle.plan.proofs.SentLaws.{placed-traits, calm-next, after-buffer, when-either, placedIn, sent-size, sent-state, row-waiting, read-waiting, flushed-waiting, flushed-state, saved, saved-far, up-to-picked}
+use Rattle.plan.proofs.Invariant.{Banked, Held, Inv, NearClosed, Changed, banked-shut, banked-open, held-far, far-other, held-stays, fits-by, free-near, carried-right, carried-in}
+use Rattle.plan.proofs.Trace.{Trace, trace-sent, trace-loaded}
 
 -- planner p has come this far in a call
 pub record Good (s : Settings) (nbr : Relation) (p : PlannerState) (d : Draft) : Type 0 where
@@ -50,9 +45,9 @@ none-picked none = refl
 none-picked (some b) = refl
 
 module _ (s : Settings) (nbr : Relation) where
-  sent-calm : (r : Record) (d : Draft) → traits r .writes ≡ none → notDue (sent s nbr r d .planner .channel .buffer) ≡ true
+  sent-no-due : (r : Record) (d : Draft) → traits r .writes ≡ none → notDue (sent s nbr r d .planner .channel .buffer) ≡ true
   unfolding sent
-  sent-calm r d e =
+  sent-no-due r d e =
       rw (after-buffer nbr (d .planner .channel) (placedIn s nbr d r))
       (calm-next (placedIn s nbr d r) (d .planner .channel .buffer) (rw (placed-traits (slot s nbr (d .planner) r) r) e))
 
@@ -68,7 +63,7 @@ module _ (s : Settings) (nbr : Relation) where
         record {
           write-in = rw same (v .held .write-in);
           opened = rw same (held-stays s nbr (stateIn d) (stateIn (sent s nbr r d)) q new (waiting d) (v .held .write-in) far c (v .held .opened));
-          calm = sent-calm r d e;
+          no-due = sent-no-due r d e;
         }
 
     -- a packet after which the banks are as they must be, and the write
@@ -99,9 +94,9 @@ module _ (s : Settings) (nbr : Relation) (ns : Neighbours nbr) (p : PlannerState
     good-kept : (r : Record) → isPacket r ≡ true → recordFits s r ≡ true → fits s nbr (d .planner .channel) r ≡ true → traits r .writes ≡ none
         → waiting (sent s nbr r d) ≡ waiting d → (q : ℕ → Bool) (new : Bank) → ofBank (bankOf (waiting d)) q ≡ false
         → Changed q new (stateIn d) (stateIn (sent s nbr r d)) → Banked s nbr (stateIn (sent s nbr r d)) → G (sent s nbr r d)
-    good-kept r packet word let-in e same q new far c b =
+    good-kept r packet word fitting e same q new far c b =
         record {
-          trace = trace-sent s nbr p d (k .trace) r packet word let-in;
+          trace = trace-sent s nbr p d (k .trace) r packet word fitting;
           inv = inv-sent s nbr d (k .inv) r e b (held-sent s nbr d (k .inv) r e same q new far c);
         }
 
@@ -151,7 +146,7 @@ module _ (s : Settings) (nbr : Relation) (ns : Neighbours nbr) (p : PlannerState
               (fits-by s nbr (d .planner .channel) (k .inv .held) r refl refl refl refl (none-picked (bankOf (waiting d))) (carried-right (waiting d) (d .planner .mask)));
           inv = inv-sent s nbr d (k .inv) r refl
               (banked-shut s nbr (stateIn d) (stateIn (sent s nbr r d)) (k .inv .banked) (λ x. false) same)
-              (record { write-in = rw gone tt; opened = rw gone; calm = sent-calm s nbr r d refl });
+              (record { write-in = rw gone tt; opened = rw gone; no-due = sent-no-due s nbr r d refl });
         }
 
     -- REFA and the REFP after it: the banks are then as after a PRER
@@ -186,7 +181,7 @@ module _ (s : Settings) (nbr : Relation) (ns : Neighbours nbr) (p : PlannerState
             held = record {
               write-in = rw same (v .held .write-in);
               opened = rw same (held-stays s nbr (stateIn d) (stateIn (sent s nbr q z)) (near nbr b) Closed (waiting d) (v .held .write-in) (far-from b n) (refreshed-state b) (v .held .opened));
-              calm = sent-calm s nbr q z refl;
+              no-due = sent-no-due s nbr q z refl;
             };
             refresh-in = v .refresh-in;
             mask-in = v .mask-in;
@@ -211,7 +206,7 @@ module _ (s : Settings) (nbr : Relation) (ns : Neighbours nbr) (p : PlannerState
           inv = record {
             size = sent-size s nbr r d ∙ v .size;
             banked = banked-shut s nbr (stateIn d) (stateIn z) (v .banked) (λ x. false) same;
-            held = record { write-in = (m, l); opened = rw (same (at .bank) m, o); calm = refl };
+            held = record { write-in = (m, l); opened = rw (same (at .bank) m, o); no-due = refl };
             refresh-in = v .refresh-in;
             mask-in = w;
             low = late;

@@ -1,25 +1,24 @@
 -- What one packet of the planner makes of the channel, and what closing banks makes of it: the banks, the write that waits, the
 -- number of banks, and the records.
 -- Assumes nothing.
-use Prim.Native.Nat.{ℕ, zero, suc, _+_, _≤_, _<_}
-use mathlib.Core.Path.{_≡_, refl, sym, ap, _∙_}
+use Prim.Native.Nat.{ℕ, zero, suc, _≤_, _<_}
+use mathlib.Core.Path.{_≡_, refl, ap, _∙_}
 use mathlib.Core.Bool.{Bool, true, false, not, _&&_, cond}
-use mathlib.Core.List.{List, [], _∷_, _++_}
-use mathlib.Core.Option.{Option, none, some}
+use mathlib.Core.List.{[], _∷_, _++_}
+use mathlib.Core.Option.{Option, none}
 use lib.Dec.{eqb}
-use lib.ListN.{length, getD}
+use lib.ListN.{length}
 use borrow.Author.Tests.{eqb-true, eqb-false, eq-eqb}
 use native.Mathlib.Omega.{arith}
 use Rattle.settings.specs.declared.Settings.{Settings}
 use Rattle.packet.specs.declared.RowPacket.{RowPacket}
-use Rattle.packet.specs.declared.RowPacket.the-variants.{Act, Prer, Refa, Refp}
-use Rattle.packet.specs.declared.ColPacket.{ColPacket}
+use Rattle.packet.specs.declared.RowPacket.the-variants.{Prer}
 use Rattle.packet.specs.declared.ColPacket.the-variants.{Nocop, Wr, Rd}
 use Rattle.record.specs.declared.Record.{Record}
 use Rattle.record.specs.declared.Record.the-variants.{RowAt, ColAt, DataOf}
 use Rattle.record.specs.Record.{recordFits}
 use Rattle.rules.specs.declared.Bank.{Bank}
-use Rattle.rules.specs.declared.Bank.the-variants.{Closed, Open, Refresh}
+use Rattle.rules.specs.declared.Bank.the-variants.{Closed}
 use Rattle.rules.specs.declared.BankTrack.{BankTrack}
 use Rattle.rules.specs.declared.Write.{Write}
 use Rattle.rules.specs.declared.Buffer.{Buffer}
@@ -29,11 +28,10 @@ use Rattle.rules.specs.Neighbour.{Relation, near}
 use Rattle.rules.specs.Packets.{traits, colTraits, instant, isPacket}
 use Rattle.rules.specs.History.{bankBy, isClosed, waitingBy, bankOf}
 use Rattle.rules.specs.Rules.{bankCount, ofBank, dataDelay}
-use Rattle.rules.specs.Channel.{idle, trackOf, stateOf, waitingOf, bankNext, trackNext, settled, bufferBy, bufferNext, afterPacket, afterData, after}
+use Rattle.rules.specs.Channel.{idle, stateOf, waitingOf, bankNext, trackNext, settled, bufferBy, bufferNext, afterPacket, afterData, after}
 use Rattle.rules.specs.Earliest.{placedAt}
 use Rattle.rules.proofs.Bools.{and-left}
 use Rattle.rules.proofs.ListLaws.{length-imap, getD-imap}
-use Rattle.plan.specs.declared.PlannerState.{PlannerState}
 use Rattle.plan.specs.Planner.{notDue}
 use Rattle.plan.specs.Plan.{Draft, rowPacket, colPacket, when, waiting, stateIn, maskFor, slot, sent, flushed, closed, closedUpTo}
 

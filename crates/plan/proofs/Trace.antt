@@ -1,5 +1,5 @@
--- A planner's records one by one, newest first: the state before each, now before each, and that each stands at the least instant
--- from now on at which the state lets it in.
+-- A planner's records one by one, newest first: the state and now before each, and that each passes the tests on the state and
+-- stands at the least instant from now on.
 -- Assumes nothing.
 use Prim.Native.Nat.{ℕ, zero, suc, _+_, _≤_, _<_, max}
 use mathlib.Core.Path.{_≡_, refl, sym, ap, _∙_}
@@ -7,7 +7,7 @@ use mathlib.Core.Bool.{Bool, true, false, not, _&&_, cond}
 use mathlib.Core.List.{List, [], _∷_, _++_, reverse, reverse-append}
 use mathlib.Core.Option.{Option, none, some}
 use lib.Dec.{eqb}
-use lib.ListN.{length, take}
+use lib.ListN.{length}
 use lib.Seq.{take-length}
 use borrow.Author.Tests.{eqb-true, eqb-false, eq-eqb}
 use native.Mathlib.Omega.{arith}
@@ -15,7 +15,7 @@ use Rattle.settings.specs.declared.Settings.{Settings}
 use Rattle.settings.specs.declared.DataAt.{DataAt}
 use Rattle.record.specs.declared.Dualoct.{Dualoct}
 use Rattle.record.specs.declared.Record.{Record}
-use Rattle.record.specs.declared.Record.the-variants.{RowAt, ColAt, DataOf}
+use Rattle.record.specs.declared.Record.the-variants.{DataOf}
 use Rattle.record.specs.Record.{recordFits}
 use Rattle.rules.specs.declared.Bank.{Bank}
 use Rattle.rules.specs.declared.Channel.{Channel}
@@ -31,7 +31,7 @@ use Rattle.rules.proofs.Bools.{not-both}
 use Rattle.rules.proofs.ListLaws.{earlier-next}
 use Rattle.plan.specs.declared.PlannerState.{PlannerState}
 use Rattle.plan.specs.Plan.{Draft, slot, sent, loaded}
-use Rattle.plan.proofs.SentLaws.{placed-instant, placed-packet, placed-traits, placed-word, placedIn}
+use Rattle.plan.proofs.SentLaws.{placed-instant, placed-packet, placed-traits, placed-word}
 
 -- ---- a claim of each record of a list, newest first, and of the ones before it
 
@@ -80,7 +80,7 @@ channel-after nbr l (suc n) m = rw (earlier-next l n (omega arith), channel-afte
 -- the state and now are those after the earlier records of this call, es
 pub record Placed (s : Settings) (nbr : Relation) (p : PlannerState) (es : List Record) (r : Record) : Type 0 where
   pub word : recordFits s r ≡ true
-  pub let-in : fits s nbr (channelBy nbr (p .channel) es) r ≡ true
+  pub fitting : fits s nbr (channelBy nbr (p .channel) es) r ≡ true
   pub late : earliest s nbr (channelBy nbr (p .channel) es) r ≤ instant r
   pub least : isPacket r ≡ true → instant r ≡ max (nowBy (p .now .0) es) (earliest s nbr (channelBy nbr (p .channel) es) r)
 
@@ -112,7 +112,7 @@ module _ (s : Settings) (nbr : Relation) where
   unfolding fits
   placed-fits ch t r e = rw (placed-traits t r, placed-closes (stateOf ch) t r, due-packets (dueOf s (ch .buffer)) (placedAt t r) r (placed-packet t r ∙ e) e)
 
-  -- data are let in where they are due, at any instant
+  -- data that are due pass the tests on the state
   data-closes : (state : ℕ → Bank) (o : Option ℕ) (t : DataAt) (bytes : Dualoct) → ofBank o (closes nbr state (DataOf t bytes)) ≡ false
   unfolding traits
   data-closes state none t bytes = refl
@@ -142,7 +142,7 @@ module _ (s : Settings) (nbr : Relation) where
           each = rw back (
             record {
               word = placed-word t s r ∙ w;
-              let-in = rw (← k .channel) (placed-fits (d .planner .channel) t r e ∙ f);
+              fitting = rw (← k .channel) (placed-fits (d .planner .channel) t r e ∙ f);
               late = rw (first, placed-instant t r) (omega arith);
               least = λ _. rw (first, placed-instant t r, ← k .now);
             },
@@ -163,7 +163,7 @@ module _ (s : Settings) (nbr : Relation) where
           each = rw back (
             record {
               word = refl;
-              let-in = rw (← k .channel) (data-fits (d .planner .channel) (d .planner .now .0 + s .cwd) bytes due);
+              fitting = rw (← k .channel) (data-fits (d .planner .channel) (d .planner .now .0 + s .cwd) bytes due);
               late = omega (arith, data-earliest (channelBy nbr (p .channel) (reverse (d .records))) (record { 0 = d .planner .now .0 + s .cwd }) bytes);
               least = λ e. not-both false e refl;
             },

@@ -1,13 +1,13 @@
 -- A planner state that is not refused stays so: no call makes one that is (document 01, "What is turned back").
 -- Assumes nothing.
-use Prim.Native.Nat.{ℕ, _+_, _≤_, _<_, max}
+use Prim.Native.Nat.{ℕ, _≤_, _<_, max}
 use mathlib.Core.Path.{_≡_, refl, sym, ap, _∙_, subst}
-use mathlib.Core.Bool.{Bool, true, false, not, _&&_, _||_, cond}
+use mathlib.Core.Bool.{Bool, true, false, not, _||_, cond, or-true}
 use mathlib.Core.List.{List, [], _∷_, reverse}
 use mathlib.Core.Option.{Option, none, some}
 use lib.Dec.{eqb, leb, ltb, lit≤, lit<}
 use lib.ListN.{length, length-replicate, getD-replicate}
-use borrow.Author.Tests.{leb-true, le-leb, lt-ltb, eqb-true, eq-eqb}
+use borrow.Author.Tests.{leb-true, le-leb, lt-ltb, eq-eqb}
 use native.Mathlib.Omega.{arith}
 use Rattle.num.specs.Bytes.{Bytes}
 use Rattle.num.specs.Search.{allUpTo}
@@ -18,15 +18,13 @@ use Rattle.settings.specs.Instants.{isInstant, horizon}
 use Rattle.packet.specs.declared.ColPacket.the-variants.{Nocop, Wr, Rd}
 use Rattle.record.specs.declared.Record.{Record}
 use Rattle.record.specs.declared.Record.the-variants.{RowAt, ColAt, DataOf}
-use Rattle.rules.specs.declared.Bank.{Bank}
-use Rattle.rules.specs.declared.Bank.the-variants.{Closed, Open, Refresh}
 use Rattle.rules.specs.declared.BankTrack.{BankTrack}
 use Rattle.rules.specs.declared.Write.{Write}
 use Rattle.rules.specs.declared.Channel.{Channel}
 use Rattle.rules.specs.Neighbour.{Relation, Neighbours}
 use Rattle.rules.specs.Packets.{traits, instant}
 use Rattle.rules.specs.History.{isClosed, waitingBy, retiredBy, closes, has}
-use Rattle.rules.specs.Rules.{bankCount, dataDelay}
+use Rattle.rules.specs.Rules.{bankCount}
 use Rattle.rules.specs.Channel.{idle, fresh, trackOf, stateOf, waitingOf, inBank, trackNext, afterPacket, afterData, after}
 use Rattle.rules.specs.Earliest.{earliest}
 use Rattle.rules.proofs.Bools.{and-left, and-right}
@@ -66,10 +64,6 @@ pub record Stamped (ch : Channel) : Type 0 where
   pub pre : Stamp (ch .pre)
   pub rd : Stamp (ch .rd)
   pub write : WriteStamp (waitingOf (ch .buffer))
-
-or-true : (q : Bool) → q || true ≡ true
-or-true true = refl
-or-true false = refl
 
 new-stamp : (t : ℕ) → isInstant t ≡ true → Stamp (record { 0 = t })
 new-stamp t e = record { right = rw e (or-true (eqb t 0)) }
@@ -207,8 +201,8 @@ inv-valid s nbr p v k m =
           (λ x mx. all-intro (λ y. not (nbr x y) || (isClosed (stateOf ch x) || isClosed (stateOf ch y))) bankCount
           (λ y my. not-or (nbr x y) (isClosed (stateOf ch x) || isClosed (stateOf ch y)) (v .banked .one-closed x y mx my)));
       opened = v .held .opened;
-      quiet = all-intro (λ x. notRefresh (stateOf ch x)) bankCount (v .banked .quiet);
-      calm = v .held .calm;
+      no-refresh = all-intro (λ x. notRefresh (stateOf ch x)) bankCount (v .banked .no-refresh);
+      no-due = v .held .no-due;
       now-in = rw (le-leb 4 (p .now .0) (v .low), le-leb (p .now .0) horizon m);
       refresh-in = lt-ltb _ _ (v .refresh-in);
       mask-in = lt-ltb _ _ (v .mask-in);
@@ -224,10 +218,10 @@ fresh-inv s nbr =
       size = length-replicate 32 idle;
       banked = record {
         rows-in = λ x m. ap (λ (k : BankTrack). bankValid s (k .bank)) (at x m);
-        quiet = λ x m. ap (λ (k : BankTrack). notRefresh (k .bank)) (at x m);
+        no-refresh = λ x m. ap (λ (k : BankTrack). notRefresh (k .bank)) (at x m);
         one-closed = λ x y mx my n. ap (λ (k : BankTrack). isClosed (k .bank) || isClosed (stateOf fresh y)) (at x mx);
       };
-      held = record { write-in = tt; opened = refl; calm = refl };
+      held = record { write-in = tt; opened = refl; no-due = refl };
       refresh-in = lit< tt;
       mask-in = lit< tt;
       low = lit≤ tt;
