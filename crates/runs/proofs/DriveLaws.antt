@@ -21,6 +21,7 @@ use Rattle.record.specs.declared.Refusal.the-variants.{Full}
 use Rattle.record.specs.Record.{recordFields, recordBytes, recordRead}
 use Rattle.rules.specs.declared.Write.{Write}
 use Rattle.rules.specs.Neighbour.{Relation}
+use Rattle.rules.specs.Broken.{recordOf}
 use Rattle.rules.specs.Channel.{after}
 use Rattle.rules.specs.Checks.{judged}
 use Rattle.model.specs.declared.ModelState.{ModelState}
@@ -41,6 +42,10 @@ Every P (r ∷ l) = P r × Every P l
 pub every-append : (P : Record → Type 0) (a b : List Record) → Every P a → Every P b → Every P (a ++ b)
 every-append P [] b h k = k
 every-append P (r ∷ a) b h k = (h .0, every-append P a b (h .1) k)
+
+pub every-at : (P : Record → Type 0) (l : List Record) → ((j : ℕ) → j < length l → P (recordOf l j)) → Every P l
+every-at P [] h = tt
+every-at P (r ∷ l) h = (h 0 (omega arith), every-at P l (λ j m. h (suc j) (omega arith)))
 
 -- its bytes say the record
 abbrev pub Coded : Settings → Record → Type 0

@@ -1,7 +1,7 @@
 -- The planner in a call, the model that has taken its records, and flat memory: flat memory is the store with the waiting write
 -- done. Each packet of the planner keeps this.
 -- Assumes nothing.
-use Prim.Native.Nat.{ℕ, _+_, _<_}
+use Prim.Native.Nat.{ℕ, _+_, _^_, _<_}
 use mathlib.Core.Path.{_≡_, refl, sym, ap, _∙_}
 use mathlib.Core.Bool.{Bool, true, false, _&&_, cond}
 use mathlib.Core.List.{List, [], _∷_, _++_, append-nil, append-assoc}
@@ -34,7 +34,14 @@ use Rattle.plan.proofs.Invariant.{WriteIn, Changed}
 use Rattle.model.specs.declared.ModelState.{ModelState}
 use Rattle.model.specs.Store.{dualoctAt, dualoct, dualoctBytes, masked}
 use Rattle.model.specs.Model.{freshModel, rowOf, maskOf, retiredWrite, retiredTo, storeNext, refrNext, bytesNext, modelNext, readOf}
+use Rattle.runs.proofs.DriveLaws.{Every, every-append}
 use Rattle.runs.proofs.PlainRun.{answerOf, modelAll, storeAll, answersAll, model-append, store-append, answers-append}
+
+-- the data of a D are two numbers of 64 bits
+abbrev pub DataIn : Record → Type 0
+DataIn (RowAt t p) = Unit {0}
+DataIn (ColAt t p) = Unit {0}
+DataIn (DataOf t d) = (d .dqa < 2 ^ 64) × (d .dqb < 2 ^ 64)
 
 -- the model that has taken the records before and those of the draft, from store st on; flat memory; and its answers so far
 pub record Sim (s : Settings) (nbr : Relation) (st : List ℕ) (before : List Record) (d : Draft) (memory : List ℕ) (answers : List (List ℕ)) : Type 0 where
@@ -43,6 +50,7 @@ pub record Sim (s : Settings) (nbr : Relation) (st : List ℕ) (before : List Re
   pub model : modelAll s nbr freshModel (before ++ d .records) ≡ record { channel = d .planner .channel; refr = refr; bytes = bytes }
   pub flat : memory ≡ retiredTo s (d .planner .channel) (waiting d) (d .planner .mask) bytes (storeAll s nbr freshModel (before ++ d .records) st)
   pub same : answersAll s nbr freshModel (before ++ d .records) st ≡ answers
+  pub data-in : Every DataIn (before ++ d .records)
 
 -- ---- the waiting write done
 
@@ -93,6 +101,9 @@ module _ (s : Settings) (nbr : Relation) (st : List ℕ) (before : List Record) 
     unfolding answersAll
     answers-one = rw (← append-assoc before l (r ∷ []), answers-append s nbr freshModel (before ++ l) (r ∷ []) st, e) (rw append-nil)
 
+    data-one : DataIn r → Every DataIn (before ++ l) → Every DataIn longer
+    data-one h k = rw (← append-assoc before l (r ∷ [])) (every-append DataIn (before ++ l) (r ∷ []) k (h, tt))
+
   module _ (d : Draft) (memory : List ℕ) (answers : List (List ℕ)) (k : Sim s nbr st before d memory answers) where
     abbrev now : ModelState
     now = record { channel = d .planner .channel; refr = k .refr; bytes = k .bytes }
@@ -100,17 +111,18 @@ module _ (s : Settings) (nbr : Relation) (st : List ℕ) (before : List Record) 
     abbrev stored : List ℕ
     stored = storeAll s nbr freshModel (before ++ d .records) st
 
-    sim-more : (z : Draft) (r : Record) (after-memory : List ℕ) → z .records ≡ d .records ++ (r ∷ []) → z .planner .channel ≡ after nbr (d .planner .channel) r
+    sim-more : (z : Draft) (r : Record) (after-memory : List ℕ) → z .records ≡ d .records ++ (r ∷ []) → z .planner .channel ≡ after nbr (d .planner .channel) r → DataIn r
         → after-memory ≡ retiredTo s (z .planner .channel) (waiting z) (z .planner .mask) (bytesNext r (k .bytes)) (storeNext s now r stored)
         → Sim s nbr st before z after-memory (answers ++ answerOf (readOf s (d .planner .channel) r) stored)
     unfolding modelNext
-    sim-more z r after-memory er ec h =
+    sim-more z r after-memory er ec f h =
         record {
           refr = refrNext s r (k .refr);
           bytes = bytesNext r (k .bytes);
           model = rw (er, ec) (model-one (d .records) now (k .model) r);
           flat = rw (er, store-one (d .records) now (k .model) r) h;
           same = rw er (answers-one (d .records) now (k .model) r ∙ rw (k .same));
+          data-in = rw er (data-one (d .records) now (k .model) r f (k .data-in));
         }
 
     -- a ROW packet that changes no bank of the waiting write
@@ -120,7 +132,7 @@ module _ (s : Settings) (nbr : Relation) (st : List ℕ) (before : List Record) 
     sim-row p i q new far c =
         let z : Draft = sent s nbr (rowPacket p) d in
         let r : Record = placedIn s nbr d (rowPacket p) in
-        rw append-nil at (sim-more z r memory (sent-records s nbr (rowPacket p) d) (sent-channel s nbr (rowPacket p) d)
+        rw append-nil at (sim-more z r memory (sent-records s nbr (rowPacket p) d) (sent-channel s nbr (rowPacket p) d) tt
         (rw (row-waiting s nbr p d, sent-mask s nbr (rowPacket p) d, store-row s now (record { 0 = slot s nbr (d .planner) (rowPacket p) }) p stored)
         (k .flat ∙ retired-far s (d .planner .channel) (z .planner .channel) q new c (waiting d) i far (d .planner .mask) (k .bytes) stored)))
 
@@ -133,7 +145,7 @@ module _ (s : Settings) (nbr : Relation) (st : List ℕ) (before : List Record) 
         let z : Draft = sent s nbr x d in
         let r : Record = placedIn s nbr d x in
         let same : Changed (λ x. false) Closed (stateIn d) (stateIn z) = sent-state s nbr x d n in
-        sim-more z r memory (sent-records s nbr x d) (sent-channel s nbr x d)
+        sim-more z r memory (sent-records s nbr x d) (sent-channel s nbr x d) tt
         (rw (read-waiting s nbr b c 0xFFFF d, sent-mask s nbr x d)
         (k .flat ∙ retired-far s (d .planner .channel) (z .planner .channel) (λ x. false) Closed same (waiting d) i (none-picked (bankOf (waiting d))) (d .planner .mask) (k .bytes) stored))
 
@@ -145,7 +157,7 @@ module _ (s : Settings) (nbr : Relation) (st : List ℕ) (before : List Record) 
         let z : Draft = sent s nbr x d in
         let r : Record = placedIn s nbr d x in
         let gone : waiting z ≡ none = flushed-waiting s nbr d in
-        rw append-nil at (sim-more z r memory (sent-records s nbr x d) (sent-channel s nbr x d)
+        rw append-nil at (sim-more z r memory (sent-records s nbr x d) (sent-channel s nbr x d) tt
         (rw gone (k .flat ∙ retired-carried s (d .planner .channel) (waiting d) (d .planner .mask) (k .bytes) stored)))
 
   -- WR retires the waiting write and waits itself, with the data of its D
@@ -175,12 +187,12 @@ module _ (s : Settings) (nbr : Relation) (st : List ℕ) (before : List Record) 
     unfolding loaded after afterData bankNext
     written-state n m o = sent-state s nbr x d n (at .bank) m ∙ o
 
-    pub sim-written : Sized d → at .bank < bankCount → stateIn d (at .bank) ≡ Open row
+    pub sim-written : (bytes .dqa < 2 ^ 64) × (bytes .dqb < 2 ^ 64) → Sized d → at .bank < bankCount → stateIn d (at .bank) ≡ Open row
         → Sim s nbr st before (written s nbr at mask bytes d) (masked memory (dualoctAt s (at .bank) row (at .column)) mask (dualoctBytes bytes)) answers
     unfolding written loaded bytesNext readOf placedAt answerOf storeNext retiredWrite traits rowOf
-    sim-written n m o =
-        let k1 = rw append-nil at (sim-more d memory answers k z r _ (sent-records s nbr x d) (sent-channel s nbr x d) refl) in
+    sim-written i n m o =
+        let k1 = rw append-nil at (sim-more d memory answers k z r _ (sent-records s nbr x d) (sent-channel s nbr x d) tt refl) in
         let y : Draft = loaded s nbr mask bytes z in
         let q : Record = DataOf (record { 0 = z .planner .now .0 + s .cwd }) bytes in
-        rw append-nil at (sim-more z _ answers k1 y q (masked memory (dualoctAt s (at .bank) row (at .column)) mask (dualoctBytes bytes)) refl refl
+        rw append-nil at (sim-more z _ answers k1 y q (masked memory (dualoctAt s (at .bank) row (at .column)) mask (dualoctBytes bytes)) refl refl i
         (rw (written-waiting, written-state n m o, written-store)))
