@@ -30,6 +30,7 @@ use Rattle.model.specs.declared.Stepped.the-variants.{Refused, Read, Retired, N
 use Rattle.model.specs.Store.{maskBit, onesUpTo, ones, storeLength}
 use Rattle.model.specs.Model.{maskOf, retiredWrite, modelNext, readOf}
 use Rattle.model.specs.Step.{retireAnswer, passedAnswer, recordAnswer, readAnswer, stepAnswer, isTaken, taken, stepModel, stepStore}
+use Rattle.runs.proofs.PlainRun.{maskIf, maskBy}
 
 -- the number of bytes that an answer says
 unfoldable pub countOf : Stepped → ℕ
@@ -52,14 +53,6 @@ ones-append (mask ∷ a) b = rw (ones-append a b) (omega arith)
 pub ones-full : ones 0xFFFF ≡ 16
 unfolding onesUpTo maskBit
 ones-full = refl
-
--- the mask under which a record retires a write, where it does
-abbrev pub maskIf : Option Write → ℕ → List ℕ
-maskIf none mask = []
-maskIf (some w) mask = mask ∷ []
-
-abbrev pub maskBy : ModelState → Record → List ℕ
-maskBy m r = maskIf (retiredWrite m r) (maskOf r)
 
 -- a record that reads retires nothing
 read-retires : (s : Settings) (m : ModelState) (r : Record) (k : ℕ) → readOf s (m .channel) r ≡ some k → retiredWrite m r ≡ none

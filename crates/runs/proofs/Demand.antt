@@ -120,7 +120,7 @@ module _ (s : Settings) (v : valid s ≡ true) (nbr : Relation) (ns : Neighbours
       let first : List Call = e .first in
       let c : OfBytes first = first-bytes first (e .last ∷ []) (rw (e .ends) at b) in
       rw (e .ends, planner-last s nbr freshPlanner first (e .last))
-      (drain-empties s nbr ns [] (listed s nbr freshPlanner first) (plannerAfter s nbr freshPlanner first) (run-made s nbr ns first (of-bytes first c) .inv) _ _
+      (drain-empties s nbr ns [] (listed s nbr freshPlanner first) (plannerAfter s nbr freshPlanner first) (run-made s nbr ns first (of-bytes first c) .inv) _ _ _
       (sim-run s nbr ns [] first c) (e .last .request) (e .last .room) (e .drain) (e .taken))
 
   run-whole : (store : List ℕ) → length store ≡ storeLength s → Bytes store → (rooms : List ℕ) → WholeRun s nbr calls store rooms

@@ -26,6 +26,14 @@ unfoldable pub answerOf : Option ℕ → List ℕ → List (List ℕ)
 answerOf none store = []
 answerOf (some k) store = dualoct store k ∷ []
 
+-- the mask under which a record retires a write, where it does
+abbrev pub maskIf : Option Write → ℕ → List ℕ
+maskIf none mask = []
+maskIf (some w) mask = mask ∷ []
+
+abbrev pub maskBy : ModelState → Record → List ℕ
+maskBy m r = maskIf (retiredWrite m r) (maskOf r)
+
 module _ (s : Settings) (nbr : Relation) where
   -- the model, the store and the answers in order, after all records of a list
   unfoldable pub modelAll : ModelState → List Record → ModelState
@@ -39,6 +47,11 @@ module _ (s : Settings) (nbr : Relation) where
   unfoldable pub answersAll : ModelState → List Record → List ℕ → List (List ℕ)
   answersAll m [] store = []
   answersAll m (r ∷ l) store = answerOf (readOf s (m .channel) r) store ++ answersAll (modelNext s nbr m r) l (storeNext s m r store)
+
+  -- the masks under which writes are retired, in order
+  unfoldable pub retiredMasks : ModelState → List Record → List ℕ
+  retiredMasks m [] = []
+  retiredMasks m (r ∷ l) = maskBy m r ++ retiredMasks (modelNext s nbr m r) l
 
   -- each record of a list is judged 0 in its turn
   abbrev pub Passing : Channel → List Record → Type 0
@@ -63,6 +76,11 @@ module _ (s : Settings) (nbr : Relation) where
   answers-append m [] b store = refl
   answers-append m (r ∷ a) b store =
       rw (answers-append (modelNext s nbr m r) a b (storeNext s m r store)) (sym (append-assoc (answerOf (readOf s (m .channel) r) store) _ _))
+
+  pub masks-append : (m : ModelState) (a b : List Record) → retiredMasks m (a ++ b) ≡ retiredMasks m a ++ retiredMasks (modelAll m a) b
+  unfolding modelAll retiredMasks
+  masks-append m [] b = refl
+  masks-append m (r ∷ a) b = rw (masks-append (modelNext s nbr m r) a b) (sym (append-assoc (maskBy m r) _ _))
 
   -- ---- the store keeps its length
 

@@ -56,13 +56,13 @@ read-past s ch v (some w) i o b row c lr lc h mask d store =
     let q = dualoctAt-inj s (w .bank) r (w .column) b row c (row-in s (stateOf ch (w .bank)) o (v (w .bank) (i .0))) (i .1) lr lc e in
     not-both (eqb (w .bank) b && eqb (w .column) c) (rw (eq-eqb (w .bank) b (q .0), eq-eqb (w .column) c (q .2))) h)
 
-module _ (s : Settings) (nbr : Relation) (ns : Neighbours nbr) (p : PlannerState) (st : List ℕ) (before : List Record) (memory : List ℕ) (answers : List (List ℕ)) where
+module _ (s : Settings) (nbr : Relation) (ns : Neighbours nbr) (p : PlannerState) (st : List ℕ) (before : List Record) (memory : List ℕ) (answers : List (List ℕ)) (masks : List ℕ) where
   -- the planner has come this far in a call, and the model and flat memory with it
   abbrev pub Both : Draft → Type 0
-  Both d = Good s nbr p d × Sim s nbr st before d memory answers
+  Both d = Good s nbr p d × Sim s nbr st before d memory answers masks
 
   both-flushed : (d : Draft) → Both d → Both (flushed s nbr d)
-  both-flushed d k = (good-flushed s nbr ns p d (k .0), sim-flushed s nbr st before d memory answers (k .1))
+  both-flushed d k = (good-flushed s nbr ns p d (k .0), sim-flushed s nbr st before d memory answers masks (k .1))
 
   -- ---- banks closed, a row reached
 
@@ -75,7 +75,7 @@ module _ (s : Settings) (nbr : Relation) (ns : Neighbours nbr) (p : PlannerState
       let z : Draft = saved s nbr x d in
       let b : Both z = both-saved d k x in (
         good-closed s nbr ns p d (k .0) x m,
-        sim-row s nbr st before z memory answers (b .1) (Prer x) (b .0 .inv .held .write-in) (near nbr x) Closed (saved-far s nbr x d) (sent-state s nbr (rowPacket (Prer x)) z (b .0 .inv .size)),
+        sim-row s nbr st before z memory answers masks (b .1) (Prer x) (b .0 .inv .held .write-in) (near nbr x) Closed (saved-far s nbr x d) (sent-state s nbr (rowPacket (Prer x)) z (b .0 .inv .size)),
       )
 
   both-up-to : (d : Draft) → Both d → (pick : ℕ → Bool) (n : ℕ) → n ≤ bankCount → Both (closedUpTo s nbr pick n d)
@@ -93,14 +93,14 @@ module _ (s : Settings) (nbr : Relation) (ns : Neighbours nbr) (p : PlannerState
   other-than : (d : Draft) → Good s nbr p d → (b : ℕ) → NearClosed nbr (stateIn d) b → ofBank (bankOf (waiting d)) (λ x. eqb x b) ≡ false
   other-than d g b n = far-other s nbr (stateIn d) b (waiting d) (far-from d g b n)
 
-  sim-reached : (d : Draft) → Both d → (b row : ℕ) → Sim s nbr st before (reached s nbr b row d) memory answers
+  sim-reached : (d : Draft) → Both d → (b row : ℕ) → Sim s nbr st before (reached s nbr b row d) memory answers masks
   unfolding reached bankNext bankBy
   sim-reached d k b row =
       let z : Draft = cleared s nbr ns p b d in
       let a = both-up-to d k (near nbr b) bankCount (omega arith) in
       let c = good-cleared s nbr ns p d (k .0) b in
-      when-either (λ z. Sim s nbr st before z memory answers) (not (openOn (stateIn d b) row)) (λ d. sent s nbr (rowPacket (Act b row)) (cleared s nbr ns p b d)) d
-      (λ _. sim-row s nbr st before z memory answers (a .1) (Act b row) (a .0 .inv .held .write-in) (λ x. eqb x b) (Open row) (other-than z (a .0) b (c .1))
+      when-either (λ z. Sim s nbr st before z memory answers masks) (not (openOn (stateIn d b) row)) (λ d. sent s nbr (rowPacket (Act b row)) (cleared s nbr ns p b d)) d
+      (λ _. sim-row s nbr st before z memory answers masks (a .1) (Act b row) (a .0 .inv .held .write-in) (λ x. eqb x b) (Open row) (other-than z (a .0) b (c .1))
       (sent-state s nbr (rowPacket (Act b row)) z (a .0 .inv .size)))
       (λ _. k .1)
 
@@ -115,7 +115,7 @@ module _ (s : Settings) (nbr : Relation) (ns : Neighbours nbr) (p : PlannerState
       when-either (λ z. Both z × (stateIn z b ≡ Open row) × (hits (waiting z) b c ≡ false)) (hits (waiting d) b c) (flushed s nbr) d
       (λ _. (both-flushed d k, flushed-state s nbr d (k .0 .inv .size) b m ∙ o, rw (flushed-waiting s nbr d))) (λ e. (k, o, e))
 
-  pub sim-read : (d : Draft) → Both d → (at : Place) → InPlace s at → Sim s nbr st before (plannedRead s nbr at d) memory (answers ++ (dualoct memory (dualoctOf s at) ∷ []))
+  pub sim-read : (d : Draft) → Both d → (at : Place) → InPlace s at → Sim s nbr st before (plannedRead s nbr at d) memory (answers ++ (dualoct memory (dualoctOf s at) ∷ [])) masks
   unfolding plannedRead bankCount rowOf
   sim-read d k at i =
       let z : Draft = reached s nbr (at .bank) (at .row) d in
@@ -124,28 +124,28 @@ module _ (s : Settings) (nbr : Relation) (ns : Neighbours nbr) (p : PlannerState
       read-on (when (hits (waiting z) (at .bank) (at .column)) (flushed s nbr) z) (y .0) (y .1) (y .2)
     where
       read-on : (z : Draft) → Both z → stateIn z (at .bank) ≡ Open (at .row) → hits (waiting z) (at .bank) (at .column) ≡ false
-          → Sim s nbr st before (sent s nbr (colPacket (Rd (at .bank) (at .column) 0xFFFF)) z) memory (answers ++ (dualoct memory (dualoctOf s at) ∷ []))
+          → Sim s nbr st before (sent s nbr (colPacket (Rd (at .bank) (at .column) 0xFFFF)) z) memory (answers ++ (dualoct memory (dualoctOf s at) ∷ [])) masks
       read-on z b o h =
           let stored : List ℕ = storeAll s nbr freshModel (before ++ z .records) st in
           let past = read-past s (z .planner .channel) (b .0 .inv .banked .rows-in) (waiting z) (b .0 .inv .held .write-in) (b .0 .inv .held .opened)
           (at .bank) (at .row) (at .column) (i .1) (i .2) h (z .planner .mask) (b .1 .bytes) stored in
           let here : dualoct stored (dualoctAt s (at .bank) (rowOf (stateIn z (at .bank))) (at .column)) ≡ dualoct memory (dualoctOf s at) =
           rw o (sym (ap (λ (m : List ℕ). dualoct m (dualoctOf s at)) (b .1 .flat) ∙ past)) in
-          rw here at (sim-rd s nbr st before z memory answers (b .1) (at .bank) (at .column) (b .0 .inv .size) (b .0 .inv .held .write-in))
+          rw here at (sim-rd s nbr st before z memory answers masks (b .1) (at .bank) (at .column) (b .0 .inv .size) (b .0 .inv .held .write-in))
 
   pub sim-write : (d : Draft) → Both d → (at : Place) (mask : ℕ) (bytes : Dualoct) → InPlace s at → (bytes .dqa < 2 ^ 64) × (bytes .dqb < 2 ^ 64)
-      → Sim s nbr st before (plannedWrite s nbr at mask bytes d) (masked memory (dualoctOf s at) mask (dualoctBytes bytes)) answers
+      → Sim s nbr st before (plannedWrite s nbr at mask bytes d) (masked memory (dualoctOf s at) mask (dualoctBytes bytes)) answers (masks ++ (mask ∷ []))
   unfolding plannedWrite bankCount
   sim-write d k at mask bytes i n =
       let z : Draft = reached s nbr (at .bank) (at .row) d in
       let g = good-reached s nbr ns p d (k .0) (at .bank) (at .row) (i .0) (i .1) in
-      sim-written s nbr st before z memory answers (sim-reached d k (at .bank) (at .row)) at (at .row) mask bytes n (g .0 .inv .size) (i .0) (g .1)
+      sim-written s nbr st before z memory answers masks (sim-reached d k (at .bank) (at .row)) at (at .row) mask bytes n (g .0 .inv .size) (i .0) (g .1)
 
-  sim-turned : (d : Draft) → Sim s nbr st before d memory answers → Sim s nbr st before (turned s nbr d) memory answers
+  sim-turned : (d : Draft) → Sim s nbr st before d memory answers masks → Sim s nbr st before (turned s nbr d) memory answers masks
   unfolding turned
-  sim-turned d k = record { refr = k .refr; bytes = k .bytes; model = k .model; flat = k .flat; same = k .same; data-in = k .data-in }
+  sim-turned d k = record { refr = k .refr; bytes = k .bytes; model = k .model; flat = k .flat; same = k .same; written-under = k .written-under; data-in = k .data-in }
 
-  pub sim-refresh : (d : Draft) → Both d → Sim s nbr st before (plannedRefresh s nbr d) memory answers
+  pub sim-refresh : (d : Draft) → Both d → Sim s nbr st before (plannedRefresh s nbr d) memory answers masks
   unfolding plannedRefresh bankNext bankBy
   sim-refresh d k =
       let b : ℕ = d .planner .refresh in
@@ -154,21 +154,21 @@ module _ (s : Settings) (nbr : Relation) (ns : Neighbours nbr) (p : PlannerState
       let c = good-cleared s nbr ns p d (k .0) b in
       let y : Draft = sent s nbr (rowPacket (Refa b)) z in
       let waits : waiting y ≡ waiting z = row-waiting s nbr (Refa b) z in
-      let k1 = sim-row s nbr st before z memory answers (a .1) (Refa b) (a .0 .inv .held .write-in) (λ x. eqb x b) Refresh (other-than z (a .0) b (c .1))
+      let k1 = sim-row s nbr st before z memory answers masks (a .1) (Refa b) (a .0 .inv .held .write-in) (λ x. eqb x b) Refresh (other-than z (a .0) b (c .1))
       (sent-state s nbr (rowPacket (Refa b)) z (a .0 .inv .size)) in
       sim-turned (sent s nbr (rowPacket (Refp b)) y)
-      (sim-row s nbr st before y memory answers k1 (Refp b) (rw waits (a .0 .inv .held .write-in)) (near nbr b) Closed (rw waits (far-from z (a .0) b (c .1)))
+      (sim-row s nbr st before y memory answers masks k1 (Refp b) (rw waits (a .0 .inv .held .write-in)) (near nbr b) Closed (rw waits (far-from z (a .0) b (c .1)))
       (sent-state s nbr (rowPacket (Refp b)) y (sent-size s nbr (rowPacket (Refa b)) z ∙ a .0 .inv .size)))
 
-  pub sim-wait : (d : Draft) → Both d → (n : ℕ) → Sim s nbr st before (plannedWait s nbr n d) memory answers
+  pub sim-wait : (d : Draft) → Both d → (n : ℕ) → Sim s nbr st before (plannedWait s nbr n d) memory answers masks
   unfolding plannedWait
-  sim-wait d k n = record { refr = k .1 .refr; bytes = k .1 .bytes; model = k .1 .model; flat = k .1 .flat; same = k .1 .same; data-in = k .1 .data-in }
+  sim-wait d k n = record { refr = k .1 .refr; bytes = k .1 .bytes; model = k .1 .model; flat = k .1 .flat; same = k .1 .same; written-under = k .1 .written-under; data-in = k .1 .data-in }
 
   none-waits : (w : Option Write) → has (bankOf w) ≡ false → w ≡ none
   none-waits none e = refl
   none-waits (some w) e = not-both true refl e
 
-  pub sim-drain : (d : Draft) → Both d → Sim s nbr st before (plannedDrain s nbr d) memory answers × (waiting (plannedDrain s nbr d) ≡ none)
+  pub sim-drain : (d : Draft) → Both d → Sim s nbr st before (plannedDrain s nbr d) memory answers masks × (waiting (plannedDrain s nbr d) ≡ none)
   unfolding plannedDrain
   sim-drain d k =
       let b : Bool = has (bankOf (waiting d)) in
