@@ -2,7 +2,7 @@
 -- is turned back"): of any model calls, and of the calls that take the list of a planner.
 -- Assumes nothing.
 use Prim.Native.Nat.{ℕ, _+_}
-use mathlib.Core.Path.{_≡_, refl, sym, ap, _∙_}
+use mathlib.Core.Path.{_≡_, refl, sym}
 use mathlib.Core.Bool.{Bool, true, false, cond}
 use mathlib.Core.List.{List, [], _∷_, _++_}
 use mathlib.Core.Option.{Option, none, some}
@@ -11,7 +11,6 @@ use lib.ListN.{length}
 use native.Mathlib.Nat.{add-zero, zero-add}
 use native.Mathlib.Omega.{arith}
 use Rattle.settings.specs.declared.Settings.{Settings}
-use Rattle.settings.specs.declared.PacketAt.{PacketAt}
 use Rattle.packet.specs.declared.ColPacket.the-variants.{Nocop, Wr, Rd}
 use Rattle.record.specs.declared.Record.{Record}
 use Rattle.record.specs.declared.Record.the-variants.{RowAt, ColAt, DataOf}
@@ -28,7 +27,7 @@ use Rattle.model.specs.declared.ModelState.{ModelState}
 use Rattle.model.specs.declared.Stepped.{Stepped}
 use Rattle.model.specs.declared.Stepped.the-variants.{Refused, Read, Retired, Neither}
 use Rattle.model.specs.Store.{maskBit, onesUpTo, ones, storeLength}
-use Rattle.model.specs.Model.{maskOf, retiredWrite, modelNext, readOf}
+use Rattle.model.specs.Model.{maskOf, retiredWrite, readOf}
 use Rattle.model.specs.Step.{retireAnswer, passedAnswer, recordAnswer, readAnswer, stepAnswer, isTaken, taken, stepModel, stepStore}
 use Rattle.runs.proofs.PlainRun.{maskIf, maskBy}
 

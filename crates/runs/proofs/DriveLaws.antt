@@ -1,17 +1,16 @@
 -- Model calls, one for each room, are the plain run of as many records as they have taken; calls with room for an answer take one
 -- record each.
 -- Assumes nothing.
-use Prim.Native.Nat.{ℕ, zero, suc, _-_, _≤_, _<_}
+use Prim.Native.Nat.{ℕ, suc, _-_, _≤_, _<_}
 use mathlib.Core.Path.{_≡_, refl, sym, ap, _∙_}
 use mathlib.Core.Bool.{Bool, true, false, cond}
 use mathlib.Core.List.{List, [], _∷_, _++_, append-nil, append-assoc}
 use mathlib.Core.Option.{Option, none, some}
-use lib.Dec.{eqb, leb}
+use lib.Dec.{leb}
 use lib.ListN.{length, getD, take, drop, length-append, length-drop}
 use lib.Seq.{take-all, drop-nil, drop-length}
 use borrow.Author.Tests.{le-leb, eq-eqb}
 use native.Mathlib.Omega.{arith}
-use Rattle.num.specs.Bytes.{bytes}
 use Rattle.num.proofs.ByteLaws.{length-bytes}
 use Rattle.settings.specs.declared.Settings.{Settings}
 use Rattle.record.specs.declared.Record.{Record}
@@ -27,10 +26,10 @@ use Rattle.rules.specs.Checks.{judged}
 use Rattle.model.specs.declared.ModelState.{ModelState}
 use Rattle.model.specs.declared.Stepped.{Stepped}
 use Rattle.model.specs.declared.Stepped.the-variants.{Refused, Read}
-use Rattle.model.specs.Store.{storeLength, dualoct}
+use Rattle.model.specs.Store.{storeLength}
 use Rattle.model.specs.Model.{maskOf, retiredWrite, storeNext, modelNext, readOf}
-use Rattle.model.specs.Step.{retireAnswer, passedAnswer, recordAnswer, readAnswer, stepAnswer, isTaken, modelBy, stepModel, storeBy, stepStore, bytesRead, bytesBy}
-use Rattle.runs.specs.Drive.{Drive, started, returned, leftBy, isFull, fails, calledOn, called, driven}
+use Rattle.model.specs.Step.{retireAnswer, passedAnswer, recordAnswer, readAnswer, stepAnswer, isTaken, taken, modelBy, stepModel, storeBy, stepStore, bytesRead, bytesBy}
+use Rattle.runs.specs.Drive.{Drive, returned, leftBy, isFull, fails, calledOn, called, driven}
 use Rattle.runs.proofs.PlainRun.{answerOf, modelAll, storeAll, answersAll, Passing, length-next}
 
 -- ---- a claim of every record of a list
@@ -123,13 +122,13 @@ module _ (room mask : ℕ) (w : Option Write) (store : List ℕ) (r : Record) (l
 
 module _ (s : Settings) (nbr : Relation) where
   -- calls that have taken no record, and one
-  abbrev kept : ModelState → List ℕ → List (List ℕ) → List Record → Drive
+  abbrev pub kept : ModelState → List ℕ → List (List ℕ) → List Record → Drive
   kept m store answers l = record { model = m; store = store; answers = answers; pending = l; failed = false }
 
-  abbrev gone : ModelState → List ℕ → List (List ℕ) → Record → List Record → Drive
+  abbrev pub gone : ModelState → List ℕ → List (List ℕ) → Record → List Record → Drive
   gone m store answers r l = kept (modelNext s nbr m r) (storeNext s m r store) (answers ++ answerOf (readOf s (m .channel) r) store) l
 
-  call-is : (room : ℕ) (m : ModelState) (store : List ℕ) (answers : List (List ℕ)) (r : Record) (l : List Record)
+  pub call-is : (room : ℕ) (m : ModelState) (store : List ℕ) (answers : List (List ℕ)) (r : Record) (l : List Record)
       → length store ≡ storeLength s → Coded s r → judged s nbr (m .channel) r ≡ 0
       → calledOn s nbr room (kept m store answers (r ∷ l)) r l
       ≡ cond (roomy (readOf s (m .channel) r) room) (gone m store answers r l) (kept m store answers (r ∷ l))
@@ -152,6 +151,12 @@ module _ (s : Settings) (nbr : Relation) where
           ≡ cond q (gone m store answers r l) (kept m store answers (r ∷ l))
       pick true = refl
       pick false = rw append-nil
+
+  pub call-taken : (room : ℕ) (m : ModelState) (store : List ℕ) (r : Record) → length store ≡ storeLength s → Coded s r → judged s nbr (m .channel) r ≡ 0
+      → taken s nbr m (length store) (recordBytes s r) room ≡ roomy (readOf s (m .channel) r) room
+  unfolding stepAnswer readAnswer recordAnswer
+  call-taken room m store r n c j =
+      rw (eq-eqb (length store) (storeLength s) n, length-record s r, c, j) (passed-taken room (maskOf r) (retiredWrite m r) store r [] (readOf s (m .channel) r))
 
   -- ---- calls in a row
 
@@ -177,24 +182,24 @@ module _ (s : Settings) (nbr : Relation) where
   ran-one m store answers r l y k =
       record { count = suc (k .count); within = omega (arith, k .within); ran = rw (k .ran) (rw (append-assoc answers (answerOf (readOf s (m .channel) r) store))) }
 
-  driven-none : (x : Drive) → driven s nbr [] x ≡ x
+  pub driven-none : (x : Drive) → driven s nbr [] x ≡ x
   unfolding driven
   driven-none x = refl
 
   -- the first of some calls
-  next-none : (room : ℕ) (rooms : List ℕ) (m : ModelState) (store : List ℕ) (answers : List (List ℕ))
+  pub next-none : (room : ℕ) (rooms : List ℕ) (m : ModelState) (store : List ℕ) (answers : List (List ℕ))
       → driven s nbr (room ∷ rooms) (kept m store answers []) ≡ driven s nbr rooms (kept m store answers [])
   unfolding driven called
   next-none room rooms m store answers = refl
 
-  next-one : (room : ℕ) (rooms : List ℕ) (m : ModelState) (store : List ℕ) (answers : List (List ℕ)) (r : Record) (l : List Record)
+  pub next-one : (room : ℕ) (rooms : List ℕ) (m : ModelState) (store : List ℕ) (answers : List (List ℕ)) (r : Record) (l : List Record)
       → length store ≡ storeLength s → Coded s r → judged s nbr (m .channel) r ≡ 0
       → driven s nbr (room ∷ rooms) (kept m store answers (r ∷ l))
       ≡ driven s nbr rooms (cond (roomy (readOf s (m .channel) r) room) (gone m store answers r l) (kept m store answers (r ∷ l)))
   unfolding driven called
   next-one room rooms m store answers r l n c j = ap (driven s nbr rooms) (call-is room m store answers r l n c j)
 
-  next-channel : (m : ModelState) (r : Record) → modelNext s nbr m r .channel ≡ after nbr (m .channel) r
+  pub next-channel : (m : ModelState) (r : Record) → modelNext s nbr m r .channel ≡ after nbr (m .channel) r
   unfolding modelNext
   next-channel m r = refl
 

@@ -2,24 +2,21 @@
 -- done. Each packet of the planner keeps this.
 -- Assumes nothing.
 use Prim.Native.Nat.{ℕ, _+_, _^_, _<_}
-use mathlib.Core.Path.{_≡_, refl, sym, ap, _∙_}
-use mathlib.Core.Bool.{Bool, true, false, _&&_, cond}
+use mathlib.Core.Path.{_≡_, refl, sym, _∙_}
+use mathlib.Core.Bool.{Bool, false}
 use mathlib.Core.List.{List, [], _∷_, _++_, append-nil, append-assoc}
 use mathlib.Core.Option.{Option, none, some}
-use lib.Dec.{eqb}
-use native.Mathlib.Omega.{arith}
 use Rattle.settings.specs.declared.Settings.{Settings}
 use Rattle.settings.specs.declared.PacketAt.{PacketAt}
 use Rattle.packet.specs.declared.RowPacket.{RowPacket}
 use Rattle.packet.specs.declared.RowPacket.the-variants.{Act, Prer, Refa, Refp}
-use Rattle.packet.specs.declared.ColPacket.{ColPacket}
 use Rattle.packet.specs.declared.ColPacket.the-variants.{Nocop, Wr, Rd}
 use Rattle.record.specs.declared.Dualoct.{Dualoct}
 use Rattle.record.specs.declared.Place.{Place}
 use Rattle.record.specs.declared.Record.{Record}
 use Rattle.record.specs.declared.Record.the-variants.{RowAt, ColAt, DataOf}
 use Rattle.rules.specs.declared.Bank.{Bank}
-use Rattle.rules.specs.declared.Bank.the-variants.{Closed, Open, Refresh}
+use Rattle.rules.specs.declared.Bank.the-variants.{Closed, Open}
 use Rattle.rules.specs.declared.Write.{Write}
 use Rattle.rules.specs.declared.Channel.{Channel}
 use Rattle.rules.specs.Neighbour.{Relation}

@@ -1,7 +1,7 @@
 -- Plan calls, accepted or refused, keep what joins planner, model and flat memory; and so do lists of them.
 -- Assumes nothing.
 use Prim.Native.Nat.{ℕ}
-use mathlib.Core.Path.{_≡_, refl, sym, ap, _∙_}
+use mathlib.Core.Path.{_≡_, refl}
 use mathlib.Core.Bool.{Bool, true, false, cond}
 use mathlib.Core.List.{List, [], _∷_, _++_, append-nil, append-assoc}
 use mathlib.Core.Option.{none}
@@ -18,12 +18,11 @@ use Rattle.rules.specs.Neighbour.{Relation, Neighbours}
 use Rattle.rules.specs.Channel.{fresh, waitingOf}
 use Rattle.plan.specs.declared.PlannerState.{PlannerState}
 use Rattle.plan.specs.Planner.{freshPlanner}
-use Rattle.plan.specs.Plan.{Draft, waiting, stepsOf, planned}
+use Rattle.plan.specs.Plan.{Draft, stepsOf, planned}
 use Rattle.plan.specs.Call.{accepted, draftBy, draftOf, planNext, planRecords}
 use Rattle.plan.specs.Runs.{Call, plannerAfter, listed}
 use Rattle.plan.proofs.Invariant.{Inv}
 use Rattle.plan.proofs.Trace.{trace-start}
-use Rattle.plan.proofs.PlanLaws.{Good}
 use Rattle.plan.proofs.CallLaws.{call-made}
 use Rattle.plan.proofs.Legal.{run-fresh}
 use Rattle.model.specs.Model.{freshModel}
@@ -92,7 +91,15 @@ module _ (s : Settings) (nbr : Relation) (ns : Neighbours nbr) (st : List ℕ) w
   sim-rest : (before : List Record) (d : Draft) (memory : List ℕ) (answers : List (List ℕ)) (masks : List ℕ) → Sim s nbr st before d memory answers masks
       → Between (before ++ d .records) (d .planner) memory answers masks
   sim-rest before d memory answers masks k =
-      record { refr = k .refr; bytes = k .bytes; model = rw append-nil (k .model); flat = rw append-nil (k .flat); same = rw append-nil (k .same); written-under = rw append-nil (k .written-under); data-in = rw append-nil (k .data-in) }
+      record {
+        refr = k .refr;
+        bytes = k .bytes;
+        model = rw append-nil (k .model);
+        flat = rw append-nil (k .flat);
+        same = rw append-nil (k .same);
+        written-under = rw append-nil (k .written-under);
+        data-in = rw append-nil (k .data-in);
+      }
 
   pub sim-call : (before : List Record) (p : PlannerState) → Inv s nbr p → (memory : List ℕ) (answers : List (List ℕ)) (masks : List ℕ) → Between before p memory answers masks
       → (request : List ℕ) (room : ℕ) → Bytes request →

@@ -5,8 +5,8 @@ use mathlib.Core.Path.{_≡_, refl, sym, ap, _∙_}
 use mathlib.Core.Bool.{Bool, true, false, not, _&&_}
 use mathlib.Core.List.{List, [], _∷_, _++_}
 use mathlib.Core.Option.{Option, none, some}
-use lib.Dec.{eqb, ltb}
-use borrow.Author.Tests.{ltb-true, eq-eqb, not-false}
+use lib.Dec.{eqb}
+use borrow.Author.Tests.{ltb-true, eq-eqb}
 use native.Mathlib.Omega.{arith}
 use Rattle.settings.specs.declared.Settings.{Settings}
 use Rattle.packet.specs.declared.RowPacket.the-variants.{Act, Prer, Refa, Refp}
@@ -26,10 +26,10 @@ use Rattle.rules.specs.Channel.{stateOf, bankNext}
 use Rattle.rules.proofs.Bools.{not-both}
 use Rattle.state.specs.Valid.{bankValid}
 use Rattle.plan.specs.declared.PlannerState.{PlannerState}
-use Rattle.plan.specs.Plan.{Draft, rowPacket, colPacket, when, waiting, stateIn, openOn, hits, sent, flushed, closed, closedUpTo, reached, plannedRead, written, plannedWrite, turned, plannedRefresh, plannedWait, plannedDrain}
+use Rattle.plan.specs.Plan.{Draft, rowPacket, colPacket, when, waiting, stateIn, openOn, hits, sent, flushed, closed, closedUpTo, reached, plannedRead, plannedWrite, turned, plannedRefresh, plannedWait, plannedDrain}
 use Rattle.plan.proofs.SentLaws.{when-either, sent-size, sent-state, row-waiting, flushed-waiting, flushed-state, saved, saved-far, up-to-waiting}
-use Rattle.plan.proofs.Invariant.{Banked, WriteIn, Held, Inv, NearClosed, Changed, held-far, far-other}
-use Rattle.plan.proofs.PlanLaws.{Good, good-flushed, good-closed, good-up-to, cleared, good-cleared, good-reached}
+use Rattle.plan.proofs.Invariant.{WriteIn, NearClosed, held-far, far-other}
+use Rattle.plan.proofs.PlanLaws.{Good, good-flushed, good-closed, cleared, good-cleared, good-reached}
 use Rattle.model.specs.Store.{dualoctAt, dualoct, dualoctBytes, masked}
 use Rattle.model.specs.Model.{freshModel, rowOf, retiredTo}
 use Rattle.model.proofs.StoreLaws.{dualoct-other, dualoctAt-inj}
