@@ -1,2 +1,3 @@
 pub mod ValidLaws
 pub mod PlaneLaws
+pub mod RoundTrip
