@@ -1,1 +1,2 @@
 pub mod WordRoundTrip
+pub mod ListOf
