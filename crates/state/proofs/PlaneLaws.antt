@@ -72,6 +72,12 @@ part-plane w f (suc n) i l = go (λ m. part-plane w f n i m) (eq-or-lt-of-le (le
     go : (i < n → part (plane w f n) (w * i) w ≡ bytes w (f i)) → (i ≡ n) ⊎ (i < n) → part (plane w f n ++ bytes w (f n)) (w * i) w ≡ bytes w (f i)
     go ih = ⊎-elim last (front ih)
 
+-- the same in a list of which the plane is a part
+pub plane-at : (b : List ℕ) (at w : ℕ) (f : ℕ → ℕ) (n i : ℕ) → part b at (w * n) ≡ plane w f n → i < n → part b (at + w * i) w ≡ bytes w (f i)
+plane-at b at w f n i h l =
+    let s : w * i + w ≤ w * n = rw grow at (mul-le-mul-left w l) in
+    sym (part-part b at (w * n) (w * i) w s) ∙ ap (λ (p : List ℕ). part p (w * i) w) h ∙ part-plane w f n i l
+
 -- the numbers read off a list of bytes, written out again
 pub plane-part : (b : List ℕ) (w at : ℕ) (f : ℕ → ℕ) (n : ℕ) → Bytes b → at + w * n ≤ length b
     → ((i : ℕ) → i < n → f i ≡ number (part b (at + w * i) w)) → plane w f n ≡ part b at (w * n)
@@ -138,6 +144,10 @@ part-split b at m n xs ys e h =
     let p : part b at m ≡ part (xs ++ ys) 0 m = ap (λ (k : ℕ). part b k m) (sym (add-zero at)) ∙ sym (part-part b at (m + n) 0 m (omega arith)) ∙ ap (λ (l : List ℕ). part l 0 m) h in
     let q : part b (at + m) n ≡ part (xs ++ ys) m n = sym (part-part b at (m + n) m n (omega arith)) ∙ ap (λ (l : List ℕ). part l m n) h in
     (p ∙ part-left xs ys 0 m (omega arith) ∙ part-all xs m (omega arith), q ∙ part-seam xs ys m n e ∙ take-all n ys s)
+
+-- and two parts side by side
+pub part-both : (b : List ℕ) (at m n : ℕ) (xs ys : List ℕ) → xs ≡ part b at m → ys ≡ part b (at + m) n → xs ++ ys ≡ part b at (m + n)
+part-both b at m n xs ys hx hy = rw (hx, hy) (sym (part-join b at m n))
 
 -- ---- splices side by side
 

@@ -17,11 +17,11 @@ use Rattle.rules.specs.declared.Write.{Write}
 use Rattle.rules.specs.declared.Buffer.{Buffer}
 use Rattle.rules.specs.declared.Buffer.the-variants.{Empty, Waiting, Due}
 use Rattle.rules.specs.declared.Channel.{Channel}
-use Rattle.rules.specs.Neighbour.{split}
+use Rattle.rules.specs.Neighbour.{Relation, split}
 use Rattle.rules.specs.History.{isClosed, isOpen, bankOf}
 use Rattle.rules.specs.Rules.{bankCount, openFor}
 use Rattle.rules.specs.Channel.{trackOf, stateOf, waitingOf}
-use Rattle.rules.proofs.Bools.{iff-eq, all-and}
+use Rattle.rules.proofs.Bools.{iff-eq, and-left, and-right, all-and}
 use Rattle.state.specs.Valid.{trackValid, writeValid, lastsValid, apart, channelValid}
 use Rattle.state.specs.Walk.{closedBelow, besideRight, bankRight, slotOf, writeSlot, writeRight, heldRight}
 
@@ -129,3 +129,26 @@ bank-fails s ch x e l f = rw (valid-parts s ch e, all-false (bankRight s ch) 32 
 pub banks-pass : (s : Settings) (ch : Channel) → length (ch .banks) ≡ 32 → true ≡ allUpTo (bankRight s ch) 32
     → lastsValid ch && heldRight s (ch .buffer) (stateOf ch (writeSlot (ch .buffer))) ≡ channelValid s split ch
 banks-pass s ch e h = sym (rw (valid-parts s ch e, ← h))
+
+-- ---- what a state that is not refused has in range
+
+pub record Ranges (s : Settings) (ch : Channel) : Type 0 where
+  pub count : length (ch .banks) ≡ 32
+  pub tracks : (x : ℕ) → x < 32 → trackValid s (trackOf ch x) ≡ true
+  pub lasts : lastsValid ch ≡ true
+  pub write : writeValid s (waitingOf (ch .buffer)) ≡ true
+
+pub ranges : (s : Settings) (nbr : Relation) (ch : Channel) → channelValid s nbr ch ≡ true → Ranges s ch
+unfolding channelValid bankCount
+ranges s nbr ch v =
+    let f : ℕ → Bool = λ x. trackValid s (trackOf ch x) in
+    let w = writeValid s (waitingOf (ch .buffer)) in
+    let p = and-left (eqb (length (ch .banks)) 32 && (allUpTo f 32 && (lastsValid ch && w))) _ v in
+    let q = and-right (eqb (length (ch .banks)) 32) (allUpTo f 32 && (lastsValid ch && w)) p in
+    let r = and-right (allUpTo f 32) (lastsValid ch && w) q in
+    record {
+      count = eqb-true (length (ch .banks)) 32 (and-left _ (allUpTo f 32 && (lastsValid ch && w)) p);
+      tracks = λ x l. all-at f 32 x (and-left _ (lastsValid ch && w) q) l;
+      lasts = and-left (lastsValid ch) w r;
+      write = and-right (lastsValid ch) w r;
+    }
