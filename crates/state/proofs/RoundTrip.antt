@@ -1,16 +1,16 @@
 -- A state that is not refused is read back from its bytes, and bytes of a state are what is written of it.
 -- Assumes nothing.
-use Prim.Native.Nat.{ℕ, suc, _+_, _-_, _*_, _%_, _^_, _<_, _≤_}
+use Prim.Native.Nat.{ℕ, _+_, _-_, _*_, _%_, _^_, _<_, _≤_}
 use mathlib.Core.Path.{_≡_, refl, sym, ap, _∙_}
 use mathlib.Core.Bool.{Bool, true, false, cond, _&&_, _||_}
-use mathlib.Core.List.{List, [], _∷_, _++_}
+use mathlib.Core.List.{List, _++_}
 use mathlib.Core.Option.{some}
 use native.Mathlib.Nat.{zero-add}
 use native.Mathlib.Omega.{arith}
-use borrow.Author.Tests.{eqb-true, eqb-false, leb-true, ltb-true, eq-eqb, ne-eqb}
+use borrow.Author.Tests.{eqb-true, eqb-false, leb-true, ltb-true, ne-eqb}
 use lib.Dec.{eqb, leb, ltb}
 use lib.ListN.{length, getD, length-append}
-use Rattle.num.specs.Bytes.{bytes, number, part, zeros, Bytes}
+use Rattle.num.specs.Bytes.{bytes, number, part, Bytes}
 use Rattle.num.proofs.ByteLaws.{length-bytes, number-bytes, number-one}
 use Rattle.num.proofs.PartLaws.{getD-part, part-part, bytes-part, number-fits, Bytes-append, Bytes-bytes, Bytes-zeros}
 use Rattle.num.proofs.SpliceLaws.{length-zeros}
@@ -31,7 +31,7 @@ use Rattle.rules.specs.Channel.{idle, trackOf, waitingOf}
 use Rattle.rules.proofs.Bools.{and-left, and-right}
 use Rattle.state.specs.Valid.{isStamp, bankValid, trackValid, writeValid, lastsValid, channelValid}
 use Rattle.state.specs.ChannelBytes.{bankTag, plane, writeBytes, bufferBytes, lastsBytes, channelBytes, bankIn, trackIn, tracksIn, writeIn, bufferIn, channelIn, bufferRight}
-use Rattle.state.proofs.ValidLaws.{Ranges, ranges}
+use Rattle.state.proofs.ValidLaws.{ranges}
 use Rattle.state.proofs.PlaneLaws.{length-plane, plane-at, plane-part, Bytes-plane, part-split, part-both, tracks-at, tracks-are}
 
 -- ---- lengths
