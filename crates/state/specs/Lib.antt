@@ -1,2 +1,4 @@
 pub mod Valid
+pub mod Walk
 pub mod ChannelBytes
+pub mod Planes
