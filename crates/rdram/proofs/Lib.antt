@@ -1,2 +1,3 @@
 pub mod WordRoundTrip
 pub mod ListOf
+pub mod BenchRun
