@@ -1,3 +1,4 @@
 pub mod WordRoundTrip
 pub mod ListOf
 pub mod BenchRun
+pub mod DeviceRun
