@@ -26,10 +26,11 @@ use Rattle.rules.specs.History.{bankBy, isClosed, isOpen, bankOf, has}
 use Rattle.rules.specs.Rules.{bankCount, ofBank}
 use Rattle.rules.specs.Channel.{waitingOf, dueOf, bankNext, settled, bufferBy, bufferNext, afterPacket, afterData, after}
 use Rattle.rules.specs.Earliest.{placedAt, fits}
+use Rattle.state.proofs.AfterLaws.{after-buffer}
 use Rattle.plan.specs.declared.PlannerState.{PlannerState}
 use Rattle.plan.specs.Planner.{notDue}
 use Rattle.plan.specs.Plan.{Draft, rowPacket, colPacket, when, waiting, stateIn, maskFor, openOn, hits, slot, sent, flushed, closed, closedUpTo, reached, plannedRead, loaded, written, plannedWrite, turned, plannedRefresh, plannedDrain}
-use Rattle.plan.proofs.SentLaws.{placed-traits, calm-next, after-buffer, when-either, placedIn, sent-size, sent-state, row-waiting, read-waiting, flushed-waiting, flushed-state, saved, saved-far, up-to-picked}
+use Rattle.plan.proofs.SentLaws.{placed-traits, calm-next, when-either, placedIn, sent-size, sent-state, row-waiting, read-waiting, flushed-waiting, flushed-state, saved, saved-far, up-to-picked}
 use Rattle.plan.proofs.Invariant.{Banked, Held, Inv, NearClosed, Changed, banked-shut, banked-open, held-far, far-other, held-stays, fits-by, free-near, carried-right, carried-in}
 use Rattle.plan.proofs.Trace.{Trace, trace-sent, trace-loaded}
 

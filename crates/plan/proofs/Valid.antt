@@ -1,116 +1,40 @@
 -- A planner state that is not refused stays so: no call makes one that is (document 01, "What is turned back").
 -- Assumes nothing.
 use Prim.Native.Nat.{ℕ, _≤_, _<_, max}
-use mathlib.Core.Path.{_≡_, refl, sym, ap, _∙_, subst}
-use mathlib.Core.Bool.{Bool, true, false, not, _||_, cond, or-true}
+use mathlib.Core.Path.{_≡_, refl, ap, _∙_}
+use mathlib.Core.Bool.{Bool, true, false, not, _||_}
 use mathlib.Core.List.{List, [], _∷_, reverse}
 use mathlib.Core.Option.{Option, none, some}
-use lib.Dec.{eqb, leb, ltb, lit≤, lit<}
+use lib.Dec.{leb, lit≤, lit<}
 use lib.ListN.{length, length-replicate, getD-replicate}
 use borrow.Author.Tests.{leb-true, le-leb, lt-ltb, eq-eqb}
 use native.Mathlib.Omega.{arith}
 use Rattle.num.specs.Bytes.{Bytes}
 use Rattle.num.specs.Search.{allUpTo}
-use Rattle.num.proofs.SearchLaws.{all-at, all-intro}
+use Rattle.num.proofs.SearchLaws.{all-intro}
 use Rattle.settings.specs.declared.Settings.{Settings}
-use Rattle.settings.specs.declared.PacketAt.{PacketAt}
-use Rattle.settings.specs.Instants.{isInstant, horizon}
-use Rattle.packet.specs.declared.ColPacket.the-variants.{Nocop, Wr, Rd}
+use Rattle.settings.specs.Instants.{horizon}
 use Rattle.record.specs.declared.Record.{Record}
-use Rattle.record.specs.declared.Record.the-variants.{RowAt, ColAt, DataOf}
 use Rattle.rules.specs.declared.BankTrack.{BankTrack}
 use Rattle.rules.specs.declared.Write.{Write}
 use Rattle.rules.specs.declared.Channel.{Channel}
 use Rattle.rules.specs.Neighbour.{Relation, Neighbours}
-use Rattle.rules.specs.Packets.{traits, instant}
-use Rattle.rules.specs.History.{isClosed, waitingBy, retiredBy, closes, has}
+use Rattle.rules.specs.Packets.{instant}
+use Rattle.rules.specs.History.{isClosed}
 use Rattle.rules.specs.Rules.{bankCount}
-use Rattle.rules.specs.Channel.{idle, fresh, trackOf, stateOf, waitingOf, inBank, trackNext, afterPacket, afterData, after}
+use Rattle.rules.specs.Channel.{idle, fresh, trackOf, stateOf, waitingOf}
 use Rattle.rules.specs.Earliest.{earliest}
 use Rattle.rules.proofs.Bools.{and-left, and-right}
-use Rattle.rules.proofs.ListLaws.{getD-imap}
-use Rattle.state.specs.Valid.{isStamp, bankValid, trackValid, writeValid, lastsValid, apart}
+use Rattle.state.specs.Valid.{bankValid, trackValid, writeValid, lastsValid, apart, channelValid}
+use Rattle.state.proofs.AfterLaws.{after-size}
+use Rattle.state.proofs.Stamps.{WriteStamp, Stamped, stamps-track, after-stamped, fresh-stamped}
+use Rattle.state.proofs.NextValid.{valid-sound}
 use Rattle.plan.specs.declared.PlannerState.{PlannerState}
 use Rattle.plan.specs.Planner.{freshPlanner, notRefresh, notDue, plannerValid}
 use Rattle.plan.specs.Call.{timely, inTime, planNext, planRecords}
-use Rattle.plan.proofs.SentLaws.{waitingNext, after-size, after-waits}
-use Rattle.plan.proofs.Invariant.{Inv, Tested, WriteIn, valid-tested, tested-valid, valid-inv}
+use Rattle.plan.proofs.Invariant.{Inv, WriteIn, valid-tested, tested-valid, valid-inv}
 use Rattle.plan.proofs.Trace.{Each, channelBy, Placed}
 use Rattle.plan.proofs.CallLaws.{Made, InTime, each-in-time, called, call-made, call-timely, call-in-time}
-
--- ---- last instants
-
--- a last instant is 0 or in range
-pub record Stamp (t : PacketAt) : Type 0 where
-  pub right : isStamp (t .0) ≡ true
-
-pub record Stamps (k : BankTrack) : Type 0 where
-  pub opened : Stamp (k .opened)
-  pub act : Stamp (k .act)
-  pub pre : Stamp (k .pre)
-  pub rd : Stamp (k .rd)
-  pub retire : Stamp (k .retire)
-
-abbrev pub WriteStamp : Option Write → Type 0
-WriteStamp none = Unit {0}
-WriteStamp (some w) = isInstant (w .at .0) ≡ true
-
--- every last instant of a channel
-pub record Stamped (ch : Channel) : Type 0 where
-  pub banks : (x : ℕ) → x < bankCount → Stamps (trackOf ch x)
-  pub last : Stamp (ch .last)
-  pub row : Stamp (ch .row)
-  pub col : Stamp (ch .col)
-  pub pre : Stamp (ch .pre)
-  pub rd : Stamp (ch .rd)
-  pub write : WriteStamp (waitingOf (ch .buffer))
-
-new-stamp : (t : ℕ) → isInstant t ≡ true → Stamp (record { 0 = t })
-new-stamp t e = record { right = rw e (or-true (eqb t 0)) }
-
-either-stamp : (b : Bool) (t : ℕ) (before : PacketAt) → isInstant t ≡ true → Stamp before → Stamp (cond b (record { 0 = t }) before)
-either-stamp true t before e h = new-stamp t e
-either-stamp false t before e h = h
-
-write-stamp : (r : Record) (w : Option Write) → isInstant (instant r) ≡ true → WriteStamp w → WriteStamp (waitingNext r w)
-unfolding waitingNext waitingBy instant
-write-stamp (RowAt t p) w e h = h
-write-stamp (ColAt t (Nocop m)) w e h = tt
-write-stamp (ColAt t (Wr b c m)) w e h = e
-write-stamp (ColAt t (Rd b c m)) w e h = h
-write-stamp (DataOf t d) w e h = h
-
-module _ (nbr : Relation) (ch : Channel) (n : length (ch .banks) ≡ bankCount) (k : Stamped ch) where
-  packet-stamped : (r : Record) → isInstant (instant r) ≡ true → WriteStamp (waitingOf (afterPacket nbr ch r .buffer)) → Stamped (afterPacket nbr ch r)
-  unfolding afterPacket trackNext
-  packet-stamped r e w =
-      let t : ℕ = instant r in
-      let at : (x : ℕ) → x < bankCount → trackOf (afterPacket nbr ch r) x ≡ trackNext nbr ch r x (trackOf ch x) = λ x m. getD-imap (trackNext nbr ch r) (ch .banks) x idle idle (rw n m) in
-      record {
-        banks = λ x m. rw (at x m)
-            (record {
-              opened = either-stamp (inBank (traits r .opens) x) t _ e (k .banks x m .opened);
-              act = either-stamp (inBank (traits r .acts) x) t _ e (k .banks x m .act);
-              pre = either-stamp (inBank (traits r .precharges) x || closes nbr (stateOf ch) r x) t _ e (k .banks x m .pre);
-              rd = either-stamp (inBank (traits r .reads) x) t _ e (k .banks x m .rd);
-              retire = either-stamp (inBank (retiredBy (waitingOf (ch .buffer)) r) x) t _ e (k .banks x m .retire);
-            });
-        last = new-stamp t e;
-        row = either-stamp (traits r .row) t (ch .row) e (k .row);
-        col = either-stamp (traits r .col) t (ch .col) e (k .col);
-        pre = either-stamp (has (traits r .precharges)) t (ch .pre) e (k .pre);
-        rd = either-stamp (has (traits r .reads)) t (ch .rd) e (k .rd);
-        write = w;
-      }
-
-  after-stamped : (r : Record) → isInstant (instant r) ≡ true → Stamped (after nbr ch r)
-  unfolding after afterData
-  after-stamped r e = go r e (rw (after-waits nbr ch r) (write-stamp r (waitingOf (ch .buffer)) e (k .write)))
-    where
-      go : (r : Record) → isInstant (instant r) ≡ true → WriteStamp (waitingOf (after nbr ch r .buffer)) → Stamped (after nbr ch r)
-      go (RowAt t p) e w = packet-stamped (RowAt t p) e w
-      go (ColAt t p) e w = packet-stamped (ColAt t p) e w
-      go (DataOf t d) e w = record { banks = k .banks; last = k .last; row = k .row; col = k .col; pre = k .pre; rd = k .rd; write = w }
 
 -- ---- the records of a call are in range, so the last instants stay so
 
@@ -135,52 +59,14 @@ by-stamped s nbr p n k (r ∷ es) e t =
 
 -- ---- from the tests and back
 
-track-stamps : (s : Settings) (k : BankTrack) → trackValid s k ≡ true → Stamps k
-unfolding trackValid
-track-stamps s k e =
-    let a = and-right (bankValid s (k .bank)) _ e in
-    let b = and-right (isStamp (k .opened .0)) _ a in
-    let c = and-right (isStamp (k .act .0)) _ b in
-    let d = and-right (isStamp (k .pre .0)) _ c in
-    record {
-      opened = record { right = and-left (isStamp (k .opened .0)) _ a };
-      act = record { right = and-left (isStamp (k .act .0)) _ b };
-      pre = record { right = and-left (isStamp (k .pre .0)) _ c };
-      rd = record { right = and-left (isStamp (k .rd .0)) _ d };
-      retire = record { right = and-right (isStamp (k .rd .0)) _ d };
-    }
-
-stamps-track : (s : Settings) (k : BankTrack) → bankValid s (k .bank) ≡ true → Stamps k → trackValid s k ≡ true
-unfolding trackValid
-stamps-track s k e t = rw (e, t .opened .right, t .act .right, t .pre .right, t .rd .right, t .retire .right)
-
-valid-write : (s : Settings) (w : Option Write) → writeValid s w ≡ true → WriteStamp w
-unfolding writeValid
-valid-write s none e = tt
-valid-write s (some w) e = and-right (ltb (w .column) (s .columns)) _ (and-right (ltb (w .bank) bankCount) _ e)
-
 write-valid : (s : Settings) (w : Option Write) → WriteIn s w → WriteStamp w → writeValid s w ≡ true
 unfolding writeValid
 write-valid s none i e = refl
 write-valid s (some w) i e = rw (lt-ltb _ _ (i .0), lt-ltb _ _ (i .1), e)
 
 valid-stamped : (s : Settings) (nbr : Relation) (p : PlannerState) → plannerValid s nbr p ≡ true → Stamped (p .channel)
-unfolding lastsValid
-valid-stamped s nbr p v =
-    let t : Tested s nbr p = valid-tested s nbr p v in
-    let ch : Channel = p .channel in
-    let b = and-right (isStamp (ch .last .0)) _ (t .lasts) in
-    let c = and-right (isStamp (ch .row .0)) _ b in
-    let d = and-right (isStamp (ch .col .0)) _ c in
-    record {
-      banks = λ x m. track-stamps s (trackOf ch x) (all-at (λ x. trackValid s (trackOf ch x)) bankCount x (t .tracks) m);
-      last = record { right = and-left (isStamp (ch .last .0)) _ (t .lasts) };
-      row = record { right = and-left (isStamp (ch .row .0)) _ b };
-      col = record { right = and-left (isStamp (ch .col .0)) _ c };
-      pre = record { right = and-left (isStamp (ch .pre .0)) _ d };
-      rd = record { right = and-right (isStamp (ch .pre .0)) _ d };
-      write = valid-write s (waitingOf (ch .buffer)) (t .write);
-    }
+unfolding plannerValid
+valid-stamped s nbr p v = valid-sound s nbr (p .channel) (and-left (channelValid s nbr (p .channel)) _ v) .stamped
 
 not-or : (a b : Bool) → (a ≡ true → b ≡ true) → not a || b ≡ true
 not-or true b f = f refl
@@ -226,14 +112,6 @@ fresh-inv s nbr =
       mask-in = lit< tt;
       low = lit≤ tt;
     }
-
-fresh-stamped : Stamped fresh
-unfolding fresh bankCount waitingOf
-fresh-stamped =
-    let at : (x : ℕ) → x < 32 → trackOf fresh x ≡ idle = λ x m. getD-replicate 32 x idle idle m in
-    let z : Stamp (record { 0 = 0 }) = record { right = refl } in
-    let k : Stamps idle = record { opened = z; act = z; pre = z; rd = z; retire = z } in
-    record { banks = λ x m. subst Stamps (sym (at x m)) k; last = z; row = z; col = z; pre = z; rd = z; write = tt }
 
 pub fresh-valid : (s : Settings) (nbr : Relation) → plannerValid s nbr freshPlanner ≡ true
 unfolding freshPlanner

@@ -1,1 +1,5 @@
 pub mod WordRoundTrip
+pub mod ListOf
+pub mod BenchRun
+pub mod DeviceRun
+pub mod CallsRun

@@ -1,3 +1,6 @@
 pub mod Words
 pub mod Logs
 pub mod Checks
+pub mod Plans
+pub mod Models
+pub mod Runs

@@ -115,8 +115,14 @@ module _ (s : Settings) (v : valid s ≡ true) (nbr : Relation) (ns : Neighbours
   unfolding freshModel
   fresh-passing = run-passing
 
+  pub run-fits : Every (λ r. recordFits s r ≡ true) list
+  run-fits = every-at (λ r. recordFits s r ≡ true) list words
+
+  pub run-data : Every DataIn list
+  run-data = rw append-nil at (sim-run s nbr ns [] calls b .data-in)
+
   pub run-coded : Every (Coded s) list
-  run-coded = coded-all s nbr v fresh list run-passing (every-at (λ r. recordFits s r ≡ true) list words) (rw append-nil at (sim-run s nbr ns [] calls b .data-in))
+  run-coded = coded-all s nbr v fresh list run-passing run-fits run-data
 
   -- after an accepted drain no write waits
   pub drained-empty : EndsInDrain s nbr calls → waitingOf (last .channel .buffer) ≡ none

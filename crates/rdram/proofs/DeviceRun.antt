@@ -1,0 +1,293 @@
+-- Calls of rdram_model_step in a row are model calls on the model's states: the bytes left are those of the model, the store and
+-- the dualocts are the same, and the record that comes next is the first that waits.
+-- Assumes nothing.
+use Prim.Native.Nat.{ℕ, suc, _+_, _-_, _*_, _/_, _≤_, _<_}
+use mathlib.Core.Path.{_≡_, refl, sym, ap, _∙_}
+use mathlib.Core.Bool.{Bool, true, false, not, _||_, cond}
+use mathlib.Core.List.{List, [], _∷_, _++_, append-assoc}
+use mathlib.Core.Option.{Option, none, some}
+use lib.Dec.{eqb, ltb}
+use lib.ListN.{length, take, length-append}
+use borrow.Author.Tests.{ltb-true, lt-ltb, le-ltb, eq-eqb}
+use native.Mathlib.Omega.{arith}
+use Rattle.num.specs.Bytes.{part, splice}
+use Rattle.num.proofs.PartLaws.{length-part}
+use Rattle.num.proofs.SpliceLaws.{part-splice}
+use Rattle.settings.specs.declared.Settings.{Settings}
+use Rattle.settings.specs.declared.SettingsRead.the-variants.{Accepted}
+use Rattle.settings.specs.Settings.{settingsRead, valid}
+use Rattle.settings.proofs.SettingsLaws.{bounds, accepted-valid}
+use Rattle.packet.specs.declared.ColPacket.the-variants.{Nocop, Wr, Rd}
+use Rattle.packet.specs.Col.{colFits}
+use Rattle.record.specs.declared.Dualoct.{Dualoct}
+use Rattle.record.specs.declared.Record.{Record}
+use Rattle.record.specs.declared.Record.the-variants.{RowAt, ColAt, DataOf}
+use Rattle.record.specs.declared.Refusal.{Refusal}
+use Rattle.record.specs.declared.Refusal.the-variants as refusal
+use Rattle.record.specs.declared.RecordRead.the-variants.{Known}
+use Rattle.record.specs.Refusal.{answerOf}
+use Rattle.record.specs.Record.{recordBytes, recordFits, recordRead}
+use Rattle.rules.specs.declared.Bank.{Bank}
+use Rattle.rules.specs.declared.Bank.the-variants.{Closed, Open, Refresh}
+use Rattle.rules.specs.declared.Write.{Write}
+use Rattle.rules.specs.declared.Channel.{Channel}
+use Rattle.rules.specs.Neighbour.{split}
+use Rattle.rules.specs.Rules.{bankCount}
+use Rattle.rules.specs.Channel.{stateOf}
+use Rattle.rules.specs.Checks.{judged}
+use Rattle.rules.proofs.Bools.{and-left, and-right}
+use Rattle.rules.proofs.NeighbourLaws.{split-neighbours}
+use Rattle.state.specs.Valid.{bankValid, channelValid}
+use Rattle.state.proofs.NextValid.{valid-sound}
+use Rattle.plan.specs.Call.{listBytes}
+use Rattle.model.specs.declared.ModelState.{ModelState}
+use Rattle.model.specs.declared.Stepped.{Stepped}
+use Rattle.model.specs.declared.Stepped.the-variants.{Refused, Read, Retired, Neither}
+use Rattle.model.specs.Store.{storeLength, dualoct, dualoctAt}
+use Rattle.model.specs.Model.{modelValid, rowOf, bytesNext, modelNext, storeNext, readOf, retiredWrite, maskOf}
+use Rattle.model.specs.ModelBytes.{modelBytes}
+use Rattle.model.specs.Step.{retireAnswer, passedAnswer, recordAnswer, readAnswer, stepAnswer, isTaken, modelBy, stepModel, stepStore, bytesRead, bytesBy, stepRoom}
+use Rattle.model.proofs.StoreLaws.{dualoct-in}
+use Rattle.model.proofs.ModelRoundTrip.{DataHeld, model-decode-encode, model-right}
+use Rattle.model.proofs.NextValid.{next-model-valid}
+use Rattle.runs.specs.Drive.{Drive, returned, leftBy, isFull, fails, calledOn, driven}
+use Rattle.runs.proofs.PlainRun.{answerOf as answersOf, Passing, length-next}
+use Rattle.runs.proofs.DriveLaws.{Every, Coded, length-record, roomy, kept, gone, call-is, driven-none, next-none, next-one}
+use Rattle.runs.proofs.Sim.{DataIn}
+use Rattle.rdram.specs.Models.{steppedAnswer, stepBy, stepUnder, stepAnswered, modelAfterBy, modelUnder, steppedModel, storeUnder, steppedStore, answerUnder, steppedRoom}
+use Rattle.rdram.specs.Runs.{Device, deviceBy, deviceNext, deviceAfter}
+use Rattle.rdram.proofs.ListOf.{list-next}
+use Rattle.rdram.proofs.BenchRun.{refusal-number}
+
+-- ---- a model call's answer in numbers
+
+-- what the caller keeps of an answer buffer
+kept-answer : (a : Stepped) (room new : List ℕ) → (a ≡ Read → take 16 room ≡ new) → cond (eqb (steppedAnswer a .event) 1) (take 16 room ∷ []) [] ≡ returned a new
+unfolding steppedAnswer returned
+kept-answer (Refused why) room new f = refl
+kept-answer Read room new f = rw (f refl)
+kept-answer (Retired n) room new f = refl
+kept-answer Neither room new f = refl
+
+-- the record that comes next
+kept-next : (a : Stepped) (r : Record) (l : List Record) (k : ℕ) → suc (length l) ≤ k
+    → cond (eqb (steppedAnswer a .number) 0) (k - suc (length l) + 1) (k - suc (length l)) ≡ k - length (leftBy a r l)
+unfolding steppedAnswer leftBy
+kept-next (Refused why) r l k h = rw (refusal-number why)
+kept-next Read r l k h = omega arith
+kept-next (Retired n) r l k h = omega arith
+kept-next Neither r l k h = omega arith
+
+full-number : (r : Refusal) → eqb (answerOf r .number) 8 ≡ isFull r
+unfolding answerOf isFull
+full-number refusal.Settings = refl
+full-number refusal.Kind = refl
+full-number refusal.Spare = refl
+full-number refusal.Bank = refl
+full-number refusal.Row = refl
+full-number refusal.Column = refl
+full-number refusal.Horizon = refl
+full-number refusal.Full = refl
+full-number refusal.Store = refl
+full-number (refusal.Word place) = refl
+full-number (refusal.Rule rule place) = refl
+full-number (refusal.Block place) = refl
+full-number refusal.Length = refl
+
+-- a refusal other than 8
+kept-failed : (a : Stepped) → not (eqb (steppedAnswer a .number) 0 || eqb (steppedAnswer a .number) 8) ≡ fails a
+unfolding steppedAnswer fails
+kept-failed (Refused why) = rw (refusal-number why, full-number why)
+kept-failed Read = refl
+kept-failed (Retired n) = refl
+kept-failed Neither = refl
+
+-- ---- the dualoct that is read is in the store
+
+-- an answer of 16 bytes, where there is one
+abbrev Sixteen : List ℕ → Option ℕ → Type 0
+Sixteen store none = Unit {0}
+Sixteen store (some k) = length (dualoct store k) ≡ 16
+
+row-in : (s : Settings) (b : Bank) → 1 ≤ s .rows → bankValid s b ≡ true → rowOf b < s .rows
+unfolding rowOf bankValid
+row-in s Closed n h = omega arith
+row-in s (Open r) n h = ltb-true r (s .rows) h
+row-in s Refresh n h = omega arith
+
+read-sixteen : (s : Settings) → valid s ≡ true → (ch : Channel) → channelValid s split ch ≡ true → (store : List ℕ) → length store ≡ storeLength s
+    → (r : Record) → recordFits s r ≡ true → Sixteen store (readOf s ch r)
+unfolding readOf recordFits colFits dualoct bankCount
+read-sixteen s v ch k store n (RowAt t p) f = tt
+read-sixteen s v ch k store n (ColAt t (Nocop m)) f = tt
+read-sixteen s v ch k store n (ColAt t (Wr b c m)) f = tt
+read-sixteen s v ch k store n (ColAt t (Rd b c m)) f =
+    let bank : b < 32 = ltb-true b 32 (and-left (ltb b 32) _ f) in
+    let column : c < s .columns = ltb-true c (s .columns) (and-left (ltb c (s .columns)) _ (and-right (ltb b 32) _ f)) in
+    let row : rowOf (stateOf ch b) < s .rows = row-in s (stateOf ch b) (bounds s v .rows-least) (valid-sound s split ch k .rows-in b bank) in
+    length-part store (16 * dualoctAt s b (rowOf (stateOf ch b)) c) 16 (rw n (dualoct-in s b (rowOf (stateOf ch b)) c bank row column))
+read-sixteen s v ch k store n (DataOf t d) f = tt
+
+-- ---- one call
+
+module _ (settings : List ℕ) (s : Settings) (a : settingsRead settings ≡ Accepted s) (m : ModelState) (k : modelValid s split m ≡ true) (d : DataHeld (m .bytes)) (store given room : List ℕ) where
+  v : valid s ≡ true
+  v = accepted-valid settings s a
+
+  -- the call on the state that the bytes say
+  abbrev called : Stepped
+  called = stepAnswer s split m (length store) given (length room)
+
+  step-answer : stepAnswered settings (modelBytes m) store given room ≡ steppedAnswer called
+  unfolding stepAnswered stepUnder stepBy
+  step-answer = rw (a, model-right s v split m k d, model-decode-encode s v split m k d)
+
+  step-model : steppedModel settings (modelBytes m) store given room ≡ modelBytes (stepModel s split m (length store) given (length room))
+  unfolding steppedModel modelUnder modelAfterBy stepModel
+  step-model = rw (a, model-right s v split m k d, model-decode-encode s v split m k d) (go (isTaken called) (modelBy s split m (recordRead s given)))
+    where
+      go : (q : Bool) (n : ModelState) → cond q (modelBytes (cond q n m)) (modelBytes m) ≡ modelBytes (cond q n m)
+      go true n = refl
+      go false n = refl
+
+  step-store : steppedStore settings (modelBytes m) store given room ≡ stepStore s split m store given (length room)
+  unfolding steppedStore storeUnder
+  step-store = rw (a, model-right s v split m k d, model-decode-encode s v split m k d)
+
+  step-room : steppedRoom settings (modelBytes m) store given room ≡ stepRoom s split m store given room
+  unfolding steppedRoom answerUnder
+  step-room = rw (a, model-right s v split m k d, model-decode-encode s v split m k d)
+
+  -- an RD that is taken leaves its dualoct in the buffer
+  passed-none : (w : Option Write) (mask : ℕ) → retireAnswer w mask ≡ Read → ⊥
+  unfolding retireAnswer
+  passed-none none mask e = absurd (let z : _≡_ {A = ℕ} 0 1 = cc in omega arith)
+  passed-none (some w) mask e = absurd (let z : _≡_ {A = ℕ} 0 1 = cc in omega arith)
+
+  room-read : (r : Record) → length store ≡ storeLength s → length given ≡ 32 → recordRead s given ≡ Known r → recordFits s r ≡ true → judged s split (m .channel) r ≡ 0
+      → called ≡ Read → take 16 (stepRoom s split m store given room) ≡ bytesBy s m (recordRead s given) store
+  unfolding stepRoom modelValid stepAnswer readAnswer recordAnswer passedAnswer bytesRead bytesBy isTaken
+  room-read r n g e f j read =
+      let o : Option ℕ = readOf s (m .channel) r in
+      let full = read-sixteen s v (m .channel) (and-left (channelValid s split (m .channel)) _ k) store n r f in
+      let passed : passedAnswer o (retireAnswer (retiredWrite m r) (maskOf r)) (length room) ≡ Read = rw (eq-eqb _ _ n, eq-eqb _ _ g, e, j) at read in
+      rw (read, e) (go o full passed)
+    where
+      go : (o : Option ℕ) → Sixteen store o → passedAnswer o (retireAnswer (retiredWrite m r) (maskOf r)) (length room) ≡ Read
+          → take 16 (splice room 0 (bytesRead o store)) ≡ bytesRead o store
+      go none h p = absurd (passed-none (retiredWrite m r) (maskOf r) p)
+      go (some i) h p = part-splice room 0 (dualoct store i) 16 h (omega arith)
+
+-- ---- the same of records in a list of bytes
+
+-- so many bytes for each answer
+unfoldable pub lengths : List (List ℕ) → List ℕ
+lengths [] = []
+lengths (room ∷ rooms) = length room ∷ lengths rooms
+
+-- calls on states as calls on bytes, of a list of n records
+abbrev pub like : ℕ → Drive → Device
+like n x = record { model = modelBytes (x .model); store = x .store; answers = x .answers; next = n - length (x .pending); failed = x .failed }
+
+-- a model and a store before the records that wait, which stand in the list after some bytes
+pub record Ready (s : Settings) (list : List ℕ) (n : ℕ) (m : ModelState) (store : List ℕ) (l : List Record) : Type 0 where
+  pub before : List ℕ
+  pub stands : list ≡ before ++ listBytes s l
+  pub taken : length before ≡ 32 * (n - length l)
+  pub within : length l ≤ n
+  pub stored : length store ≡ storeLength s
+  pub model-valid : modelValid s split m ≡ true
+  pub data-held : DataHeld (m .bytes)
+  pub coded : Every (Coded s) l
+  pub fits : Every (λ r. recordFits s r ≡ true) l
+  pub data-in : Every DataIn l
+  pub passing : Passing s split (m .channel) l
+
+bytes-held : (r : Record) (d : Dualoct) → DataIn r → DataHeld d → DataHeld (bytesNext r d)
+unfolding bytesNext
+bytes-held (RowAt t p) d i h = h
+bytes-held (ColAt t p) d i h = h
+bytes-held (DataOf t e) d i h = i
+
+module _ (settings : List ℕ) (s : Settings) (a : settingsRead settings ≡ Accepted s) (list : List ℕ) (n : ℕ) (whole : length list ≡ 32 * n) where
+  ready-next : (m : ModelState) (store : List ℕ) (r : Record) (l : List Record) → Ready s list n m store (r ∷ l) → Ready s list n (modelNext s split m r) (storeNext s m r store) l
+  unfolding listBytes modelNext
+  ready-next m store r l k =
+      record {
+        before = k .before ++ recordBytes s r;
+        stands = k .stands ∙ sym (append-assoc (k .before) (recordBytes s r) (listBytes s l));
+        taken = length-append (k .before) (recordBytes s r) ∙ omega (arith, k .taken, length-record s r, k .within);
+        within = omega (arith, k .within);
+        stored = length-next s split m r store ∙ k .stored;
+        model-valid = next-model-valid s (accepted-valid settings s a) split split-neighbours m (k .model-valid) r (k .fits .0) (k .passing .0);
+        data-held = bytes-held r (m .bytes) (k .data-in .0) (k .data-held);
+        coded = k .coded .1;
+        fits = k .fits .1;
+        data-in = k .data-in .1;
+        passing = k .passing .1;
+      }
+
+  module _ (m : ModelState) (store : List ℕ) (answers : List (List ℕ)) (r : Record) (l : List Record) (k : Ready s list n m store (r ∷ l)) (room : List ℕ) where
+    -- the record that comes next
+    given-is : part list (32 * (n - suc (length l))) 32 ≡ recordBytes s r
+    unfolding listBytes
+    given-is = rw (k .stands) (list-next s (k .before) (listBytes s l) r (n - suc (length l)) (k .taken))
+
+    by-call : deviceBy settings list room (like n (kept s split m store answers (r ∷ l))) ≡ like n (calledOn s split (length room) (kept s split m store answers (r ∷ l)) r l)
+    unfolding deviceBy calledOn
+    by-call =
+        let b : List ℕ = recordBytes s r in
+        let x : Stepped = stepAnswer s split m (length store) b (length room) in
+        let answer = kept-answer x (stepRoom s split m store b room) (bytesBy s m (recordRead s b) store)
+        (room-read settings s a m (k .model-valid) (k .data-held) store b room r (k .stored) (length-record s r) (k .coded .0) (k .fits .0) (k .passing .0))
+        in
+        rw (
+          given-is,
+          step-answer settings s a m (k .model-valid) (k .data-held) store b room,
+          step-model settings s a m (k .model-valid) (k .data-held) store b room,
+          step-store settings s a m (k .model-valid) (k .data-held) store b room,
+          step-room settings s a m (k .model-valid) (k .data-held) store b room,
+          answer,
+          kept-next x r l n (k .within),
+          kept-failed x,
+        )
+
+    next-call : deviceNext settings list room (like n (kept s split m store answers (r ∷ l)))
+        ≡ like n (cond (roomy (readOf s (m .channel) r) (length room)) (gone s split m store answers r l) (kept s split m store answers (r ∷ l)))
+    unfolding deviceNext
+    next-call =
+        let count : length list / 32 ≡ n = omega arith in
+        let more : ltb (n - suc (length l)) n ≡ true = lt-ltb (n - suc (length l)) n (omega (arith, k .within)) in
+        rw (count, more) (by-call ∙ ap (like n) (call-is s split (length room) m store answers r l (k .stored) (k .coded .0) (k .passing .0)))
+
+  -- no record comes next
+  next-none-left : (m : ModelState) (store : List ℕ) (answers : List (List ℕ)) (room : List ℕ)
+      → deviceNext settings list room (like n (kept s split m store answers [])) ≡ like n (kept s split m store answers [])
+  unfolding deviceNext
+  next-none-left m store answers room =
+      let count : length list / 32 ≡ n = omega arith in
+      let none-left : ltb (n - 0) n ≡ false = le-ltb (n - 0) n (omega arith) in
+      rw (count, none-left)
+
+  pub device-is : (rooms : List (List ℕ)) (m : ModelState) (store : List ℕ) (answers : List (List ℕ)) (l : List Record) → Ready s list n m store l
+      → deviceAfter settings list rooms (like n (kept s split m store answers l)) ≡ like n (driven s split (lengths rooms) (kept s split m store answers l))
+  unfolding deviceAfter lengths
+  device-is [] m store answers l k = rw (driven-none s split (kept s split m store answers l))
+  device-is (room ∷ rooms) m store answers [] k =
+      rw (next-none-left m store answers room, next-none s split (length room) (lengths rooms) m store answers) (device-is rooms m store answers [] k)
+  device-is (room ∷ rooms) m store answers (r ∷ l) k =
+      rw (
+        next-call m store answers r l k room,
+        next-one s split (length room) (lengths rooms) m store answers r l (k .stored) (k .coded .0) (k .passing .0),
+      )
+      (go (roomy (readOf s (m .channel) r) (length room))
+      (device-is rooms (modelNext s split m r) (storeNext s m r store) (answers ++ answersOf (readOf s (m .channel) r) store) l (ready-next m store r l k))
+      (device-is rooms m store answers (r ∷ l) k))
+    where
+      go : (q : Bool)
+          → deviceAfter settings list rooms (like n (gone s split m store answers r l)) ≡ like n (driven s split (lengths rooms) (gone s split m store answers r l))
+          → deviceAfter settings list rooms (like n (kept s split m store answers (r ∷ l))) ≡ like n (driven s split (lengths rooms) (kept s split m store answers (r ∷ l)))
+          → deviceAfter settings list rooms (like n (cond q (gone s split m store answers r l) (kept s split m store answers (r ∷ l))))
+          ≡ like n (driven s split (lengths rooms) (cond q (gone s split m store answers r l) (kept s split m store answers (r ∷ l))))
+      go true t f = t
+      go false t f = f
