@@ -42,7 +42,7 @@ no-more = refl
 
 -- ---- a bank where a flag says so
 
-bound-only : (t : Bool) (b : ℕ) (f : ℕ → ℕ) → boundOf (only t (some b)) f ≡ boundIf t (f b)
+pub bound-only : (t : Bool) (b : ℕ) (f : ℕ → ℕ) → boundOf (only t (some b)) f ≡ boundIf t (f b)
 bound-only true b f = refl
 bound-only false b f = refl
 
@@ -89,18 +89,25 @@ pub past : (l : List BankTrack) → length l ≡ 32 → (x : ℕ) → 32 ≤ x �
 past l e x h = List·getD-eq-default l idle (omega arith)
 
 -- what the near banks ask by a last instant, and what the bank itself asks
-module _ (l : List BankTrack) (e : length l ≡ 32) (last : BankTrack → ℕ) (z : last idle ≡ 0) (t : Bool) (b g at : ℕ) where
+module _ (l : List BankTrack) (e : length l ≡ 32) (last : BankTrack → ℕ) (z : last idle ≡ 0) (t : Bool) (b g : ℕ) where
   none-past : (x : ℕ) → 32 ≤ x → last (getD l x idle) ≡ 0
   none-past x h = ap last (past l e x h) ∙ z
 
-  near-kept : leb (boundBanks (only t (some b)) (gapNear split g) (λ x. last (getD l x idle))) at
-      ≡ kept t (three (last (getD l b idle)) (last (getD l (lowOf b) idle)) (last (getD l (highOf b) idle)) g) at
+  pub near-bound : boundBanks (only t (some b)) (gapNear split g) (λ x. last (getD l x idle))
+      ≡ boundIf t (three (last (getD l b idle)) (last (getD l (lowOf b) idle)) (last (getD l (highOf b) idle)) g)
   unfolding bankCount
-  near-kept = ap (λ n. leb n at) (bound-only t b _ ∙ ap (boundIf t) (near-max g b (λ x. last (getD l x idle)) none-past))
+  near-bound = bound-only t b _ ∙ ap (boundIf t) (near-max g b (λ x. last (getD l x idle)) none-past)
 
-  same-kept : leb (boundBanks (only t (some b)) (gapSame g) (λ x. last (getD l x idle))) at ≡ kept t (since (last (getD l b idle)) g) at
+  pub same-bound : boundBanks (only t (some b)) (gapSame g) (λ x. last (getD l x idle)) ≡ boundIf t (since (last (getD l b idle)) g)
   unfolding bankCount
-  same-kept = ap (λ n. leb n at) (bound-only t b _ ∙ ap (boundIf t) (same-max g b (λ x. last (getD l x idle)) none-past))
+  same-bound = bound-only t b _ ∙ ap (boundIf t) (same-max g b (λ x. last (getD l x idle)) none-past)
+
+  near-kept : (at : ℕ) → leb (boundBanks (only t (some b)) (gapNear split g) (λ x. last (getD l x idle))) at
+      ≡ kept t (three (last (getD l b idle)) (last (getD l (lowOf b) idle)) (last (getD l (highOf b) idle)) g) at
+  near-kept at = ap (λ n. leb n at) near-bound
+
+  same-kept : (at : ℕ) → leb (boundBanks (only t (some b)) (gapSame g) (λ x. last (getD l x idle))) at ≡ kept t (since (last (getD l b idle)) g) at
+  same-kept at = ap (λ n. leb n at) same-bound
 
 -- ---- the sixteen tests
 

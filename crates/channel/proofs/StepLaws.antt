@@ -8,7 +8,7 @@ use mathlib.Core.List.{List, [], _∷_}
 use native.Mathlib.Omega.{arith}
 use borrow.Author.Tests.{eq-eqb, ne-eqb, eqb-true, eqb-false, lt-ltb, le-ltb, ltb-true, ltb-false}
 use lib.Dec.{eqb, ltb}
-use lib.ListN.{length, length-set, getD, set}
+use lib.ListN.{length, length-set, getD, set, replicate, length-replicate}
 use lib.Seq.{getD-set-same, getD-set-other, set-getD, ext-getD}
 use Rattle.packet.specs.declared.RowPacket.{RowPacket}
 use Rattle.packet.specs.declared.RowPacket.the-variants.{Act, Prer, Refa, Refp}
@@ -28,9 +28,11 @@ use Rattle.channel.specs.declared.Held.{Held}
 use Rattle.rules.specs.Neighbour.{split, near}
 use Rattle.rules.specs.Packets.{traits, rowTraits, colTraits, instant}
 use Rattle.rules.specs.History.{bankBy, isClosed}
-use Rattle.rules.specs.Channel.{idle, trackOf, waitingOf, imap, bankNext, trackNext, settled, bufferBy, bufferNext, afterPacket, afterData, after}
+use Rattle.rules.specs.Rules.{bankCount}
+use Rattle.rules.specs.Channel.{idle, trackOf, waitingOf, imap, bankNext, trackNext, fresh, settled, bufferBy, bufferNext, afterPacket, afterData, after}
 use Rattle.channel.specs.View.{lowOf, highOf, slotOf, colTo, rowView, colView, viewOf, heldOf}
-use Rattle.channel.specs.Steps.{spotOf, sideOf, ownNext, sideNext, touch, banksNext, bufferStep, withBanks}
+use Rattle.channel.specs.declared.Lasts.{Lasts}
+use Rattle.channel.specs.Steps.{spotOf, sideOf, ownNext, sideNext, touch, banksNext, bufferStep, withBanks, lastsNext, noLasts, channelOf}
 use Rattle.channel.proofs.NearLaws.{Beside, own, low, high, near-beside, near-low, near-high, or-right}
 
 -- ---- lists
@@ -294,3 +296,31 @@ module _ (ch : Channel) (e : length (ch .banks) ≡ 32) where
   after-is (ColAt t p) =
       ap (withBanks (viewOf (ColAt t p)) ch) (banks-map (ColAt t p) (λ i h. col-at ch i h t p)) ∙ col-after t p
   after-is (DataOf t d) = ap (withBanks (viewOf (DataOf t d)) ch) (banks-kept t d) ∙ data-after t d
+
+-- ---- the same where banks, last instants and buffer stand apart
+
+pick-stamp : (t : Bool) (x y : ℕ) → _≡_ {A = PacketAt} (record { 0 = cond t x y }) (cond t (record { 0 = x }) (record { 0 = y }))
+pick-stamp true x y = refl
+pick-stamp false x y = refl
+
+pub apart-after : (banks : List BankTrack) (l : Lasts) (buffer : Buffer) → length banks ≡ 32 → (r : Record)
+    → channelOf (banksNext (viewOf r) (heldOf buffer) banks) (lastsNext (viewOf r) l) (bufferStep (viewOf r) buffer) ≡ after split (channelOf banks l buffer) r
+unfolding lastsNext withBanks
+apart-after banks l buffer e r =
+    let v : View = viewOf r in
+    rw (
+      pick-stamp (v .packet) (v .at) (l .last),
+      pick-stamp (v .row) (v .at) (l .row),
+      pick-stamp (v .col) (v .at) (l .col),
+      pick-stamp (v .precharges) (v .at) (l .pre),
+      pick-stamp (v .reads) (v .at) (l .rd),
+    )
+    (after-is (channelOf banks l buffer) e r)
+
+pub apart-fresh : channelOf (replicate 32 idle) noLasts Empty ≡ fresh
+unfolding fresh bankCount
+apart-fresh = refl
+
+pub apart-length : (v : View) (h : Held) (banks : List BankTrack) → length banks ≡ 32 → length (banksNext v h banks) ≡ 32
+unfolding banksNext
+apart-length v h banks e = simp (length-set, e)

@@ -17,6 +17,7 @@ use Rattle.rules.specs.History.{isClosed}
 use Rattle.rules.specs.Channel.{idle, settled}
 use Rattle.channel.specs.View.{lowOf, highOf, slotOf}
 use Rattle.channel.specs.Tests.{retired}
+use Rattle.channel.specs.declared.Lasts.{Lasts}
 
 -- the instant of a record
 abbrev pub stamp : View → PacketAt
@@ -79,4 +80,32 @@ withBanks v ch l =
       pre = cond (v .precharges) (stamp v) (ch .pre);
       rd = cond (v .reads) (stamp v) (ch .rd);
       buffer = bufferStep v (ch .buffer);
+    }
+
+-- the last instants after a record with this view
+unfoldable pub lastsNext : View → Lasts → Lasts
+lastsNext v l =
+    record {
+      last = cond (v .packet) (v .at) (l .last);
+      row = cond (v .row) (v .at) (l .row);
+      col = cond (v .col) (v .at) (l .col);
+      pre = cond (v .precharges) (v .at) (l .pre);
+      rd = cond (v .reads) (v .at) (l .rd);
+    }
+
+-- no earlier record
+abbrev pub noLasts : Lasts
+noLasts = record { last = 0; row = 0; col = 0; pre = 0; rd = 0 }
+
+-- the channel with these banks, last instants and buffer
+abbrev pub channelOf : List BankTrack → Lasts → Buffer → Channel
+channelOf banks l buffer =
+    record {
+      banks = banks;
+      last = record { 0 = l .last };
+      row = record { 0 = l .row };
+      col = record { 0 = l .col };
+      pre = record { 0 = l .pre };
+      rd = record { 0 = l .rd };
+      buffer = buffer;
     }

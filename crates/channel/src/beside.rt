@@ -49,7 +49,7 @@ pub(crate) fn choose(first: bool, a: BankTrack, b: BankTrack) -> BankTrack
 }
 
 // A bank that nothing was sent to.
-pub(crate) fn unused() -> BankTrack
+pub fn unused() -> BankTrack
     ensures { λ r. ⌜ r ≡ idle ⌝ }
 {
     let never = PacketAt(0);

@@ -3,8 +3,9 @@ ghost use mathlib.Core.Path.{_≡_};
 ghost use mathlib.Core.Bool.{cond};
 ghost use Rattle.rules.specs.Neighbour.{split};
 ghost use Rattle.rules.specs.Channel.{fresh, settled, after};
-ghost use Rattle.channel.specs.Steps.{spotOf, sideOf, ownNext, sideNext, changed, banksNext, bufferStep, withBanks};
+ghost use Rattle.channel.specs.Steps.{spotOf, sideOf, ownNext, sideNext, changed, banksNext, bufferStep, withBanks, lastsNext, noLasts};
 use crate::Held;
+use crate::Lasts;
 use crate::View;
 use crate::beside::choose;
 use crate::beside::high_of;
@@ -143,6 +144,38 @@ pub fn buffer_after(v: View, b: Buffer) -> Buffer
         return Buffer::Empty;
     }
     settle(b)
+}
+
+fn pick(first: bool, a: u32, b: u32) -> u32
+    ensures { λ r. ⌜ r ≡ cond first a b ⌝ }
+{
+    if first { a } else { b }
+}
+
+// The last instants after a record.
+pub fn lasts_after(v: View, l: Lasts) -> Lasts
+    ensures { λ r. ⌜ r ≡ lastsNext v l ⌝ }
+{
+    Lasts {
+        last: pick(v.packet, v.at, l.last),
+        row: pick(v.row, v.at, l.row),
+        col: pick(v.col, v.at, l.col),
+        pre: pick(v.precharges, v.at, l.pre),
+        rd: pick(v.reads, v.at, l.rd),
+    }
+}
+
+// No earlier record.
+pub fn no_lasts() -> Lasts
+    ensures { λ r. ⌜ r ≡ noLasts ⌝ }
+{
+    Lasts {
+        last: 0,
+        row: 0,
+        col: 0,
+        pre: 0,
+        rd: 0,
+    }
 }
 
 // The state after a record.
