@@ -3,6 +3,7 @@
 use Prim.Native.Nat.{ℕ, _+_, _-_, max}
 use mathlib.Core.Path.{_≡_, refl, ap, ap₂, _∙_, sym}
 use mathlib.Core.Bool.{Bool, true, false, _&&_}
+use mathlib.Core.List.{List}
 use mathlib.Core.Option.{Option, none, some}
 use native.Mathlib.Nat.{max-comm}
 use native.Mathlib.Omega.{arith}
@@ -24,11 +25,12 @@ use Rattle.rules.specs.Rules.{bankCount, gapNear, gapSame}
 use Rattle.rules.specs.Channel.{idle, trackOf, waitingOf}
 use Rattle.rules.specs.Checks.{since, boundIf, boundBanks, bound1, bound2, bound3, bound5, bound6, bound7, bound8, bound10, bound11, bound13Read, bound13Retire}
 use Rattle.rules.specs.Earliest.{afterWrite, bound12, earliest}
-use Rattle.channel.specs.View.{three, lowOf, highOf, viewOf, heldOf}
-use Rattle.channel.specs.Tests.{actBound, retired, lastsOf}
+use Rattle.channel.specs.View.{three, lowOf, highOf, slotOf, viewOf, heldOf}
+use Rattle.channel.specs.Tests.{tracksOf, aroundOf, actBound, retired, lastsOf}
+use Rattle.channel.specs.Steps.{channelOf}
 use Rattle.channel.specs.Earliest.{openBound, prechargeBound, readBound, writeBound, retireBound, earliestBy}
 use Rattle.channel.proofs.ViewLaws.{view-traits, view-packet}
-use Rattle.channel.proofs.JudgeLaws.{bound-only, has-only, near-bound, same-bound, retired-of, tracksAt}
+use Rattle.channel.proofs.JudgeLaws.{bound-only, has-only, near-bound, same-bound, retired-of, tracksAt, around-is}
 
 max-assoc : (a b c : ℕ) → max (max a b) c ≡ max a (max b c)
 max-assoc a b c = omega arith
@@ -123,3 +125,27 @@ module _ (s : Settings) (ch : Channel) (r : Record) (e : length (ch .banks) ≡ 
       (ap₂ max (near-of (λ k. k .rd .0) refl (view .precharges) (traits r .precharges) precharges-of (s .rdp))
       (near-of (λ k. k .retire .0) refl (view .precharges) (traits r .precharges) precharges-of (s .rtp))))))))))))))
       ∙ simp if-max (gather 4 _ _ _ _ _ _ _ _ _ _ _ _ _ _)
+
+-- what all banks ask by rule 5 is not asked of a packet that opens none
+act-free : (s : Settings) (v : View) (h : Held) (k : Tracks) (l : Lasts) (a b : ℕ) → (v .opens ≡ true → a ≡ b) → earliestBy s v h k a l ≡ earliestBy s v h k b l
+unfolding earliestBy openBound
+act-free s v h k l a b f = go (v .opens) refl
+  where
+    go : (t : Bool) → v .opens ≡ t → earliestBy s v h k a l ≡ earliestBy s v h k b l
+    go true e = rw (f e)
+    go false e = rw e
+
+-- the same where banks, last instants and buffer stand apart, by the tracks that were read
+module _ (s : Settings) (banks : List BankTrack) (l : Lasts) (buffer : Buffer) (r : Record) (e : length banks ≡ 32) where
+  abbrev standing : ℕ → BankTrack
+  standing b = getD banks (slotOf b) idle
+
+  pub earliest-apart : (act : ℕ) → (viewOf r .opens ≡ true → act ≡ actBound s banks (viewOf r .bank))
+      → earliestBy s (viewOf r) (heldOf buffer)
+      (aroundOf (viewOf r .bank) (heldOf buffer .bank) (standing (viewOf r .bank)) (standing (lowOf (viewOf r .bank))) (standing (highOf (viewOf r .bank))) (standing (heldOf buffer .bank)))
+      act l
+      ≡ earliest s split (channelOf banks l buffer) r
+  earliest-apart act f =
+      ap (λ k. earliestBy s (viewOf r) (heldOf buffer) k act l) (around-is banks e (viewOf r .bank) (heldOf buffer .bank))
+      ∙ act-free s (viewOf r) (heldOf buffer) (tracksOf banks (viewOf r .bank) (heldOf buffer .bank)) l act (actBound s banks (viewOf r .bank)) f
+      ∙ sym (earliest-is s (channelOf banks l buffer) r e)

@@ -11,7 +11,7 @@ use rules::BankTrack;
 use settings::PacketAt;
 
 // Whether bank x is bank b or a neighbour of it.
-pub(crate) fn is_near(b: u32, x: u32) -> bool
+pub fn is_near(b: u32, x: u32) -> bool
     ensures { λ r. ⌜ r ≡ near split b x ⌝ }
 {
     let above = num::wide32(b) + 1 == num::wide32(x);

@@ -6,7 +6,7 @@ ghost use Rattle.rules.specs.Checks.{since, boundIf};
 ghost use Rattle.channel.specs.View.{three};
 
 // The later of two.
-pub(crate) fn later(a: u64, b: u64) -> u64
+pub fn later(a: u64, b: u64) -> u64
     ensures { λ r. ⌜ r ≡ max a b ⌝ }
 {
     if a < b { b } else { a }

@@ -118,7 +118,7 @@ pub(crate) fn banks_after(v: View, h: Held, banks: [BankTrack; 32]) -> [BankTrac
 }
 
 // Data that were due have come, or another record stands in their place.
-fn settle(b: Buffer) -> Buffer
+pub fn settle(b: Buffer) -> Buffer
     ensures { λ r. ⌜ r ≡ settled b ⌝ }
 {
     match b {

@@ -17,7 +17,7 @@ use crate::views::is_open;
 use settings::Settings;
 
 // How long after a packet its data come.
-fn delay_of(s: Settings, v: View) -> u32
+pub fn delay_of(s: Settings, v: View) -> u32
     ensures { λ r. ⌜ r ≡ delayOf s v ⌝ }
 {
     if v.reads {

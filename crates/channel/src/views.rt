@@ -139,7 +139,7 @@ pub fn held_of(b: Buffer) -> Held
     }
 }
 
-pub(crate) fn is_closed(t: BankTrack) -> bool
+pub fn is_closed(t: BankTrack) -> bool
     ensures { λ r. ⌜ r ≡ isClosed (t .bank) ⌝ }
 {
     let b = t.bank;

@@ -1,0 +1,45 @@
+-- `planner::packets::closing` meets its contract: one packet, or two where the write waits in the bank.
+use native.Mathlib.Omega.{arith}
+use borrow.Author.Tests.{eq-eqb, ne-eqb}
+use Rattle.planner.proofs.ListedLaws.{extends-more}
+use borrow.Author.Needs.{needs}
+use Rattle.planner.proofs.packets.closing.Statement.{statement}
+use Rattle.planner.proofs.packets.closing.Tie as tie
+
+row-packet-requires : tie.Need-row-packet-requires
+row-packet-requires c κs = search needs
+
+col-packet-requires : tie.Need-col-packet-requires
+col-packet-requires c κs = search needs
+
+push-requires : tie.Need-push-requires
+push-requires c κs = let p = rw (eq-eqb _ _ (c .before .if1 .taken)) at (c .before .before .before .pre) in omega arith
+
+push-requires-2 : tie.Need-push-requires-2
+push-requires-2 c κs = let p = rw (eq-eqb _ _ (c .before .before .if1 .taken)) at (c .before .before .before .before .pre) in let q = c .push .ensures .count in omega arith
+
+returns : tie.Need-returns
+returns c =
+    let a = rw (c .before .before .col-packet .ensures) at (c .before .push .ensures) in
+    let b = rw (c .before .before .before .before .row-packet .ensures) at (c .push2 .ensures) in
+    rw (eq-eqb _ _ (c .before .before .before .if1 .taken)) (extends-more _ _ _ _ _ a b)
+
+push-requires-3 : tie.Need-push-requires-3
+push-requires-3 c κs = let p = rw (ne-eqb _ _ (c .if1 .left)) at (c .before .before .pre) in omega arith
+
+returns-2 : tie.Need-returns-2
+returns-2 c =
+    let b = rw (c .before .before .row-packet .ensures) at (c .push3 .ensures) in
+    rw (ne-eqb _ _ (c .before .if1 .left)) b
+
+pub closing-spec : {M : Type 1} → statement M
+closing-spec =
+    tie.close
+    (tie.spec
+    row-packet-requires
+    col-packet-requires
+    push-requires
+    push-requires-2
+    returns
+    push-requires-3
+    returns-2)
