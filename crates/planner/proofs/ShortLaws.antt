@@ -29,36 +29,18 @@ use Rattle.channel.specs.View.{lowOf, highOf}
 use Rattle.channel.proofs.NearLaws.{Beside, own, low, high, near-beside, near-own, near-low, near-high}
 use Rattle.plan.specs.declared.PlannerState.{PlannerState}
 use Rattle.plan.specs.Plan.{rowPacket, colPacket}
+use Rattle.plan.proofs.Bound.{count, count-pairs}
 use Rattle.planner.specs.Course.{allPackets, closing, closingIf, closings, firstNear, lastNear, heldIn, clearing, opening, readCourse, writeCourse, refreshCourse, drainCourse}
 use Rattle.planner.proofs.ListedLaws.{packets-append}
 
 -- ---- how many
 
--- the number of x < n that p holds of
-unfoldable count : ℕ → (ℕ → Bool) → ℕ
-count zero p = 0
-count (suc n) p = cond (p n) 1 0 + count n p
-
--- of two neighbours at most one: at most half
-pairs : (k : ℕ) (p : ℕ → Bool) → ((j : ℕ) → j < k → p (2 * j) && p (2 * j + 1) ≡ false) → count (2 * k) p ≤ k
-unfolding count
-pairs zero p h = omega arith
-pairs (suc k) p h =
-    let e : 2 * suc k ≡ suc (suc (2 * k)) = omega arith in
-    rw e (go (p (2 * k)) (p (suc (2 * k))) (rw (add-one (2 * k)) at (h k (omega arith))) (pairs k p (λ j m. h j (omega arith))))
-  where
-    go : (a c : Bool) → a && c ≡ false → count (2 * k) p ≤ k → cond c 1 0 + (cond a 1 0 + count (2 * k) p) ≤ suc k
-    go true true q ih = not-both true refl q
-    go true false q ih = omega arith
-    go false true q ih = omega arith
-    go false false q ih = omega arith
-
-count-from : (p : ℕ → Bool) (from n : ℕ) → count n (λ x. leb from x && p x) ≤ n - from
+count-from : (p : ℕ → Bool) (from n : ℕ) → count (λ x. leb from x && p x) n ≤ n - from
 unfolding count
 count-from p from zero = omega arith
 count-from p from (suc n) = go (leb from n) (p n) refl (count-from p from n)
   where
-    go : (a b : Bool) → leb from n ≡ a → count n (λ x. leb from x && p x) ≤ n - from → cond (a && b) 1 0 + count n (λ x. leb from x && p x) ≤ suc n - from
+    go : (a b : Bool) → leb from n ≡ a → count (λ x. leb from x && p x) n ≤ n - from → cond (a && b) 1 0 + count (λ x. leb from x && p x) n ≤ suc n - from
     go true true e ih = let l : from ≤ n = leb-true from n e in omega arith
     go true false e ih = omega arith
     go false b e ih = omega arith
@@ -80,7 +62,7 @@ module _ (state : ℕ → Bank) (w mask : ℕ) (pick : ℕ → Bool) where
   isOpenBank x = pick x && not (isClosed (state x))
 
   -- a PRER for each open bank that is picked, and one NOCOP
-  closings-length : (n : ℕ) → length (closings state w mask pick n) ≤ count n isOpenBank + cond (ltb w n) 1 0
+  closings-length : (n : ℕ) → length (closings state w mask pick n) ≤ count isOpenBank n + cond (ltb w n) 1 0
   unfolding closings count
   closings-length zero = omega arith
   closings-length (suc n) = rw (length-append (closings state w mask pick n) (closingIf state w mask pick n)) (go (isOpenBank n) (eqb n w) refl (closings-length n))
@@ -88,14 +70,14 @@ module _ (state : ℕ → Bank) (w mask : ℕ) (pick : ℕ → Bool) where
       l : List Record
       l = closings state w mask pick n
 
-      here : eqb n w ≡ true → length l ≤ count n isOpenBank + cond (ltb w n) 1 0 → length l + 2 ≤ 1 + count n isOpenBank + cond (ltb w (suc n)) 1 0
+      here : eqb n w ≡ true → length l ≤ count isOpenBank n + cond (ltb w n) 1 0 → length l + 2 ≤ 1 + count isOpenBank n + cond (ltb w (suc n)) 1 0
       here e ih =
           let q : n ≡ w = eqb-true n w e in
-          let i : length l ≤ count n isOpenBank + 0 = rw (le-ltb w n (omega arith)) at ih in
+          let i : length l ≤ count isOpenBank n + 0 = rw (le-ltb w n (omega arith)) at ih in
           rw (lt-ltb w (suc n) (omega arith)) (omega arith)
 
-      go : (t u : Bool) → eqb n w ≡ u → length l ≤ count n isOpenBank + cond (ltb w n) 1 0
-          → length l + length (cond t (cond u (colPacket (Nocop mask) ∷ rowPacket (Prer n) ∷ []) (rowPacket (Prer n) ∷ [])) []) ≤ cond t 1 0 + count n isOpenBank + cond (ltb w (suc n)) 1 0
+      go : (t u : Bool) → eqb n w ≡ u → length l ≤ count isOpenBank n + cond (ltb w n) 1 0
+          → length l + length (cond t (cond u (colPacket (Nocop mask) ∷ rowPacket (Prer n) ∷ []) (rowPacket (Prer n) ∷ [])) []) ≤ cond t 1 0 + count isOpenBank n + cond (ltb w (suc n)) 1 0
       go true true e ih = here e ih
       go true false e ih = omega (arith, bit-up w n)
       go false u e ih = omega (arith, bit-up w n)
@@ -268,7 +250,7 @@ one-of-two false a b h e = not-both false e refl
 pub drain-short : (state : ℕ → Bank) (mask : ℕ) → apart split state ≡ true → length (closings state 32 mask (leb 0) 32) ≤ 16
 unfolding apart bankCount
 drain-short state mask e =
-    let half : count 32 (λ x. leb 0 x && not (isClosed (state x))) ≤ 16 = pairs 16 (λ x. leb 0 x && not (isClosed (state x))) each in
+    let half : count (λ x. leb 0 x && not (isClosed (state x))) 32 ≤ 16 = count-pairs (λ x. leb 0 x && not (isClosed (state x))) 16 each in
     let all = closings-length state 32 mask (leb 0) 32 in
     omega arith
   where
