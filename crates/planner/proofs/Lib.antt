@@ -8,3 +8,4 @@ pub mod ArrivalLaws
 pub mod DraftLaws
 pub mod AnswerLaws
 pub mod PlaceLaws
+pub mod PutLaws

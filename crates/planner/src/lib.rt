@@ -1,4 +1,5 @@
 // The planner: a request to its records, each packet at the least instant that the rules allow.
+pub mod bytes;
 pub mod drafts;
 pub mod packets;
 pub mod placing;

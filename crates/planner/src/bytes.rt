@@ -1,0 +1,108 @@
+// The planner's state as 740 bytes, and which states are refused.
+ghost use mathlib.Core.Path.{_≡_};
+ghost use lib.ListN.{length};
+ghost use Rattle.num.specs.Bytes.{part, splice};
+ghost use Rattle.num.specs.Search.{allUpTo};
+ghost use Rattle.settings.specs.Instants.{isInstant};
+ghost use Rattle.rules.specs.Neighbour.{split};
+ghost use Rattle.rules.specs.Rules.{bankCount};
+ghost use Rattle.rules.specs.Channel.{stateOf};
+ghost use Rattle.plan.specs.Planner.{notRefresh, notDue, plannerValid};
+ghost use Rattle.plan.specs.PlannerBytes.{plannerBytes, plannerIn};
+use crate::Planner;
+use plan::PlannerState;
+use rules::Bank;
+use rules::BankTrack;
+use rules::Buffer;
+use rules::Channel;
+use settings::PacketAt;
+use settings::Settings;
+
+fn not_refresh(t: BankTrack) -> bool
+    ensures { λ r. ⌜ r ≡ notRefresh (t .bank) ⌝ }
+{
+    let k = t.bank;
+    match k {
+        Bank::Closed => true,
+        Bank::Open(_) => true,
+        Bank::Refresh => false,
+    }
+}
+
+fn not_due(b: Buffer) -> bool
+    ensures { λ r. ⌜ r ≡ notDue b ⌝ }
+{
+    match b {
+        Buffer::Empty => true,
+        Buffer::Waiting(_) => true,
+        Buffer::Due(_) => false,
+    }
+}
+
+// Whether no bank is under refresh.
+fn none_refreshed(ch: Channel) -> bool
+    ensures { λ r. ⌜ r ≡ allUpTo (λ x. notRefresh (stateOf ch x)) bankCount ⌝ }
+{
+    let mut i = 0;
+    while i < 32 {
+        let t = ch.banks[i];
+        if not_refresh(t) {
+            i += 1;
+        } else {
+            return false;
+        }
+    }
+    true
+}
+
+// Whether a number is an instant.
+fn is_instant(t: u32) -> bool
+    ensures { λ r. ⌜ r ≡ isInstant t ⌝ }
+{
+    num::both(4 <= t, t <= 1000000000)
+}
+
+impl Planner {
+    // Whether refusal 1 has nothing against the state.
+    pub fn valid(self, s: Settings) -> bool
+        ensures { λ r. ⌜ r ≡ plannerValid s split (self .state) ⌝ }
+    {
+        let p = self.state;
+        let ch = p.channel;
+        let buffer = ch.buffer;
+        let fields = num::both(
+            is_instant(p.now.0),
+            num::both(p.refresh < 32, p.mask < 65536),
+        );
+        let between = num::both(none_refreshed(ch), num::both(not_due(buffer), fields));
+        num::both(state::valid::channel_valid(s, ch), between)
+    }
+
+    // The planner that 740 bytes say.
+    pub fn read(b: &[u8]) -> Planner
+        requires { ⌜ length (now b) ≡ 740 ⌝ }
+        ensures { λ r. ⌜ r .state ≡ plannerIn (now (b .entry)) ⌝ }
+    {
+        let now = PacketAt(num::u32_at(b, 732));
+        let state = PlannerState {
+            channel: state::bytes::read_channel(b),
+            now: now,
+            refresh: num::u16_at(b, 736),
+            mask: num::u16_at(b, 738),
+        };
+        Planner { state: state }
+    }
+
+    // Puts the state's 740 bytes.
+    pub fn put(self, out: &mut [u8])
+        requires { ⌜ length (now out) ≡ 740 ⌝ }
+        ensures { λ _. ⌜ now (out .exit) ≡ plannerBytes (self .state) ⌝ }
+    {
+        let p = self.state;
+        let ch = p.channel;
+        state::bytes::put_channel(out, ch);
+        num::put_u32(out, 732, num::wide32(p.now.0));
+        num::put_u16(out, 736, num::wide32(p.refresh));
+        num::put_u16(out, 738, num::wide32(p.mask));
+    }
+}
