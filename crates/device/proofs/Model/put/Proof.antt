@@ -1,0 +1,45 @@
+-- `device::Model::put` meets its contract: five fields side by side.
+use Rattle.device.proofs.BytesLaws.{written}
+use borrow.Author.Needs.{needs}
+use Rattle.device.proofs.Model.put.Statement.{statement}
+use Rattle.device.proofs.Model.put.Tie as tie
+
+put-channel-requires : tie.Need-put-channel-requires
+put-channel-requires c κs = search needs
+
+wide32-requires : tie.Need-wide32-requires
+wide32-requires c κs = search needs
+
+put-u16-requires : tie.Need-put-u16-requires
+put-u16-requires c κs = search needs
+
+put-u16-requires-2 : tie.Need-put-u16-requires-2
+put-u16-requires-2 c κs = search needs
+
+put-u64-requires : tie.Need-put-u64-requires
+put-u64-requires c κs = search needs
+
+put-u64-requires-2 : tie.Need-put-u64-requires-2
+put-u64-requires-2 c κs = search needs
+
+same-length : tie.Need-same-length
+same-length c = search needs
+
+returns : tie.Need-returns
+returns c =
+    let s = c .before .before .before .before .before .before .before .before .before .before .before .before .before .before .before .before .before .before .before .before .before .before .before in
+    rw (c .before .before .put-u642 .ensures, c .before .before .before .before .before .before .put-u64 .ensures, c .before .before .before .before .before .before .before .before .before .before .put-u162 .ensures, c .before .before .before .before .before .before .before .before .before .before .before .before .before .before .put-u16 .ensures, c .before .before .before .before .before .before .before .before .before .before .before .before .before .before .before .wide32 .ensures .0, c .before .before .before .before .before .before .before .before .before .before .before .before .before .before .before .before .before .before .before .put-channel .ensures)
+    (written (s .args .out .now) (s .args .self .state) (s .pre))
+
+pub put-spec : {M : Type 1} → statement M
+put-spec =
+    tie.close
+    (tie.spec
+    put-channel-requires
+    wide32-requires
+    put-u16-requires
+    put-u16-requires-2
+    put-u64-requires
+    put-u64-requires-2
+    same-length
+    returns)
