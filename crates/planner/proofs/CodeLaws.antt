@@ -2,7 +2,7 @@
 -- Assumes nothing.
 use Prim.Native.Nat.{ℕ, _+_, _≤_, _<_}
 use mathlib.Core.Path.{_≡_, refl, sym, ap, _∙_}
-use mathlib.Core.Bool.{Bool, true, false, not, _&&_, cond}
+use mathlib.Core.Bool.{Bool, true, false, not, _&&_, _||_, cond}
 use mathlib.Core.List.{List, [], _∷_, _++_}
 use lib.Dec.{leb, ltb, leb·zero}
 use lib.ListN.{length, length-append, getD}
@@ -22,8 +22,8 @@ use Rattle.plan.specs.declared.PlannerState.{PlannerState}
 use Rattle.plan.specs.Plan.{rowPacket, colPacket, openOn, hits}
 use Rattle.planner.specs.declared.Entry.{Entry}
 use Rattle.planner.specs.declared.Course.{Course}
-use Rattle.planner.specs.Course.{Holds, Extends, allPackets, closings, firstNear, lastNear, heldIn, fullMask, nocop, clearing, opening, isOpenAt, rdAt, readCourse, wrAt, writeCourse, refreshCourse, drainCourse}
-use Rattle.planner.proofs.ListedLaws.{holds-more, packets-append}
+use Rattle.planner.specs.Course.{Holds, Extends, allPackets, closings, firstNear, lastNear, heldIn, fullMask, nocop, clearing, opening, isOpenAt, rdAt, readCourse, wrAt, writeMask, writeCourse, refreshCourse, drainCourse}
+use Rattle.planner.proofs.ListedLaws.{extends-more, holds-more, packets-append}
 use Rattle.planner.proofs.ShortLaws.{closings-packets, closings-same, clearing-range, ranged-short, clearing-short, range-in, drain-short}
 
 -- ---- one packet more
@@ -34,6 +34,14 @@ push-asks c l h m = omega (arith, h .count)
 pub push-holds : (c r : Course) (l : List Record) (e : Entry) (q : Record) → Holds c l → e .record ≡ q → Extends c (e .record ∷ []) r → length l < 17
     → Holds r (l ++ (q ∷ []))
 push-holds c r l e q h x y m = holds-more c r l (q ∷ []) h (rw x at y) (omega arith)
+
+-- NOCOP and the PRER after it
+pub two-more : (c b r : Course) (e f : Entry) (p q : Record) → e .record ≡ p → Extends c (e .record ∷ []) b → f .record ≡ q → Extends b (f .record ∷ []) r
+    → Extends c (p ∷ q ∷ []) r
+two-more c b r e f p q x u y v = extends-more c b r (p ∷ []) (q ∷ []) (rw x at u) (rw y at v)
+
+pub one-more-of : (c r : Course) (e : Entry) (q : Record) → e .record ≡ q → Extends c (e .record ∷ []) r → Extends c (q ∷ []) r
+one-more-of c r e q x u = rw x at u
 
 -- ---- a bank and its neighbours
 
@@ -79,17 +87,21 @@ module _ (p : PlannerState) (at : Place) (m : at .bank < 32) where
 
   -- ---- write
 
-  pub write-hit : (a b : Course) (e : Entry) (h : Held) (mask : ℕ) → isOpenAt p at ≡ true → h ≡ heldIn p → mask ≡ cond (h .waits) (p .mask) fullMask
-      → Holds a [] → e .record ≡ wrAt at mask → Extends a (e .record ∷ []) b → Holds b (writeCourse split p at)
-  unfolding writeCourse
-  write-hit a b e h mask o g w k x u = rw o (push-holds a b [] e _ k (x ∙ ap (wrAt at) (rw g at w)) u (omega arith))
+  -- the mask that WR carries
+  pub mask-is : (h : Held) (o near? open? kept : Bool) (mask : ℕ) → h ≡ heldIn p → isOpenAt p at ≡ o → near? ≡ near split (at .bank) (h .bank)
+      → open? ≡ o || not near? → kept ≡ h .waits && open? → mask ≡ cond kept (p .mask) fullMask → mask ≡ writeMask split p at
+  unfolding writeMask
+  mask-is h o near? open? kept mask g q n i k e = e ∙ rw (k, i, n, g, q)
 
-  pub write-reached : (a b : Course) (e : Entry) (h : Held) (near? kept : Bool) (mask : ℕ) → isOpenAt p at ≡ false → h ≡ heldIn p
-      → near? ≡ near split (at .bank) (h .bank) → kept ≡ h .waits && not near? → mask ≡ cond kept (p .mask) fullMask
-      → Holds a (opening split p at) → e .record ≡ wrAt at mask → Extends a (e .record ∷ []) b → Holds b (writeCourse split p at)
+  pub write-hit : (a b : Course) (e : Entry) (mask : ℕ) → isOpenAt p at ≡ true → Holds a [] → e .record ≡ wrAt at mask → Extends a (e .record ∷ []) b
+      → Holds b (writeCourse split p at mask)
   unfolding writeCourse
-  write-reached a b e h near? kept mask o g n t w k x u =
-      rw o (push-holds a b (opening split p at) e _ k (x ∙ ap (wrAt at) (w ∙ rw (t, n, g))) u (omega (arith, opening-short p at m)))
+  write-hit a b e mask o k x u = rw o (push-holds a b [] e (wrAt at mask) k x u (omega arith))
+
+  pub write-reached : (a b : Course) (e : Entry) (mask : ℕ) → isOpenAt p at ≡ false → Holds a (opening split p at) → e .record ≡ wrAt at mask → Extends a (e .record ∷ []) b
+      → Holds b (writeCourse split p at mask)
+  unfolding writeCourse
+  write-reached a b e mask o k x u = rw o (push-holds a b (opening split p at) e (wrAt at mask) k x u (omega (arith, opening-short p at m)))
 
 -- ---- refresh
 
@@ -147,13 +159,13 @@ module _ (nbr : Relation) (p : PlannerState) where
       go true false = refl
       go false h = opening-packets at
 
-  pub write-packets : (at : Place) → allPackets (writeCourse nbr p at) ≡ true
+  pub write-packets : (at : Place) (mask : ℕ) → allPackets (writeCourse nbr p at mask) ≡ true
   unfolding writeCourse isPacket allPackets
-  write-packets at = go (isOpenAt p at)
+  write-packets at mask = one-more (cond (isOpenAt p at) [] (opening nbr p at)) (wrAt at mask) (go (isOpenAt p at)) refl
     where
-      go : (o : Bool) → allPackets (cond o (wrAt at (cond (heldIn p .waits) (p .mask) fullMask) ∷ []) (opening nbr p at ++ (wrAt at (cond (heldIn p .waits && not (near nbr (at .bank) (heldIn p .bank))) (p .mask) fullMask) ∷ []))) ≡ true
+      go : (o : Bool) → allPackets (cond o [] (opening nbr p at)) ≡ true
       go true = refl
-      go false = one-more (opening nbr p at) (wrAt at (cond (heldIn p .waits && not (near nbr (at .bank) (heldIn p .bank))) (p .mask) fullMask)) (opening-packets at) refl
+      go false = opening-packets at
 
   pub refresh-packets : allPackets (refreshCourse nbr p) ≡ true
   unfolding refreshCourse isPacket
@@ -169,10 +181,12 @@ module _ (nbr : Relation) (p : PlannerState) where
 
 -- ---- no write makes more than six packets
 
-pub write-short : (p : PlannerState) (at : Place) → at .bank < 32 → length (writeCourse split p at) ≤ 6
+pub write-short : (p : PlannerState) (at : Place) (mask : ℕ) → at .bank < 32 → length (writeCourse split p at mask) ≤ 6
 unfolding writeCourse
-write-short p at m = go (isOpenAt p at)
+write-short p at mask m =
+    let n = length-append (cond (isOpenAt p at) [] (opening split p at)) (wrAt at mask ∷ []) in
+    omega (arith, go (isOpenAt p at))
   where
-    go : (o : Bool) → length (cond o (wrAt at (cond (heldIn p .waits) (p .mask) fullMask) ∷ []) (opening split p at ++ (wrAt at (cond (heldIn p .waits && not (near split (at .bank) (heldIn p .bank))) (p .mask) fullMask) ∷ []))) ≤ 6
+    go : (o : Bool) → length (cond o [] (opening split p at)) ≤ 5
     go true = omega arith
-    go false = rw (length-append (opening split p at) (wrAt at (cond (heldIn p .waits && not (near split (at .bank) (heldIn p .bank))) (p .mask) fullMask) ∷ [])) (omega (arith, opening-short p at m))
+    go false = opening-short p at m

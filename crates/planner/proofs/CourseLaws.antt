@@ -30,7 +30,7 @@ use Rattle.plan.specs.declared.PlannerState.{PlannerState}
 use Rattle.plan.specs.Plan.{Draft, rowPacket, colPacket, when, waiting, stateIn, carried, maskFor, openOn, hits, sent, flushed, closedUpTo, reached, plannedRead, loaded, written, plannedWrite, turned, plannedRefresh, plannedDrain, stepsOf, planned}
 use Rattle.plan.proofs.SentLaws.{Sized, row-waiting, sent-mask, flushed-waiting, flushed-size, flushed-state}
 use Rattle.plan.proofs.Invariant.{WriteIn, Inv}
-use Rattle.planner.specs.Course.{closings, closingIf, heldIn, fullMask, nocop, clearing, opening, isOpenAt, rdAt, readCourse, wrAt, writeCourse, refreshCourse, drainCourse, sentAll, sentFrom}
+use Rattle.planner.specs.Course.{closings, closingIf, heldIn, fullMask, nocop, clearing, opening, isOpenAt, rdAt, readCourse, wrAt, writeMask, writeCourse, refreshCourse, drainCourse, sentAll, sentFrom}
 use Rattle.planner.proofs.ClosingLaws.{all-append, all-one, Waits, no-write, one-write, still, mask-same, closings-sent}
 
 -- a planner before its first packet of a call
@@ -184,28 +184,30 @@ module _ (s : Settings) (nbr : Relation) (p : PlannerState) (v : Inv s nbr p) wh
       in
       rw (row-waiting s nbr (Act (at .bank) (at .row)) z, m) (left-mask (at .bank))
 
-  write-opened : (at : Place) → sent s nbr (wrAt at (maskFor (sent s nbr (actAt at) (cleared (at .bank))))) (sent s nbr (actAt at) (cleared (at .bank)))
-      ≡ sentAll s nbr (opening nbr p at ++ (wrAt at (cond (heldIn p .waits && not (near nbr (at .bank) w)) (p .mask) fullMask) ∷ [])) d
-  write-opened at =
+  write-opened : (at : Place) → isOpenAt p at ≡ false
+      → sent s nbr (wrAt at (maskFor (sent s nbr (actAt at) (cleared (at .bank))))) (sent s nbr (actAt at) (cleared (at .bank)))
+      ≡ sentAll s nbr (opening nbr p at ++ (wrAt at (writeMask nbr p at) ∷ [])) d
+  unfolding writeMask
+  write-opened at o =
       let m : ℕ = cond (heldIn p .waits && not (near nbr (at .bank) w)) (p .mask) fullMask in
-      rw (written-mask at) (ap (sent s nbr (wrAt at m)) (opened-sent at) ∙ sym (all-one s nbr (opening nbr p at) (wrAt at m) d))
+      rw (o, written-mask at) (ap (sent s nbr (wrAt at m)) (opened-sent at) ∙ sym (all-one s nbr (opening nbr p at) (wrAt at m) d))
 
-  write-open : (at : Place) → sent s nbr (wrAt at (maskFor d)) d ≡ sentAll s nbr (wrAt at (cond (heldIn p .waits) (p .mask) fullMask) ∷ []) d
-  unfolding sentAll
-  write-open at = rw (carried-is (p .channel .buffer) (p .mask))
+  write-open : (at : Place) → isOpenAt p at ≡ true → sent s nbr (wrAt at (maskFor d)) d ≡ sentAll s nbr (wrAt at (writeMask nbr p at) ∷ []) d
+  unfolding sentAll writeMask
+  write-open at o = rw (o, carried-is (p .channel .buffer) (p .mask), and-yes (heldIn p .waits))
 
-  pub write-sent : (at : Place) (mask : ℕ) (bytes : Dualoct) → planned s nbr (WriteTo at mask bytes) p ≡ loaded s nbr mask bytes (sentFrom s nbr p (writeCourse nbr p at))
+  pub write-sent : (at : Place) (mask : ℕ) (bytes : Dualoct)
+      → planned s nbr (WriteTo at mask bytes) p ≡ loaded s nbr mask bytes (sentFrom s nbr p (writeCourse nbr p at (writeMask nbr p at)))
   unfolding planned stepsOf plannedWrite written reached writeCourse
-  write-sent at mask bytes = ap (loaded s nbr mask bytes) (go (isOpenAt p at))
+  write-sent at mask bytes = ap (loaded s nbr mask bytes) (go (isOpenAt p at) refl)
     where
       reach : Bool → Draft
       reach t = when (not t) (λ d. sent s nbr (actAt at) (closedUpTo s nbr (near nbr (at .bank)) bankCount d)) d
 
-      go : (t : Bool)
-          → sent s nbr (wrAt at (maskFor (reach t))) (reach t)
-          ≡ sentAll s nbr (cond t (wrAt at (cond (heldIn p .waits) (p .mask) fullMask) ∷ []) (opening nbr p at ++ (wrAt at (cond (heldIn p .waits && not (near nbr (at .bank) w)) (p .mask) fullMask) ∷ []))) d
-      go true = write-open at
-      go false = write-opened at
+      go : (t : Bool) → isOpenAt p at ≡ t
+          → sent s nbr (wrAt at (maskFor (reach t))) (reach t) ≡ sentAll s nbr (cond t [] (opening nbr p at) ++ (wrAt at (writeMask nbr p at) ∷ [])) d
+      go true e = write-open at e
+      go false e = write-opened at e
 
   -- ---- refresh
 

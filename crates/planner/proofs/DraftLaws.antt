@@ -31,7 +31,7 @@ use Rattle.plan.proofs.SentLaws.{sent-records}
 use Rattle.plan.proofs.Invariant.{Tested, valid-tested, valid-inv}
 use Rattle.planner.specs.declared.Course.{Course}
 use Rattle.planner.specs.declared.Draft.{Draft as Drawn}
-use Rattle.planner.specs.Course.{listed, Holds, Extends, allPackets, readCourse, writeCourse, refreshCourse, drainCourse, bankIn, sentAll, sentFrom}
+use Rattle.planner.specs.Course.{listed, Holds, Extends, allPackets, readCourse, writeMask, writeCourse, refreshCourse, drainCourse, bankIn, sentAll, sentFrom}
 use Rattle.planner.specs.Drafts.{Drafted, startOf, loadedState, Loaded, Turned}
 use Rattle.planner.proofs.ListedLaws.{holds-more}
 use Rattle.planner.proofs.CourseLaws.{read-sent, write-sent, refresh-sent, drain-sent}
@@ -149,20 +149,20 @@ module _ (s : Settings) (mask : ℕ) (bytes : Dualoct) (z : Draft) (x r : Drawn)
         course = λ e. holds-more (x .course) (r .course) (z .records) (dataAt (z .planner) ∷ []) (d .course (early e)) (rw (d .state (early e)) at (k .course e)) (omega arith);
       }
 
-module _ (s : Settings) (p : PlannerState) (v : plannerValid s split p ≡ true) (at : Place) (m : at .bank < 32) (c : Course) (h : Holds c (writeCourse split p at))
-    (x : Drawn) (d : Drafted s x (sentFrom s split p (listed c))) where
+module _ (s : Settings) (p : PlannerState) (v : plannerValid s split p ≡ true) (at : Place) (m : at .bank < 32) (carried : ℕ) (k : carried ≡ writeMask split p at)
+    (c : Course) (h : Holds c (writeCourse split p at carried)) (x : Drawn) (d : Drafted s x (sentFrom s split p (listed c))) where
   abbrev wrote : Draft
-  wrote = sentFrom s split p (writeCourse split p at)
+  wrote = sentFrom s split p (writeCourse split p at (writeMask split p at))
 
   short : length (wrote .records) ≤ 6
-  short = omega (arith, all-length s split (writeCourse split p at) (startOf p), write-short p at m)
+  short = omega (arith, all-length s split (writeCourse split p at (writeMask split p at)) (startOf p), write-short p at (writeMask split p at) m)
 
   drew : Drafted s x wrote
-  drew = rw (h .same) at d
+  drew = rw (h .same, k) at d
 
   pub load-asks : x .late ≡ false → x .course .count < 17
   load-asks e = omega (arith, short, drew .course e .count)
 
   pub write-drafted : (mask : ℕ) (bytes : Dualoct) (r : Drawn) → Loaded s x mask bytes r → Drafted s r (planned s split (WriteTo at mask bytes) p)
-  write-drafted mask bytes r k =
-      rw (write-sent s split p (valid-inv s split p v) at mask bytes) (loaded-drafted s mask bytes wrote x r drew k (omega (arith, short)))
+  write-drafted mask bytes r l =
+      rw (write-sent s split p (valid-inv s split p v) at mask bytes) (loaded-drafted s mask bytes wrote x r drew l (omega (arith, short)))

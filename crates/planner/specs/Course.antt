@@ -3,7 +3,7 @@
 -- Assumes nothing.
 use Prim.Native.Nat.{ℕ, zero, suc, _+_, _-_, _%_, _≤_}
 use mathlib.Core.Path.{_≡_}
-use mathlib.Core.Bool.{Bool, true, false, not, _&&_, cond}
+use mathlib.Core.Bool.{Bool, true, false, not, _&&_, _||_, cond}
 use mathlib.Core.List.{List, [], _∷_, _++_, map}
 use lib.Dec.{eqb, ltb}
 use lib.ListN.{length, take, getD}
@@ -110,10 +110,11 @@ abbrev pub wrAt : Place → ℕ → Record
 wrAt at mask = colPacket (Wr (at .bank) (at .column) mask)
 
 -- the mask of the waiting write, where it still waits when the row is reached
-unfoldable pub writeCourse : Relation → PlannerState → Place → List Record
-writeCourse nbr p at =
-    cond (isOpenAt p at) (wrAt at (cond (heldIn p .waits) (p .mask) fullMask) ∷ [])
-    (opening nbr p at ++ (wrAt at (cond (heldIn p .waits && not (near nbr (at .bank) (heldIn p .bank))) (p .mask) fullMask) ∷ []))
+unfoldable pub writeMask : Relation → PlannerState → Place → ℕ
+writeMask nbr p at = cond (heldIn p .waits && (isOpenAt p at || not (near nbr (at .bank) (heldIn p .bank)))) (p .mask) fullMask
+
+unfoldable pub writeCourse : Relation → PlannerState → Place → ℕ → List Record
+writeCourse nbr p at mask = cond (isOpenAt p at) [] (opening nbr p at) ++ (wrAt at mask ∷ [])
 
 unfoldable pub refreshCourse : Relation → PlannerState → List Record
 refreshCourse nbr p = clearing nbr p (p .refresh) ++ (rowPacket (Refa (p .refresh)) ∷ []) ++ (rowPacket (Refp (p .refresh)) ∷ [])

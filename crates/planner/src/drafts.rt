@@ -113,12 +113,15 @@ pub fn make(s: Settings, p: PlannerState, q: Request) -> Draft
 {
     match q {
         Request::Read(at) => place(s, p, packets::read_course(p, at)),
-        Request::Write(at, mask, bytes) => load(
-            s,
-            place(s, p, packets::write_course(p, at)),
-            mask,
-            bytes,
-        ),
+        Request::Write(at, mask, bytes) => {
+            let carried = packets::write_mask(p, at);
+            load(
+                s,
+                place(s, p, packets::write_course(p, at, carried)),
+                mask,
+                bytes,
+            )
+        }
         Request::Refresh => turn(place(s, p, packets::refresh_course(p)), p.refresh),
         Request::Wait(cycles) => wait(s, p, cycles),
         Request::Drain => place(s, p, packets::drain_course(p)),

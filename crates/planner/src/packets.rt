@@ -9,7 +9,7 @@ ghost use Rattle.rules.specs.Neighbour.{split};
 ghost use Rattle.rules.specs.Channel.{stateOf, waitingOf};
 ghost use Rattle.state.specs.Valid.{apart};
 ghost use Rattle.plan.specs.Plan.{rowPacket, colPacket, openOn, hits};
-ghost use Rattle.planner.specs.Course.{Holds, Extends, bankAt, closing, closings, firstNear, lastNear, fullMask, clearing, opening, rdAt, wrAt, readCourse, writeCourse, refreshCourse, drainCourse};
+ghost use Rattle.planner.specs.Course.{Holds, Extends, bankAt, closing, closings, firstNear, lastNear, fullMask, clearing, opening, rdAt, wrAt, readCourse, writeMask, writeCourse, refreshCourse, drainCourse};
 use crate::Course;
 use crate::Entry;
 use channel::beside::is_near;
@@ -71,7 +71,8 @@ fn closing(c: Course, x: u32, w: u32, mask: u32) -> Course
 {
     let prer = row_packet(RowPacket::Prer { bank: x });
     if x == w {
-        return push(push(c, col_packet(ColPacket::Nocop { mask: mask })), prer);
+        let nocop = col_packet(ColPacket::Nocop { mask: mask });
+        return push(push(c, nocop), prer);
     }
     push(c, prer)
 }
@@ -206,20 +207,33 @@ fn write_packet(at: Place, mask: u32) -> Entry
     })
 }
 
-// A write without its data.
-pub fn write_course(p: PlannerState, at: Place) -> Course
+// The mask that the WR of a write carries: that of the write that still waits once the row is reached.
+pub fn write_mask(p: PlannerState, at: Place) -> u32
     requires { ⌜ at .bank < 32 ⌝ }
-    ensures { λ r. ⌜ Holds r (writeCourse split p at) ⌝ }
+    ensures { λ r. ⌜ r ≡ writeMask split p at ⌝ }
 {
     let ch = p.channel;
     let buffer = ch.buffer;
     let h = held_of(buffer);
     let t = ch.banks[slot_of(at.bank)];
+    let open = open_on(t, at.row);
+    let near = is_near(at.bank, h.bank);
+    let waits = num::both(h.waits, num::either(open, !near));
+    carried(waits, p.mask)
+}
+
+// A write without its data; its WR carries this mask.
+pub fn write_course(p: PlannerState, at: Place, mask: u32) -> Course
+    requires { ⌜ at .bank < 32 ⌝ }
+    ensures { λ r. ⌜ Holds r (writeCourse split p at mask) ⌝ }
+{
+    let wr = write_packet(at, mask);
+    let ch = p.channel;
+    let t = ch.banks[slot_of(at.bank)];
     if open_on(t, at.row) {
-        return push(none(), write_packet(at, carried(h.waits, p.mask)));
+        return push(none(), wr);
     }
-    let kept = num::both(h.waits, !is_near(at.bank, h.bank));
-    push(opening(p, at), write_packet(at, carried(kept, p.mask)))
+    push(opening(p, at), wr)
 }
 
 // A refresh.

@@ -23,16 +23,20 @@ place-requires c κs = place-asks (c .before .before .before .before .args .s) (
 enum-known-q-2 : tie.Need-enum-known-q-2
 enum-known-q-2 c = search needs
 
+write-mask-requires : tie.Need-write-mask-requires
+unfolding bankIn
+write-mask-requires c κs = ltb-true _ _ (rw (c .before .q2 .given .1) at (c .before .before .before .pre .1))
+
 write-course-requires : tie.Need-write-course-requires
 unfolding bankIn
-write-course-requires c κs = ltb-true _ _ (rw (c .before .q2 .given .1) at (c .before .before .before .pre .1))
+write-course-requires c κs = ltb-true _ _ (rw (c .before .before .q2 .given .1) at (c .before .before .before .before .pre .1))
 
 place-requires-2 : tie.Need-place-requires-2
-place-requires-2 c κs = place-asks (c .before .before .before .before .args .s) (c .before .before .before .before .args .p) (c .before .before .before .before .pre .0) _ _ (c .write-course .ensures) (write-packets split (c .before .before .before .before .args .p) _)
+place-requires-2 c κs = place-asks (c .before .before .before .before .before .args .s) (c .before .before .before .before .before .args .p) (c .before .before .before .before .before .pre .0) _ _ (c .write-course .ensures) (write-packets split (c .before .before .before .before .before .args .p) _ _)
 
 load-requires : tie.Need-load-requires
 unfolding bankIn
-load-requires c κs = load-asks (c .before .before .before .before .before .args .s) (c .before .before .before .before .before .args .p) (c .before .before .before .before .before .pre .0) _ (ltb-true _ _ (rw (c .before .before .before .q2 .given .1) at (c .before .before .before .before .before .pre .1))) _ (c .before .write-course .ensures) _ (c .place2 .ensures)
+load-requires c κs = load-asks (c .before .before .before .before .before .before .args .s) (c .before .before .before .before .before .before .args .p) (c .before .before .before .before .before .before .pre .0) _ (ltb-true _ _ (rw (c .before .before .before .before .q2 .given .1) at (c .before .before .before .before .before .before .pre .1))) _ (c .before .before .write-mask .ensures) _ (c .before .write-course .ensures) _ (c .place2 .ensures)
 
 enum-told : tie.Need-enum-told
 enum-told c = search needs
@@ -66,7 +70,7 @@ returns c = let z = c .before .before .before .before .before in rw (c .before .
 
 returns-2 : tie.Need-returns-2
 unfolding bankIn
-returns-2 c = let z = c .before .before .before .before .before .before in rw (c .before .before .before .before .q2 .given .1) (write-drafted (z .args .s) (z .args .p) (z .pre .0) _ (ltb-true _ _ (rw (c .before .before .before .before .q2 .given .1) at (z .pre .1))) _ (c .before .before .write-course .ensures) _ (c .before .place2 .ensures) _ _ _ (c .load .ensures))
+returns-2 c = let z = c .before .before .before .before .before .before .before in rw (c .before .before .before .before .before .q2 .given .1) (write-drafted (z .args .s) (z .args .p) (z .pre .0) _ (ltb-true _ _ (rw (c .before .before .before .before .before .q2 .given .1) at (z .pre .1))) _ (c .before .before .before .write-mask .ensures) _ (c .before .before .write-course .ensures) _ (c .before .place2 .ensures) _ _ _ (c .load .ensures))
 
 returns-3 : tie.Need-returns-3
 returns-3 c = let z = c .before .before .before .before .before in rw (c .before .before .before .enum-told .given .1) (refresh-drafted (z .args .s) (z .args .p) (z .pre .0) _ _ _ (c .before .before .refresh-course .ensures) (c .before .place3 .ensures) (c .turn .ensures))
@@ -85,6 +89,7 @@ make-spec =
     read-course-requires
     place-requires
     enum-known-q-2
+    write-mask-requires
     write-course-requires
     place-requires-2
     load-requires

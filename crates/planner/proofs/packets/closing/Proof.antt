@@ -1,7 +1,7 @@
 -- `planner::packets::closing` meets its contract: one packet, or two where the write waits in the bank.
 use native.Mathlib.Omega.{arith}
 use borrow.Author.Tests.{eq-eqb, ne-eqb}
-use Rattle.planner.proofs.ListedLaws.{extends-more}
+use Rattle.planner.proofs.CodeLaws.{two-more, one-more-of}
 use borrow.Author.Needs.{needs}
 use Rattle.planner.proofs.packets.closing.Statement.{statement}
 use Rattle.planner.proofs.packets.closing.Tie as tie
@@ -20,17 +20,14 @@ push-requires-2 c κs = let p = rw (eq-eqb _ _ (c .before .before .if1 .taken)) 
 
 returns : tie.Need-returns
 returns c =
-    let a = rw (c .before .before .col-packet .ensures) at (c .before .push .ensures) in
-    let b = rw (c .before .before .before .before .row-packet .ensures) at (c .push2 .ensures) in
-    rw (eq-eqb _ _ (c .before .before .before .if1 .taken)) (extends-more _ _ _ _ _ a b)
+    rw (eq-eqb _ _ (c .before .before .before .if1 .taken))
+    (two-more _ _ _ _ _ _ _ (c .before .before .col-packet .ensures) (c .before .push .ensures) (c .before .before .before .before .row-packet .ensures) (c .push2 .ensures))
 
 push-requires-3 : tie.Need-push-requires-3
 push-requires-3 c κs = let p = rw (ne-eqb _ _ (c .if1 .left)) at (c .before .before .pre) in omega arith
 
 returns-2 : tie.Need-returns-2
-returns-2 c =
-    let b = rw (c .before .before .row-packet .ensures) at (c .push3 .ensures) in
-    rw (ne-eqb _ _ (c .before .if1 .left)) b
+returns-2 c = rw (ne-eqb _ _ (c .before .if1 .left)) (one-more-of _ _ _ _ (c .before .before .row-packet .ensures) (c .push3 .ensures))
 
 pub closing-spec : {M : Type 1} → statement M
 closing-spec =

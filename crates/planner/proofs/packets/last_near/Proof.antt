@@ -1,4 +1,5 @@
 -- `planner::packets::last_near` meets its contract: each way out decides the test.
+use Prim.Native.Nat.{_%_}
 use borrow.Author.Tests.{eq-eqb, ne-eqb}
 use borrow.Author.Needs.{needs}
 use Rattle.planner.proofs.packets.last_near.Statement.{statement}
@@ -8,10 +9,10 @@ add-result : tie.Need-add-result
 add-result c = search needs
 
 returns : tie.Need-returns
-returns c = rw (eq-eqb _ _ (c .if1 .taken))
+returns c = rw (eq-eqb (c .before .args .b % 16) 15 (c .if1 .taken))
 
 returns-2 : tie.Need-returns-2
-returns-2 c = rw (ne-eqb _ _ (c .if1 .left))
+returns-2 c = rw (ne-eqb (c .before .args .b % 16) 15 (c .if1 .left))
 
 pub last-near-spec : {M : Type 1} → statement M
 last-near-spec = tie.close (tie.spec add-result returns returns-2)

@@ -5,8 +5,8 @@ use borrow.Author.Needs.{needs}
 use Rattle.planner.proofs.packets.write_course.Statement.{statement}
 use Rattle.planner.proofs.packets.write_course.Tie as tie
 
-held-of-requires : tie.Need-held-of-requires
-held-of-requires c κs = search needs
+write-packet-requires : tie.Need-write-packet-requires
+write-packet-requires c κs = search needs
 
 slot-of-requires : tie.Need-slot-of-requires
 slot-of-requires c κs = search needs
@@ -23,63 +23,39 @@ open-on-requires c κs = search needs
 none-requires : tie.Need-none-requires
 none-requires c κs = search needs
 
-carried-requires : tie.Need-carried-requires
-carried-requires c κs = search needs
-
-write-packet-requires : tie.Need-write-packet-requires
-write-packet-requires c κs = search needs
-
 push-requires : tie.Need-push-requires
-push-requires c κs = push-asks _ _ (c .before .before .none .ensures) (omega arith)
+push-requires c κs = search needs
 
 returns : tie.Need-returns
 returns c =
-    let z = c .before .before .before .before .before .before .before .before .before .before in
-    let o = open-at (z .args .p) (z .args .at) (z .pre) _ _ _ (c .before .before .before .before .before .before .before .slot-of .ensures .0) (c .before .before .before .before .before .open-on .ensures) (c .before .before .before .before .if1 .taken) in
-    write-hit (z .args .p) (z .args .at) (z .pre) _ _ _ _ _ o (c .before .before .before .before .before .before .before .before .held-of .ensures) (c .before .before .carried .ensures) (c .before .before .before .none .ensures) (c .before .write-packet .ensures) (c .push .ensures)
-
-is-near-requires : tie.Need-is-near-requires
-is-near-requires c κs = search needs
-
-both-requires : tie.Need-both-requires
-both-requires c κs = search needs
+    let z = c .before .before .before .before .before .before .before .before in
+    let o = open-at (z .args .p) (z .args .at) (z .pre) _ _ _ (c .before .before .before .before .before .slot-of .ensures .0) (c .before .before .before .open-on .ensures) (c .before .before .if1 .taken) in
+    write-hit (z .args .p) (z .args .at) (z .pre) _ _ _ _ o (c .before .none .ensures) (c .before .before .before .before .before .before .before .write-packet .ensures) (c .push .ensures)
 
 opening-requires : tie.Need-opening-requires
-opening-requires c κs = c .before .before .before .before .before .before .before .before .pre
-
-carried-requires-2 : tie.Need-carried-requires-2
-carried-requires-2 c κs = search needs
-
-write-packet-requires-2 : tie.Need-write-packet-requires-2
-write-packet-requires-2 c κs = search needs
+opening-requires c κs = search needs
 
 push-requires-2 : tie.Need-push-requires-2
-push-requires-2 c κs = push-asks _ _ (c .before .before .opening .ensures) (omega (arith, opening-short (c .before .before .before .before .before .before .before .before .before .before .before .args .p) (c .before .before .before .before .before .before .before .before .before .before .before .args .at) (c .before .before .before .before .before .before .before .before .before .before .before .pre)))
+push-requires-2 c κs = push-asks _ _ (c .opening .ensures) (omega (arith, opening-short (c .before .before .before .before .before .before .before .args .p) (c .before .before .before .before .before .before .before .args .at) (c .before .before .before .before .before .before .before .pre)))
 
 returns-2 : tie.Need-returns-2
 returns-2 c =
-    let z = c .before .before .before .before .before .before .before .before .before .before .before .before in
-    let o = open-at (z .args .p) (z .args .at) (z .pre) _ _ _ (c .before .before .before .before .before .before .before .before .before .slot-of .ensures .0) (c .before .before .before .before .before .before .before .open-on .ensures) (c .before .before .before .before .before .before .if1 .left) in
-    write-reached (z .args .p) (z .args .at) (z .pre) _ _ _ _ _ _ _ o (c .before .before .before .before .before .before .before .before .before .before .held-of .ensures) (c .before .before .before .before .before .is-near .ensures) (c .before .before .before .before .both .ensures) (c .before .before .carried2 .ensures) (c .before .before .before .opening .ensures) (c .before .write-packet2 .ensures) (c .push2 .ensures)
+    let z = c .before .before .before .before .before .before .before .before in
+    let o = open-at (z .args .p) (z .args .at) (z .pre) _ _ _ (c .before .before .before .before .before .slot-of .ensures .0) (c .before .before .before .open-on .ensures) (c .before .before .if1 .left) in
+    write-reached (z .args .p) (z .args .at) (z .pre) _ _ _ _ o (c .before .opening .ensures) (c .before .before .before .before .before .before .before .write-packet .ensures) (c .push2 .ensures)
 
 pub write-course-spec : {M : Type 1} → statement M
 write-course-spec =
     tie.close
     (tie.spec
-    held-of-requires
+    write-packet-requires
     slot-of-requires
     mul-t
     element-copy-out-t
     open-on-requires
     none-requires
-    carried-requires
-    write-packet-requires
     push-requires
     returns
-    is-near-requires
-    both-requires
     opening-requires
-    carried-requires-2
-    write-packet-requires-2
     push-requires-2
     returns-2)
