@@ -6,7 +6,7 @@ ghost use Rattle.num.specs.Bytes.{part, splice};
 ghost use Rattle.log.specs.Block.{used, blocksIn, blockAt, firstBadBlock, listOf};
 
 // How many records block k of a log uses.
-pub fn used_at(log: &[u8], k: usize) -> usize
+pub(crate) fn used_at(log: &[u8], k: usize) -> usize
     requires { ⌜ k < blocksIn (now log) ⌝ }
     ensures { λ r. ⌜ r ≡ used (blockAt (now (log .entry)) k) ⌝ }
 {
