@@ -13,6 +13,7 @@ use native.Mathlib.Omega.{arith}
 use Rattle.num.specs.Bytes.{bytes, number}
 use Rattle.num.specs.Search.{allUpTo}
 use Rattle.settings.specs.declared.Settings.{Settings}
+use Rattle.settings.specs.Bench.{setOf, setH}
 use Rattle.packet.specs.declared.RowPacket.the-variants.{Act, Prer, Refa, Refp}
 use Rattle.packet.specs.declared.ColPacket.the-variants.{Nocop, Rd}
 use Rattle.record.specs.declared.Dualoct.{Dualoct}
@@ -31,7 +32,6 @@ use Rattle.rules.specs.Channel.{fresh, waitingOf, bankNext, trackNext, settled,
 use Rattle.rules.specs.Checks.{maxUpTo}
 use Rattle.rules.specs.Earliest.{placedAt, earliest}
 use Rattle.rules.proofs.Bools.{not-both, and-left}
-use Rattle.rules.proofs.Worked.{setH}
 use Rattle.plan.specs.declared.PlannerState.{PlannerState}
 use Rattle.plan.specs.Planner.{freshPlanner, plannerValid}
 use Rattle.plan.specs.Call.{inTime, timely, outcomeOf, outcomeBy, planOutcome, isMade, draftBy, planNext, planRecords}
@@ -279,5 +279,5 @@ pub calls : List Call
 calls = map (λ (q : Request). record { request = requestBytes q; room = 544 }) sixteen
 
 pub most-reached : length (planRecords setH split (plannerAfter setH split freshPlanner calls) (requestBytes Drain) 544) ≡ 17
-unfolding setH place sixteen calls bytes number allUpTo usesByte spareRight placed requestOf requestRead requestFields requestBytes split rowTraits colTraits traits instant isPacket bankBy isClosed isOpen bankCount dataDelay fresh waitingOf bankNext trackNext settled bufferBy bufferNext afterPacket afterData after maxUpTo placedAt earliest freshPlanner slot sent flushed closed closedUpTo reached plannedRead loaded written plannedWrite turned plannedRefresh plannedWait plannedDrain stepsOf planned inTime timely outcomeOf outcomeBy planOutcome isMade draftBy planNext planRecords plannerAfter
+unfolding setOf setH place sixteen calls bytes number allUpTo usesByte spareRight placed requestOf requestRead requestFields requestBytes split rowTraits colTraits traits instant isPacket bankBy isClosed isOpen bankCount dataDelay fresh waitingOf bankNext trackNext settled bufferBy bufferNext afterPacket afterData after maxUpTo placedAt earliest freshPlanner slot sent flushed closed closedUpTo reached plannedRead loaded written plannedWrite turned plannedRefresh plannedWait plannedDrain stepsOf planned inTime timely outcomeOf outcomeBy planOutcome isMade draftBy planNext planRecords plannerAfter
 most-reached = refl

@@ -8,6 +8,7 @@ use lib.ListN.{length, replicate}
 use Rattle.num.specs.Bytes.{bytes, number}
 use Rattle.num.specs.Search.{allUpTo}
 use Rattle.settings.specs.declared.Settings.{Settings}
+use Rattle.settings.specs.Bench.{setOf, setH}
 use Rattle.packet.specs.declared.RowPacket.{RowPacket}
 use Rattle.packet.specs.declared.RowPacket.the-variants.{Act, Prer, Refa, Refp}
 use Rattle.packet.specs.declared.ColPacket.{ColPacket}
@@ -25,7 +26,6 @@ use Rattle.rules.specs.Rules.{bankCount, dataDelay}
 use Rattle.rules.specs.Channel.{fresh, waitingOf, bankNext, trackNext, settled, bufferBy, bufferNext, afterPacket, afterData, after}
 use Rattle.rules.specs.Checks.{maxUpTo}
 use Rattle.rules.specs.Earliest.{placedAt, earliest}
-use Rattle.rules.proofs.Worked.{setH}
 use Rattle.plan.specs.Planner.{freshPlanner}
 use Rattle.plan.specs.Plan.{slot, sent, flushed, closed, closedUpTo, reached, plannedRead, loaded, written, plannedWrite, turned, plannedRefresh, plannedWait, plannedDrain, stepsOf, planned}
 use Rattle.plan.specs.Call.{inTime, timely, outcomeOf, outcomeBy, planOutcome, isMade, draftBy, planNext, planRecords}
@@ -89,5 +89,5 @@ pub listOf : List Request → List Record
 listOf l = listed setH split freshPlanner (calls l)
 
 pub worked : map listOf runs ≡ lists
-unfolding setH read ones twos write calls row col dat full runs lists listOf bytes number allUpTo usesByte spareRight placed requestOf requestRead requestFields requestBytes split rowTraits colTraits traits instant isPacket bankBy isClosed isOpen bankCount dataDelay fresh waitingOf bankNext trackNext settled bufferBy bufferNext afterPacket afterData after maxUpTo placedAt earliest freshPlanner slot sent flushed closed closedUpTo reached plannedRead loaded written plannedWrite turned plannedRefresh plannedWait plannedDrain stepsOf planned inTime timely outcomeOf outcomeBy planOutcome isMade draftBy planNext planRecords listed
+unfolding setOf setH read ones twos write calls row col dat full runs lists listOf bytes number allUpTo usesByte spareRight placed requestOf requestRead requestFields requestBytes split rowTraits colTraits traits instant isPacket bankBy isClosed isOpen bankCount dataDelay fresh waitingOf bankNext trackNext settled bufferBy bufferNext afterPacket afterData after maxUpTo placedAt earliest freshPlanner slot sent flushed closed closedUpTo reached plannedRead loaded written plannedWrite turned plannedRefresh plannedWait plannedDrain stepsOf planned inTime timely outcomeOf outcomeBy planOutcome isMade draftBy planNext planRecords listed
 worked = refl

@@ -8,7 +8,7 @@ use mathlib.Core.List.{List, [], _∷_, map}
 use lib.Dec.{ltb}
 use lib.ListN.{length}
 use Rattle.num.specs.Search.{allUpTo, firstFalse}
-use Rattle.settings.specs.declared.Settings.{Settings}
+use Rattle.settings.specs.Bench.{setOf, setH}
 use Rattle.packet.specs.declared.RowPacket.{RowPacket}
 use Rattle.packet.specs.declared.RowPacket.the-variants.{Act, Prer, Refa, Refp}
 use Rattle.packet.specs.declared.ColPacket.{ColPacket}
@@ -23,26 +23,6 @@ use Rattle.rules.specs.Rules.{rule1, rule2, rule3, rule4, rule5, rule6, 
 use Rattle.rules.specs.Broken.{earlier, recordOf, lowest, lowestRule, ruleAt, firstBroken, everyRule}
 use Rattle.rules.specs.Channel.{fresh, waitingOf, dueOf, bankNext, trackNext, settled, bufferBy, bufferNext, afterPacket, afterData, after}
 use Rattle.rules.specs.Checks.{maxUpTo, checks, judged, channelAfter, foundAt, firstFound}
-
-unfoldable pub setH : Settings
-setH =
-    record {
-      rc = 28;
-      ras = 20;
-      rp = 8;
-      pp = 8;
-      rr = 8;
-      rcd = 9;
-      rtr = 8;
-      rdp = 4;
-      rtp = 4;
-      cc = 4;
-      cac = 8;
-      cwd = 6;
-      rows = 2;
-      columns = 4;
-      device = 0;
-    }
 
 -- a packet at an instant, and data
 abbrev pub row : ℕ → RowPacket → Record
@@ -149,5 +129,5 @@ verdicts =
     ∷ []
 
 pub worked : (map byRules lists ≡ verdicts) × (map byTests lists ≡ verdicts)
-unfolding setH numbers verdict byRules byTests lists verdicts split rowTraits colTraits traits instant isPacket bankBy bankAfter isClosed isOpen waitingBy waitingAfter eventOf events keeps bankCount dataDelay dueAfter rules rule1 rule2 rule3 rule4 rule5 rule6 rule7 rule8 rule9 rule10 rule11 rule12 rule13 rule14 rule15 rule16 lowest lowestRule firstBroken everyRule fresh waitingOf dueOf bankNext trackNext settled bufferBy bufferNext afterPacket afterData after maxUpTo checks judged channelAfter firstFound allUpTo firstFalse
+unfolding setOf setH numbers verdict byRules byTests lists verdicts split rowTraits colTraits traits instant isPacket bankBy bankAfter isClosed isOpen waitingBy waitingAfter eventOf events keeps bankCount dataDelay dueAfter rules rule1 rule2 rule3 rule4 rule5 rule6 rule7 rule8 rule9 rule10 rule11 rule12 rule13 rule14 rule15 rule16 lowest lowestRule firstBroken everyRule fresh waitingOf dueOf bankNext trackNext settled bufferBy bufferNext afterPacket afterData after maxUpTo checks judged channelAfter firstFound allUpTo firstFalse
 worked = (refl, refl)

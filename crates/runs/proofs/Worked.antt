@@ -9,6 +9,7 @@ use lib.ListN.{length, replicate}
 use Rattle.num.specs.Bytes.{bytes, number}
 use Rattle.num.specs.Search.{allUpTo}
 use Rattle.settings.specs.declared.Settings.{Settings}
+use Rattle.settings.specs.Bench.{setOf}
 use Rattle.packet.specs.Row.{deviceHead, rowFields, rowWord, rowFits, rowCoded, rowOf as packetRow, rowDecoded}
 use Rattle.packet.specs.Col.{maskBit as carriesMask, maskField, colFields, colWord, colFits, colCoded, maskSaid, maskOf as packetMask, colOf, colDecoded}
 use Rattle.record.specs.declared.Dualoct.{Dualoct}
@@ -37,24 +38,7 @@ use Rattle.runs.specs.WholeRun.{fed}
 
 -- one row and one column: 512 bytes
 pub small : Settings
-small =
-    record {
-      rc = 28;
-      ras = 20;
-      rp = 8;
-      pp = 8;
-      rr = 8;
-      rcd = 9;
-      rtr = 8;
-      rdp = 4;
-      rtp = 4;
-      cc = 4;
-      cac = 8;
-      cwd = 6;
-      rows = 1;
-      columns = 1;
-      device = 0;
-    }
+small = setOf 1 1
 
 requests : List Request
 requests =
@@ -90,5 +74,5 @@ pub store : List ℕ
 store = (1 ∷ 2 ∷ replicate 14 7) ++ (replicate 16 7 ++ ((1 ∷ (replicate 14 7 ++ (16 ∷ []))) ++ (replicate 448 7 ++ (1 ∷ 2 ∷ 3 ∷ 4 ∷ 5 ∷ 6 ∷ 7 ∷ 8 ∷ 9 ∷ 10 ∷ 11 ∷ 12 ∷ 13 ∷ 14 ∷ 15 ∷ 16 ∷ []))))
 
 pub result : (driver .failed ≡ false) × (driver .pending ≡ []) × (driver .answers ≡ answers) × (driver .store ≡ store) × (flatAfter small (fed small split freshPlanner list) (replicate 512 7) ≡ store) × (flatAnswers small (fed small split freshPlanner list) (replicate 512 7) ≡ answers)
-unfolding answers store small requests calls list rooms driver bytes number allUpTo deviceHead rowFields rowWord rowFits rowCoded packetRow rowDecoded carriesMask maskField colFields colWord colFits colCoded maskSaid packetMask colOf colDecoded recordFields recordBytes rowRecord colRecord recordOf recordRead usesByte spareRight placed requestOf requestRead requestFields requestBytes split rowTraits colTraits traits instant isPacket bankBy isClosed isOpen bankCount dataDelay lowest fresh waitingOf dueOf bankNext trackNext settled bufferBy bufferNext afterPacket afterData after maxUpTo checks judged placedAt earliest freshPlanner slot sent flushed closed closedUpTo reached plannedRead loaded written plannedWrite turned plannedRefresh plannedWait plannedDrain stepsOf planned inTime timely outcomeOf outcomeBy planOutcome isMade draftBy planNext planRecords listed storeLength dualoctAt dualoct dualoctBytes maskBit masked onesUpTo freshModel rowOf maskOf retiredWrite storeNext refrBy refrNext bytesNext modelNext readOf retireAnswer passedAnswer recordAnswer readAnswer stepAnswer isTaken modelBy stepModel storeBy stepStore bytesRead bytesBy memoryBy answersBy memoryOf answersOf flatNext flatAnswer flatAfter flatAnswers started returned leftBy isFull fails calledOn called driven fed
+unfolding answers store setOf small requests calls list rooms driver bytes number allUpTo deviceHead rowFields rowWord rowFits rowCoded packetRow rowDecoded carriesMask maskField colFields colWord colFits colCoded maskSaid packetMask colOf colDecoded recordFields recordBytes rowRecord colRecord recordOf recordRead usesByte spareRight placed requestOf requestRead requestFields requestBytes split rowTraits colTraits traits instant isPacket bankBy isClosed isOpen bankCount dataDelay lowest fresh waitingOf dueOf bankNext trackNext settled bufferBy bufferNext afterPacket afterData after maxUpTo checks judged placedAt earliest freshPlanner slot sent flushed closed closedUpTo reached plannedRead loaded written plannedWrite turned plannedRefresh plannedWait plannedDrain stepsOf planned inTime timely outcomeOf outcomeBy planOutcome isMade draftBy planNext planRecords listed storeLength dualoctAt dualoct dualoctBytes maskBit masked onesUpTo freshModel rowOf maskOf retiredWrite storeNext refrBy refrNext bytesNext modelNext readOf retireAnswer passedAnswer recordAnswer readAnswer stepAnswer isTaken modelBy stepModel storeBy stepStore bytesRead bytesBy memoryBy answersBy memoryOf answersOf flatNext flatAnswer flatAfter flatAnswers started returned leftBy isFull fails calledOn called driven fed
 result = (refl, refl, refl, refl, refl, refl)
