@@ -21,10 +21,10 @@ use Rattle.rules.proofs.EarliestLaws.{slot-least}
 use Rattle.plan.specs.declared.PlannerState.{PlannerState}
 use Rattle.plan.specs.Planner.{freshPlanner}
 use Rattle.plan.specs.Call.{planNext, planRecords}
-use Rattle.plan.specs.Runs.{Call, plannerAfter, listed}
+use Rattle.plan.specs.Runs.{Call, OfBytes, plannerAfter, listed}
 use Rattle.plan.proofs.Trace.{Each, each-before, each-at, channelBy, nowBy, Placed}
 use Rattle.plan.proofs.CallLaws.{Made, InTime, each-in-time, called, call-made, call-in-time}
-use Rattle.plan.proofs.Legal.{OfBytes, Allowed, Run, call-tracks, run-call, run-made}
+use Rattle.plan.proofs.Legal.{Allowed, Run, call-tracks, run-call, run-made}
 
 -- now before record j of the records that a call makes: "Now is the latest ROW or COL instant", and before the first packet of
 -- the call the planner's own

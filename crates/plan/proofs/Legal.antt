@@ -26,16 +26,11 @@ use Rattle.rules.proofs.EarliestLaws.{checks-split}
 use Rattle.plan.specs.declared.PlannerState.{PlannerState}
 use Rattle.plan.specs.Planner.{freshPlanner}
 use Rattle.plan.specs.Call.{planNext, planRecords}
-use Rattle.plan.specs.Runs.{Call, plannerAfter, listed}
+use Rattle.plan.specs.Runs.{Call, OfBytes, plannerAfter, listed}
 use Rattle.plan.proofs.Invariant.{Inv, valid-inv}
 use Rattle.plan.proofs.Trace.{Each, each-at, channelBy, channel-after, Placed}
 use Rattle.plan.proofs.CallLaws.{Made, InTime, each-in-time, called, call-made, call-in-time}
 use Rattle.plan.proofs.Valid.{fresh-valid}
-
--- "A plan call gives the planner one request, of any bytes"
-abbrev pub OfBytes : List Call → Type 0
-OfBytes [] = Unit {0}
-OfBytes (c ∷ l) = Bytes (c .request) × OfBytes l
 
 -- a record has a word and breaks no rule after the earlier ones
 abbrev pub Allowed : Settings → Relation → List Record → Record → Type 0
@@ -88,7 +83,7 @@ module _ (s : Settings) (nbr : Relation) (ns : Neighbours nbr) where
 
   pub run-calls : (calls : List Call) → OfBytes calls → (l : List Record) (p : PlannerState) → Run s nbr l p
       → Run s nbr (l ++ listed s nbr p calls) (plannerAfter s nbr p calls)
-  unfolding listed plannerAfter
+  unfolding OfBytes listed plannerAfter
   run-calls [] b l p k = rw (append-nil l) k
   run-calls (c ∷ calls) b l p k =
       rw (← append-assoc l (planRecords s nbr p (c .request) (c .room)))

@@ -29,10 +29,10 @@ use Rattle.plan.specs.Planner.{freshPlanner, plannerValid}
 use Rattle.plan.specs.PlannerBytes.{plannerBytes}
 use Rattle.plan.specs.Plan.{Draft, planned}
 use Rattle.plan.specs.Call.{listBytes, timely, outcomeOf, outcomeBy, planOutcome, isMade, accepted, draftBy, planNext, planRecords, planRoom}
-use Rattle.plan.specs.Runs.{Call, plannerAfter, listed}
+use Rattle.plan.specs.Runs.{Call, OfBytes, plannerAfter, listed}
 use Rattle.plan.proofs.Valid.{fresh-valid, next-valid}
 use Rattle.plan.proofs.PlannerRoundTrip.{planner-decode-encode, planner-right}
-use Rattle.runs.specs.WholeRun.{fed, OfBytes}
+use Rattle.runs.specs.WholeRun.{fed}
 use Rattle.rdram.specs.Plans.{planAnswer, planBy, planUnder, planAnswered, plannerBy, plannerUnder, planPlanner, roomBy, roomUnder, planPlaced}
 use Rattle.rdram.specs.Runs.{PlanCall, Bench, freshBench, benchNext, benchAfter, benchFed, BytesIn}
 use Rattle.rdram.proofs.ListOf.{length-list, list-append}

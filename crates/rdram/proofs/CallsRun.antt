@@ -18,12 +18,12 @@ use Rattle.rules.specs.Neighbour.{split}
 use Rattle.rules.proofs.NeighbourLaws.{split-neighbours}
 use Rattle.plan.specs.Planner.{freshPlanner}
 use Rattle.plan.specs.Call.{listBytes}
-use Rattle.plan.specs.Runs.{listed}
+use Rattle.plan.specs.Runs.{OfBytes, listed}
 use Rattle.model.specs.Store.{storeLength}
 use Rattle.model.specs.Model.{freshModel}
 use Rattle.model.proofs.NextValid.{fresh-model-valid}
 use Rattle.runs.specs.Drive.{Drive, started, driven}
-use Rattle.runs.specs.WholeRun.{OfBytes, EndsInDrain, WholeRun}
+use Rattle.runs.specs.WholeRun.{EndsInDrain, WholeRun}
 use Rattle.runs.proofs.DriveLaws.{kept, driven-ran}
 use Rattle.runs.proofs.Demand.{fresh-passing, run-fits, run-data, run-coded, whole-run-split}
 use Rattle.rdram.specs.Runs.{PlanCall, Device, freshBench, benchAfter, freshDevice, deviceAfter, BytesIn, DrainsLast, CallsRun}

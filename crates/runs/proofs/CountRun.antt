@@ -17,13 +17,13 @@ use Rattle.rules.specs.Channel.{waitingOf}
 use Rattle.rules.specs.Checks.{judged}
 use Rattle.plan.specs.declared.PlannerState.{PlannerState}
 use Rattle.plan.specs.Planner.{freshPlanner}
-use Rattle.plan.specs.Runs.{Call, plannerAfter, listed}
+use Rattle.plan.specs.Runs.{Call, OfBytes, plannerAfter, listed}
 use Rattle.model.specs.declared.ModelState.{ModelState}
 use Rattle.model.specs.Store.{storeLength}
 use Rattle.model.specs.Model.{freshModel, storeNext, modelNext, readOf}
 use Rattle.model.specs.Step.{stepAnswer}
 use Rattle.runs.specs.Drive.{Drive, started, called, driven}
-use Rattle.runs.specs.WholeRun.{fed, OfBytes, EndsInDrain}
+use Rattle.runs.specs.WholeRun.{fed, EndsInDrain}
 use Rattle.runs.proofs.PlainRun.{answerOf, maskIf, maskBy, retiredMasks, Passing, length-next}
 use Rattle.runs.proofs.DriveLaws.{Every, Coded, roomy, kept, gone, call-is, call-taken, driven-none, next-none, next-one, next-channel}
 use Rattle.runs.proofs.SimCalls.{fedMasks, sim-run}

@@ -33,24 +33,19 @@ use Rattle.rules.proofs.NeighbourLaws.{split-neighbours}
 use Rattle.plan.specs.declared.PlannerState.{PlannerState}
 use Rattle.plan.specs.Planner.{freshPlanner}
 use Rattle.plan.specs.Call.{planNext}
-use Rattle.plan.specs.Runs.{Call, plannerAfter, listed}
-use Rattle.plan.proofs.Legal.{OfBytes as AllBytes, run-made, run-words, rules-hold}
+use Rattle.plan.specs.Runs.{Call, OfBytes, plannerAfter, listed}
+use Rattle.plan.proofs.Legal.{run-made, run-words, rules-hold}
 use Rattle.model.specs.Store.{storeLength}
 use Rattle.model.specs.Model.{freshModel, retiredTo}
 use Rattle.runs.specs.Flat.{flatAfter}
 use Rattle.runs.specs.Drive.{started}
-use Rattle.runs.specs.WholeRun.{fed, OfBytes, EndsInDrain, WholeRun}
+use Rattle.runs.specs.WholeRun.{fed, EndsInDrain, WholeRun}
 use Rattle.runs.proofs.PlainRun.{storeAll, Passing, passing-all}
 use Rattle.runs.proofs.DriveLaws.{Every, every-at, Coded, driven-passes, driven-takes, driven-store, driven-answers}
 use Rattle.runs.proofs.Sim.{DataIn}
 use Rattle.runs.proofs.SimCalls.{sim-run, drain-empties}
 
 -- ---- lists of calls
-
-of-bytes : (calls : List Call) → OfBytes calls → AllBytes calls
-unfolding OfBytes
-of-bytes [] b = tt
-of-bytes (c ∷ calls) b = (b .0, of-bytes calls (b .1))
 
 first-bytes : (calls rest : List Call) → OfBytes (calls ++ rest) → OfBytes calls
 unfolding OfBytes
@@ -95,16 +90,16 @@ module _ (s : Settings) (v : valid s ≡ true) (nbr : Relation) (ns : Neighbours
   last = plannerAfter s nbr freshPlanner calls
 
   abbrev words : (j : ℕ) → j < length list → recordFits s (recordOf list j) ≡ true
-  words = run-words s nbr ns calls (of-bytes calls b)
+  words = run-words s nbr ns calls b
 
   rule-at : (j : ℕ) → j < length list → ruleAt s nbr list j ≡ 0
   unfolding everyRule
-  rule-at j m = eqb-true _ 0 (all-at (λ j. eqb (ruleAt s nbr list j) 0) (length list) j (rules-hold s nbr ns calls (of-bytes calls b)) m)
+  rule-at j m = eqb-true _ 0 (all-at (λ j. eqb (ruleAt s nbr list j) 0) (length list) j (rules-hold s nbr ns calls b) m)
 
   found-at : (j : ℕ) → j < length list → foundAt s nbr list j ≡ 0
   unfolding firstBroken everyRule
   found-at j m =
-      let every = rules-hold s nbr ns calls (of-bytes calls b) in
+      let every = rules-hold s nbr ns calls b in
       let end : firstBroken s nbr list ≡ length list = first-none (λ j. eqb (ruleAt s nbr list j) 0) (length list) (λ i h. all-at (λ j. eqb (ruleAt s nbr list j) 0) (length list) i every h) in
       found-is-rule s nbr ns list words j (omega arith) m ∙ rule-at j m
 
@@ -130,7 +125,7 @@ module _ (s : Settings) (v : valid s ≡ true) (nbr : Relation) (ns : Neighbours
       let first : List Call = e .first in
       let c : OfBytes first = first-bytes first (e .last ∷ []) (rw (e .ends) at b) in
       rw (e .ends, planner-last s nbr freshPlanner first (e .last))
-      (drain-empties s nbr ns [] (listed s nbr freshPlanner first) (plannerAfter s nbr freshPlanner first) (run-made s nbr ns first (of-bytes first c) .inv) _ _ _
+      (drain-empties s nbr ns [] (listed s nbr freshPlanner first) (plannerAfter s nbr freshPlanner first) (run-made s nbr ns first c .inv) _ _ _
       (sim-run s nbr ns [] first c) (e .last .request) (e .last .room) (e .drain) (e .taken))
 
   run-whole : (store : List ℕ) → length store ≡ storeLength s → Bytes store → (rooms : List ℕ) → WholeRun s nbr calls store rooms
@@ -140,7 +135,7 @@ module _ (s : Settings) (v : valid s ≡ true) (nbr : Relation) (ns : Neighbours
       let flat : flatAfter s (fed s nbr freshPlanner calls) store ≡ retiredTo s (last .channel) (waitingOf (last .channel .buffer)) (last .mask) (k .bytes) (storeAll s nbr freshModel list store) =
       rw append-nil at (k .flat) in
       record {
-        lawful = rules-hold s nbr ns calls (of-bytes calls b);
+        lawful = rules-hold s nbr ns calls b;
         passes = driven-passes s nbr rooms freshModel store list n run-coded fresh-passing;
         takes = driven-takes s nbr rooms freshModel store list n run-coded fresh-passing;
         reads = λ e. driven-answers s nbr rooms freshModel store list n run-coded fresh-passing e ∙ rw append-nil at (k .same);

@@ -20,14 +20,14 @@ use Rattle.plan.specs.declared.PlannerState.{PlannerState}
 use Rattle.plan.specs.Planner.{freshPlanner}
 use Rattle.plan.specs.Plan.{Draft, stepsOf, planned}
 use Rattle.plan.specs.Call.{accepted, draftBy, draftOf, planNext, planRecords}
-use Rattle.plan.specs.Runs.{Call, plannerAfter, listed}
+use Rattle.plan.specs.Runs.{Call, OfBytes, plannerAfter, listed}
 use Rattle.plan.proofs.Invariant.{Inv}
 use Rattle.plan.proofs.Trace.{trace-start}
 use Rattle.plan.proofs.CallLaws.{call-made}
 use Rattle.plan.proofs.Legal.{run-fresh}
 use Rattle.model.specs.Model.{freshModel}
 use Rattle.runs.specs.Flat.{Fed, memoryBy, answersBy, memoryOf, answersOf, flatNext, flatAnswer, flatAfter, flatAnswers}
-use Rattle.runs.specs.WholeRun.{fed, OfBytes}
+use Rattle.runs.specs.WholeRun.{fed}
 use Rattle.runs.proofs.PlainRun.{modelAll, storeAll, answersAll, retiredMasks}
 use Rattle.runs.proofs.Sim.{Sim}
 use Rattle.runs.proofs.SimPlan.{Both, sim-read, sim-write, sim-refresh, sim-wait, sim-drain}
