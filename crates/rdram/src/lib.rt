@@ -1,6 +1,7 @@
 // The C entry points. Buffers that are lent must not overlap.
 pub mod checks;
 pub mod logs;
+pub mod models;
 pub mod words;
 
 // The word of a packet: number is 0, or the refusal's and word 0.

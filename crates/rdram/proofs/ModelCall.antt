@@ -1,0 +1,40 @@
+-- What a model's bytes that are not refused say, and the bytes after a call on them.
+-- Assumes nothing.
+use Prim.Native.Nat.{ℕ}
+use mathlib.Core.Path.{_≡_, refl}
+use mathlib.Core.Bool.{Bool, true, false, cond}
+use mathlib.Core.List.{List}
+use lib.Dec.{eqb}
+use lib.ListN.{length}
+use borrow.Author.Tests.{eqb-true}
+use Rattle.num.specs.Bytes.{number, part, Bytes}
+use Rattle.settings.specs.declared.Settings.{Settings}
+use Rattle.rules.specs.Neighbour.{split}
+use Rattle.rules.proofs.Bools.{and-left, and-right}
+use Rattle.state.specs.ChannelBytes.{bufferRight}
+use Rattle.model.specs.declared.ModelState.{ModelState}
+use Rattle.model.specs.Model.{modelValid}
+use Rattle.model.specs.ModelBytes.{modelBytes, modelIn, modelRight}
+use Rattle.model.specs.Step.{stepAnswer, isTaken, modelBy, stepModel}
+use Rattle.model.proofs.ModelRoundTrip.{model-encode-decode}
+use Rattle.record.specs.Record.{recordRead}
+use Rattle.rdram.specs.Models.{modelAfterBy}
+
+module _ (s : Settings) (b : List ℕ) (r : modelRight s split b ≡ true) where
+  pub right-length : length b ≡ 752
+  unfolding modelRight
+  right-length = eqb-true (length b) 752 (and-left (eqb (length b) 752) _ r)
+
+  pub right-valid : modelValid s split (modelIn b) ≡ true
+  unfolding modelRight
+  right-valid = and-right (bufferRight b) _ (and-right (eqb (number (part b 734 2)) 0) _ (and-right (eqb (length b) 752) _ r))
+
+  -- a call that is refused puts back the bytes that it read
+  pub model-left : Bytes b → (stored : ℕ) (given : List ℕ) (room : ℕ)
+      → modelBytes (stepModel s split (modelIn b) stored given room) ≡ modelAfterBy s b stored given room
+  unfolding modelAfterBy stepModel
+  model-left w stored given room = rw r (go (isTaken (stepAnswer s split (modelIn b) stored given room)) (modelBy s split (modelIn b) (recordRead s given)))
+    where
+      go : (q : Bool) (n : ModelState) → modelBytes (cond q n (modelIn b)) ≡ cond q (modelBytes (cond q n (modelIn b))) b
+      go true n = refl
+      go false n = model-encode-decode s split b w r

@@ -1,0 +1,99 @@
+// The device model.
+ghost use mathlib.Core.Path.{_≡_};
+ghost use mathlib.Core.Bool.{true};
+ghost use lib.ListN.{length};
+ghost use Rattle.settings.specs.declared.SettingsRead.the-variants.{Accepted};
+ghost use Rattle.settings.specs.Settings.{valid};
+ghost use Rattle.rdram.specs.Models.{freshModelNumber, freshModelPlaced, steppedAnswer, stepUnder, modelUnder, storeUnder, answerUnder, stepAnswered, steppedModel, steppedStore, steppedRoom};
+use crate::StepAnswer;
+use device::Model;
+use model::Stepped;
+use record::Refusal;
+use settings::Settings;
+use settings::SettingsRead;
+
+fn step_answer(a: Stepped) -> StepAnswer
+    ensures { λ r. ⌜ r ≡ steppedAnswer a ⌝ }
+{
+    match a {
+        Stepped::Refused(r) => {
+            let why = r.answer();
+            StepAnswer {
+                number: why.number,
+                rule: why.rule,
+                event: 0,
+                bytes: 0,
+            }
+        }
+        Stepped::Read => StepAnswer {
+            number: 0,
+            rule: 0,
+            event: 1,
+            bytes: 0,
+        },
+        Stepped::Retired(n) => StepAnswer {
+            number: 0,
+            rule: 0,
+            event: 2,
+            bytes: n,
+        },
+        Stepped::Neither => StepAnswer {
+            number: 0,
+            rule: 0,
+            event: 0,
+            bytes: 0,
+        },
+    }
+}
+
+// A model call under settings that are accepted.
+fn step_by(
+    s: Settings,
+    model: &mut [u8],
+    store: &mut [u8],
+    given: &[u8],
+    room: &mut [u8],
+) -> StepAnswer
+    requires { ⌜ valid s ≡ true ⌝ }
+    ensures { λ r. ⌜ (r ≡ stepUnder (Accepted s) (now (model .entry)) (length (now (store .entry))) (now (given .entry)) (length (now (room .entry)))) × (now (model .exit) ≡ modelUnder (Accepted s) (now (model .entry)) (length (now (store .entry))) (now (given .entry)) (length (now (room .entry)))) × (now (store .exit) ≡ storeUnder (Accepted s) (now (model .entry)) (now (store .entry)) (now (given .entry)) (length (now (room .entry)))) × (now (room .exit) ≡ answerUnder (Accepted s) (now (model .entry)) (now (store .entry)) (now (given .entry)) (now (room .entry))) ⌝ }
+{
+    if !device::model_right(s, model) {
+        return step_answer(Stepped::Refused(Refusal::Settings));
+    }
+    let m = Model::read(model);
+    let done = m.step(s, store, given, room);
+    let answer = done.answer;
+    let next = done.model;
+    next.put(model);
+    step_answer(answer)
+}
+
+// Puts a fresh model into a buffer of its length.
+#[no_mangle]
+pub extern "C" fn rdram_model_fresh(model: &mut [u8]) -> u32
+    ensures { λ r. ⌜ (r ≡ freshModelNumber (now (model .entry))) × (now (model .exit) ≡ freshModelPlaced (now (model .entry))) ⌝ }
+{
+    if model.len() != 752 {
+        return 1;
+    }
+    let m = Model::fresh();
+    m.put(model);
+    0
+}
+
+// Takes one record: an RD puts its dualoct at the start of room, a retire writes to the store.
+#[no_mangle]
+pub extern "C" fn rdram_model_step(
+    settings: &[u8],
+    model: &mut [u8],
+    store: &mut [u8],
+    given: &[u8],
+    room: &mut [u8],
+) -> StepAnswer
+    ensures { λ r. ⌜ (r ≡ stepAnswered (now (settings .entry)) (now (model .entry)) (now (store .entry)) (now (given .entry)) (now (room .entry))) × (now (model .exit) ≡ steppedModel (now (settings .entry)) (now (model .entry)) (now (store .entry)) (now (given .entry)) (now (room .entry))) × (now (store .exit) ≡ steppedStore (now (settings .entry)) (now (model .entry)) (now (store .entry)) (now (given .entry)) (now (room .entry))) × (now (room .exit) ≡ steppedRoom (now (settings .entry)) (now (model .entry)) (now (store .entry)) (now (given .entry)) (now (room .entry))) ⌝ }
+{
+    match settings::read::read_settings(settings) {
+        SettingsRead::Refused => step_answer(Stepped::Refused(Refusal::Settings)),
+        SettingsRead::Accepted(s) => step_by(s, model, store, given, room),
+    }
+}
