@@ -15,7 +15,6 @@ use Rattle.settings.specs.Instants.{horizon, isInstant}
 use Rattle.record.specs.declared.Record.{Record}
 use Rattle.rules.specs.declared.Bank.{Bank}
 use Rattle.rules.specs.declared.BankTrack.{BankTrack}
-use Rattle.rules.specs.declared.Buffer.{Buffer}
 use Rattle.rules.specs.declared.Channel.{Channel}
 use Rattle.channel.specs.declared.View.{View}
 use Rattle.channel.specs.declared.Held.{Held}
@@ -30,7 +29,6 @@ use Rattle.rules.specs.Channel.{idle, trackOf, stateOf, waitingOf, dueOf}
 use Rattle.rules.specs.Checks.{since, asks, maxUpTo, boundOf, boundIf, boundBanks, bound1, bound2, bound3, bound5, bound6, bound7, bound8, bound10, bound11, bound13Read, bound13Retire, checks, judged}
 use Rattle.channel.specs.View.{lowOf, highOf, slotOf, heldAt, three, viewOf, heldOf}
 use Rattle.channel.specs.Tests.{tracksOf, aroundOf, actBound, kept, retired, lastsOf, test1, test2, test3, test4, test5, test6, test7, test8, test9, test10, test11, test12, test13, test14, test15, test16, pinRules, rowRules, colRules, bufferRules, found}
-use Rattle.channel.specs.Steps.{channelOf}
 use Rattle.channel.proofs.NearLaws.{near-max, same-max, near-all}
 use Rattle.channel.proofs.ViewLaws.{view-traits, view-instant, view-packet, view-delay, held-bank, held-from, held-due}
 
@@ -279,24 +277,3 @@ module _ (s : Settings) (ch : Channel) (r : Record) (e : length (ch .banks) ≡ 
 
   pub judged-closed : viewOf r .opens ≡ false → found s (viewOf r) (heldOf (ch .buffer)) readAround 0 (lastsOf ch) ≡ judged s split ch r
   judged-closed q = act-unused s (viewOf r) (heldOf (ch .buffer)) readAround (lastsOf ch) 0 (actBound s (ch .banks) (viewOf r .bank)) q ∙ judged-by
-
--- ---- the same where banks, last instants and buffer stand apart; of rule 5's bound only its test counts
-
-act-same : (s : Settings) (v : View) (h : Held) (k : Tracks) (l : Lasts) (a b : ℕ) → kept (v .opens) a (v .at) ≡ kept (v .opens) b (v .at) → found s v h k a l ≡ found s v h k b l
-unfolding found rowRules test5
-act-same s v h k l a b e = rw e
-
-module _ (s : Settings) (banks : List BankTrack) (l : Lasts) (buffer : Buffer) (r : Record) (e : length banks ≡ 32) where
-  abbrev standing : ℕ → BankTrack
-  standing b = getD banks (slotOf b) idle
-
-  pub judged-apart : (act : ℕ) → (viewOf r .opens ≡ true → leb act (viewOf r .at) ≡ leb (actBound s banks (viewOf r .bank)) (viewOf r .at))
-      → found s (viewOf r) (heldOf buffer)
-      (aroundOf (viewOf r .bank) (heldOf buffer .bank) (standing (viewOf r .bank)) (standing (lowOf (viewOf r .bank))) (standing (highOf (viewOf r .bank))) (standing (heldOf buffer .bank)))
-      act l
-      ≡ judged s split (channelOf banks l buffer) r
-  judged-apart act f = act-same s (viewOf r) (heldOf buffer) _ l act (actBound s banks (viewOf r .bank)) (go (viewOf r .opens) refl) ∙ judged-by s (channelOf banks l buffer) r e
-    where
-      go : (t : Bool) → viewOf r .opens ≡ t → kept t act (viewOf r .at) ≡ kept t (actBound s banks (viewOf r .bank)) (viewOf r .at)
-      go true q = f q
-      go false q = refl

@@ -54,17 +54,17 @@ abbrev onto : (BankTrack → BankTrack) → Bool → BankTrack → BankTrack
 onto f t k = cond t (f k) k
 
 module _ (f : BankTrack → BankTrack) (x : ℕ) (l : List BankTrack) where
-  length-touch : length (touch f x l) ≡ length l
+  pub length-touch : length (touch f x l) ≡ length l
   length-touch = length-set l _ _
 
-  touch-in : x < 32 → touch f x l ≡ set l x (f (getD l x idle))
+  pub touch-in : x < 32 → touch f x l ≡ set l x (f (getD l x idle))
   touch-in h = rw (lt-ltb x 32 h)
 
-  touch-out : 32 ≤ x → touch f x l ≡ l
+  pub touch-out : 32 ≤ x → touch f x l ≡ l
   touch-out h = rw (le-ltb x 32 h) (set-getD l 0 idle)
 
   -- what stands at each index once bank x is changed
-  touch-at : length l ≡ 32 → (i : ℕ) → i < 32 → getD (touch f x l) i idle ≡ onto f (eqb i x) (getD l i idle)
+  pub touch-at : length l ≡ 32 → (i : ℕ) → i < 32 → getD (touch f x l) i idle ≡ onto f (eqb i x) (getD l i idle)
   touch-at e i h = go (ltb x 32) refl (eqb i x) refl
     where
       here : x < 32 → (t : Bool) → eqb i x ≡ t → getD (touch f x l) i idle ≡ onto f t (getD l i idle)

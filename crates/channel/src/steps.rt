@@ -73,7 +73,7 @@ fn own_next(v: View, h: Held, k: BankTrack) -> BankTrack
 }
 
 // A neighbour after a PRER or REFP.
-fn side_next(v: View, k: BankTrack) -> BankTrack
+pub fn side_next(v: View, k: BankTrack) -> BankTrack
     ensures { λ r. ⌜ r ≡ sideNext v k ⌝ }
 {
     let at = PacketAt(v.at);
@@ -146,7 +146,8 @@ pub fn buffer_after(v: View, b: Buffer) -> Buffer
     settle(b)
 }
 
-fn pick(first: bool, a: u32, b: u32) -> u32
+// One of two numbers.
+pub fn pick(first: bool, a: u32, b: u32) -> u32
     ensures { λ r. ⌜ r ≡ cond first a b ⌝ }
 {
     if first { a } else { b }

@@ -150,7 +150,8 @@ pub fn is_closed(t: BankTrack) -> bool
     }
 }
 
-pub(crate) fn is_open(t: BankTrack) -> bool
+// Whether a bank is open by ACT.
+pub fn is_open(t: BankTrack) -> bool
     ensures { λ r. ⌜ r ≡ isOpen (t .bank) ⌝ }
 {
     let b = t.bank;

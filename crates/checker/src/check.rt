@@ -3,10 +3,12 @@ ghost use mathlib.Core.Path.{_≡_};
 ghost use Rattle.checker.specs.Check.{listAnswer, logAnswer};
 use crate::Judged;
 use crate::walk::judge_all;
+use crate::walk::walk;
 use record::Refusal;
 use settings::Settings;
 
-// Judges a list of records.
+// Judges a list of records. One pass tests form and rules; a rule counts only where every record is well formed, so one that
+// breaks a rule asks for a second.
 pub fn check_list(s: Settings, list: &[u8]) -> Judged
     ensures { λ r. ⌜ r ≡ listAnswer s (now (list .entry)) ⌝ }
 {
@@ -14,11 +16,19 @@ pub fn check_list(s: Settings, list: &[u8]) -> Judged
         return Judged::Refused(Refusal::Length);
     }
     let n = list.len() / 32;
+    let stop = walk(s, list, n, false);
+    let at = stop.at;
+    if at == n {
+        return Judged::Passed;
+    }
+    if stop.rule == 0 {
+        return Judged::Refused(Refusal::Word(at as u64));
+    }
     let bad = record::records::first_bad(s, list);
     if bad != n {
         return Judged::Refused(Refusal::Word(bad as u64));
     }
-    judge_all(s, list, n, false)
+    Judged::Refused(Refusal::Rule(stop.rule, at as u64))
 }
 
 // Judges the list that a log keeps.

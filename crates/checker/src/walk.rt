@@ -4,33 +4,37 @@ ghost use mathlib.Core.Bool.{true};
 ghost use Prim.Native.Nat.{ℕ, _+_, _<_, _≤_, _^_};
 ghost use lib.ListN.{length};
 ghost use Rattle.num.specs.Bytes.{part};
-ghost use Rattle.record.specs.Record.{recordRead, wellFormed};
-ghost use Rattle.checker.specs.Check.{known, ruleAnswer};
-ghost use Rattle.checker.specs.Walk.{placeOf, recordsVia};
+ghost use Rattle.record.specs.Record.{wellFormed};
+ghost use Rattle.channel.specs.Steps.{channelOf};
+ghost use Rattle.checker.specs.Check.{ruleAnswer};
+ghost use Rattle.checker.specs.Walk.{placeOf, recordsVia, stopOf};
 use crate::Judged;
+use crate::Stop;
+use crate::quick::closed_track;
+use crate::quick::high_slot;
+use crate::quick::latest_after;
+use crate::quick::low_slot;
+use crate::quick::opened_track;
+use crate::quick::passes;
+use crate::quick::tracks_of;
 use channel::Lasts;
-use channel::beside::high_of;
-use channel::beside::low_of;
 use channel::beside::slot_of;
 use channel::beside::unused;
-use channel::judging::act_bound;
-use channel::judging::around;
-use channel::judging::find;
+use channel::judging::judge;
 use channel::steps::buffer_after;
 use channel::steps::lasts_after;
 use channel::steps::no_lasts;
-use channel::steps::own_after;
-use channel::steps::side_after;
-use channel::steps::side_of;
-use channel::steps::spot_of;
+use channel::steps::pick;
+use channel::steps::side_next;
 use channel::views::held_of;
 use channel::views::view_of;
-use record::Dualoct;
-use record::Record;
 use record::RecordRead;
 use record::Refusal;
+use record::records::read_record;
+use rules::BankTrack;
 use rules::Buffer;
-use settings::DataAt;
+use rules::Channel;
+use settings::PacketAt;
 use settings::Settings;
 
 // Where record i stands, in a log or in a list.
@@ -45,65 +49,79 @@ fn place_of(blocks: bool, i: usize) -> usize
     }
 }
 
-// The record from a place on; bytes that are none give some record.
-fn record_at(s: Settings, b: &[u8], at: usize) -> Record
-    requires { ⌜ at + 32 ≤ length (now b) ⌝ }
-    ensures { λ r. ⌜ r ≡ known (recordRead s (part (now (b .entry)) at 32)) ⌝ }
+// The state of the channel from its parts.
+fn channel_of(banks: [BankTrack; 32], l: Lasts, buffer: Buffer) -> Channel
+    ensures { λ r. ⌜ r ≡ channelOf banks l buffer ⌝ }
 {
-    match record::records::read_record(s, b, at) {
-        RecordRead::NoRecord => Record::DataOf(DataAt(0), Dualoct { dqa: 0, dqb: 0 }),
-        RecordRead::Known(r) => r,
+    Channel {
+        banks: banks,
+        last: PacketAt(l.last),
+        row: PacketAt(l.row),
+        col: PacketAt(l.col),
+        pre: PacketAt(l.pre),
+        rd: PacketAt(l.rd),
+        buffer: buffer,
     }
 }
 
-// The first broken rule of n well formed records of a list, or of a log where blocks says so. The state of the channel is kept in
-// locals: no function takes the array of banks, except where rule 5 walks them.
+// The first of n records that is none or breaks a rule. The state of the channel stands in locals: only a record that fails the
+// quick test is judged by all of it.
+pub fn walk(s: Settings, b: &[u8], n: usize, blocks: bool) -> Stop
+    requires { ⌜ n < 2 ^ 58 ⌝ }
+    requires { ⌜ ((i : ℕ) → i < n → placeOf blocks i + 32 ≤ length (now b)) ⌝ }
+    ensures { λ r. ⌜ r ≡ stopOf s blocks (now (b .entry)) n ⌝ }
+{
+    let mut banks = [unused(); 32];
+    let mut l = no_lasts();
+    let mut latest = 0;
+    let mut buffer = Buffer::Empty;
+    let mut i = 0;
+    while i < n {
+        let RecordRead::Known(r) = read_record(s, b, place_of(blocks, i)) else {
+            return Stop { at: i, rule: 0 };
+        };
+        let v = view_of(r);
+        let h = held_of(buffer);
+        let x = slot_of(v.bank);
+        let y = low_slot(x);
+        let z = high_slot(x);
+        let w = slot_of(h.bank);
+        let k = tracks_of(banks[x], banks[y], banks[z], banks[w]);
+        if !passes(s, v, h, k, latest, l) {
+            let rule = judge(s, channel_of(banks, l, buffer), r);
+            if rule != 0 {
+                return Stop { at: i, rule: rule };
+            }
+        }
+        if v.opens {
+            banks[x] = opened_track(v, banks[x]);
+        }
+        if v.precharges {
+            banks[x] = closed_track(v, banks[x]);
+            banks[y] = side_next(v, banks[y]);
+            banks[z] = side_next(v, banks[z]);
+        }
+        banks[x].rd.0 = pick(v.reads, v.at, banks[x].rd.0);
+        banks[w].retire.0 = pick(num::both(v.retires, h.waits), v.at, banks[w].retire.0);
+        l = lasts_after(v, l);
+        latest = latest_after(v, latest);
+        buffer = buffer_after(v, buffer);
+        i += 1;
+    }
+    Stop { at: n, rule: 0 }
+}
+
+// The first broken rule of n well formed records of a list, or of a log where blocks says so.
 pub fn judge_all(s: Settings, b: &[u8], n: usize, blocks: bool) -> Judged
     requires { ⌜ n < 2 ^ 58 ⌝ }
     requires { ⌜ ((i : ℕ) → i < n → placeOf blocks i + 32 ≤ length (now b)) ⌝ }
     requires { ⌜ ((i : ℕ) → i < n → wellFormed s (part (now b) (placeOf blocks i) 32) ≡ true) ⌝ }
     ensures { λ r. ⌜ r ≡ ruleAnswer s (recordsVia s blocks (now (b .entry)) n) ⌝ }
 {
-    let mut banks = [unused(); 32];
-    let mut l = no_lasts();
-    let mut buffer = Buffer::Empty;
-    let mut i = 0;
-    while i < n {
-        let r = record_at(s, b, place_of(blocks, i));
-        let v = view_of(r);
-        let h = held_of(buffer);
-        let x = slot_of(v.bank);
-        let own = banks[x];
-        let y = slot_of(low_of(v.bank));
-        let low = banks[y];
-        let z = slot_of(high_of(v.bank));
-        let high = banks[z];
-        let w = slot_of(h.bank);
-        let held = banks[w];
-        let k = around(v.bank, h.bank, own, low, high, held);
-        let mut act = 0;
-        if v.opens {
-            act = act_bound(s, banks, v.bank);
-        }
-        let rule = find(s, v, h, k, act, l);
-        if rule != 0 {
-            return Judged::Refused(Refusal::Rule(rule, i as u64));
-        }
-        let spot = spot_of(v, h);
-        let p = slot_of(spot);
-        let t = banks[p];
-        banks[p] = own_after(v, h, spot, t);
-        let left = side_of(v, low_of(v.bank));
-        let d = slot_of(left);
-        let below = banks[d];
-        banks[d] = side_after(v, left, below);
-        let right = side_of(v, high_of(v.bank));
-        let e = slot_of(right);
-        let above = banks[e];
-        banks[e] = side_after(v, right, above);
-        l = lasts_after(v, l);
-        buffer = buffer_after(v, buffer);
-        i += 1;
+    let stop = walk(s, b, n, blocks);
+    let at = stop.at;
+    if at == n {
+        return Judged::Passed;
     }
-    Judged::Passed
+    Judged::Refused(Refusal::Rule(stop.rule, at as u64))
 }
