@@ -2,6 +2,7 @@
 pub mod checks;
 pub mod logs;
 pub mod models;
+pub mod plans;
 pub mod words;
 
 // The word of a packet: number is 0, or the refusal's and word 0.
