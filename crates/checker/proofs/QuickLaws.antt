@@ -5,14 +5,12 @@ use mathlib.Core.Path.{_≡_, refl, sym, _∙_, ap}
 use mathlib.Core.Bool.{Bool, true, false, not, _&&_, _||_, cond}
 use mathlib.Core.List.{List}
 use native.Mathlib.Omega.{arith}
-use borrow.Author.Tests.{leb-true, le-leb, eqb-true, eq-eqb, lt-ltb}
+use borrow.Author.Tests.{leb-true, le-leb, lt-ltb}
 use lib.Dec.{eqb, leb, leb·zero}
 use lib.ListN.{length, getD}
 use Rattle.settings.specs.declared.Settings.{Settings}
 use Rattle.settings.specs.Instants.{horizon, isInstant}
-use Rattle.packet.specs.declared.RowPacket.{RowPacket}
 use Rattle.packet.specs.declared.RowPacket.the-variants.{Act, Prer, Refa, Refp}
-use Rattle.packet.specs.declared.ColPacket.{ColPacket}
 use Rattle.packet.specs.declared.ColPacket.the-variants.{Nocop, Wr, Rd}
 use Rattle.record.specs.declared.Record.{Record}
 use Rattle.record.specs.declared.Record.the-variants.{RowAt, ColAt, DataOf}
@@ -21,11 +19,10 @@ use Rattle.rules.specs.declared.Bank.the-variants.{Closed, Open, Refresh}
 use Rattle.rules.specs.declared.BankTrack.{BankTrack}
 use Rattle.rules.specs.declared.Buffer.{Buffer}
 use Rattle.rules.specs.Neighbour.{near, split}
-use Rattle.rules.specs.Packets.{carries}
 use Rattle.rules.specs.History.{isClosed, isOpen}
 use Rattle.rules.specs.Channel.{idle}
-use Rattle.rules.specs.Checks.{since, maxUpTo, boundIf, judged}
-use Rattle.rules.proofs.Bools.{not-both, and-left, and-right}
+use Rattle.rules.specs.Checks.{since, judged}
+use Rattle.rules.proofs.Bools.{and-left, and-right}
 use Rattle.channel.specs.declared.View.{View}
 use Rattle.channel.specs.declared.Held.{Held}
 use Rattle.channel.specs.declared.Tracks.{Tracks}

@@ -1,12 +1,11 @@
 -- What a walk that judges each record says of the rules on all of them.
 -- Assumes nothing.
-use Prim.Native.Nat.{ℕ, _<_, _≤_}
-use mathlib.Core.Path.{_≡_, refl, sym, _∙_, ap, ap₂}
-use mathlib.Core.Bool.{Bool, true, false, cond}
+use Prim.Native.Nat.{ℕ, _<_}
+use mathlib.Core.Path.{_≡_, refl, sym, _∙_}
+use mathlib.Core.Bool.{true}
 use mathlib.Core.List.{List}
 use native.Mathlib.Omega.{arith}
 use borrow.Author.Tests.{eq-eqb, ne-eqb}
-use lib.Dec.{eqb}
 use lib.ListN.{length}
 use Rattle.num.proofs.SearchLaws.{first-at, first-none}
 use Rattle.settings.specs.declared.Settings.{Settings}
@@ -21,7 +20,6 @@ use Rattle.rules.specs.Broken.{recordOf, ruleAt, firstBroken}
 use Rattle.rules.specs.Checks.{foundAt, firstFound}
 use Rattle.rules.proofs.NeighbourLaws.{split-neighbours}
 use Rattle.rules.proofs.CheckerRight.{checker-right}
-use Rattle.checker.specs.declared.Judged.{Judged}
 use Rattle.checker.specs.declared.Judged.the-variants.{Passed, Refused}
 use Rattle.checker.specs.Check.{known, ruleAnswer}
 

@@ -1,19 +1,17 @@
 -- What the place where the walk stops says of the records.
 -- Assumes nothing.
-use Prim.Native.Nat.{ℕ, _+_, _<_, _≤_}
-use mathlib.Core.Path.{_≡_, refl, sym, _∙_, ap}
-use mathlib.Core.Bool.{Bool, true, false, _&&_, cond}
+use Prim.Native.Nat.{ℕ, _<_}
+use mathlib.Core.Path.{_≡_, refl, sym, _∙_}
+use mathlib.Core.Bool.{Bool, true, false, _&&_}
 use mathlib.Core.List.{List}
 use native.Mathlib.Omega.{arith}
-use borrow.Author.Tests.{eqb-true, eqb-false, eq-eqb, ne-eqb, lt-ltb, le-ltb}
-use lib.Dec.{eqb, ltb}
-use lib.ListN.{length}
+use borrow.Author.Tests.{eqb-true, eq-eqb, ne-eqb, lt-ltb, le-ltb}
+use lib.Dec.{eqb}
 use Rattle.num.proofs.SearchLaws.{first-at, first-none, first-before, first-le, first-fails}
 use Rattle.settings.specs.declared.Settings.{Settings}
 use Rattle.record.specs.declared.Refusal.the-variants.{Rule}
 use Rattle.record.specs.Record.{recordsIn, firstBad}
 use Rattle.rules.proofs.Bools.{not-both, and-left, and-right}
-use Rattle.checker.specs.declared.Stop.{Stop}
 use Rattle.checker.specs.declared.Judged.the-variants.{Passed, Refused}
 use Rattle.checker.specs.Check.{ruleAnswer}
 use Rattle.checker.specs.Walk.{placeOf, recordsVia, formedVia, foundVia, stopAt, stopOf}

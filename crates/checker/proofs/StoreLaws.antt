@@ -2,18 +2,15 @@
 -- Assumes nothing.
 use Prim.Native.Nat.{ℕ, zero, suc, _+_, _-_, _%_, _≤_, _<_, max}
 use mathlib.Core.Path.{_≡_, refl, sym, _∙_, ap}
-use mathlib.Core.Bool.{Bool, true, false, not, _&&_, _||_, cond}
+use mathlib.Core.Bool.{Bool, true, false, cond}
 use mathlib.Core.List.{List}
 use native.Mathlib.Omega.{arith}
-use borrow.Author.Tests.{eqb-true, eqb-false, eq-eqb, ne-eqb, lt-ltb, ltb-true, ltb-false}
+use borrow.Author.Tests.{eqb-true, eqb-false, lt-ltb, ltb-true, ltb-false}
 use lib.Dec.{eqb, ltb}
 use lib.ListN.{length, length-set, getD, set, replicate}
 use lib.Seq.{getD-set-same, getD-set-other, set-getD}
 use Rattle.settings.specs.declared.Settings.{Settings}
-use Rattle.settings.specs.declared.PacketAt.{PacketAt}
-use Rattle.packet.specs.declared.RowPacket.{RowPacket}
 use Rattle.packet.specs.declared.RowPacket.the-variants.{Act, Prer, Refa, Refp}
-use Rattle.packet.specs.declared.ColPacket.{ColPacket}
 use Rattle.packet.specs.declared.ColPacket.the-variants.{Nocop, Wr, Rd}
 use Rattle.packet.specs.Row.{rowFits}
 use Rattle.packet.specs.Col.{colFits}
@@ -32,10 +29,10 @@ use Rattle.channel.specs.declared.View.{View}
 use Rattle.channel.specs.declared.Held.{Held}
 use Rattle.channel.specs.View.{lowOf, highOf, slotOf, nothing, rowTo, colTo, rowView, colView, viewOf, heldOf}
 use Rattle.channel.specs.Tests.{retired}
-use Rattle.channel.specs.Steps.{stamp, spotOf, sideOf, ownNext, sideNext, changed, touch, banksNext, bufferStep}
+use Rattle.channel.specs.Steps.{stamp, spotOf, sideOf, ownNext, sideNext, touch, banksNext, bufferStep}
 use Rattle.channel.proofs.StepLaws.{touch-in, touch-out, touch-at, length-touch}
 use Rattle.checker.specs.Quick.{lowSlot, highSlot, openedTrack, closedTrack, latestNext}
-use Rattle.checker.proofs.Picks.{picked, passed-over}
+use Rattle.checker.proofs.Picks.{picked}
 
 -- ---- the banks that records name
 

@@ -103,11 +103,14 @@ pub list-formed : (s : Settings) (l : List ℕ) → firstBad s l ≡ recordsIn l
 unfolding firstBad placeOf
 list-formed s l e i h = first-before (λ i. wellFormed s (recordAt l i)) (recordsIn l) i (rw e h)
 
--- the same of a log whose blocks are right
-pub log-within : (log : List ℕ) → firstBadBlock log ≡ blocksIn log → (i : ℕ) → i < recordsIn (listOf log) → placeOf true i + 32 ≤ length log
+-- the same of a log whose blocks are right, which is longer than the list that it keeps
+pub log-within : (log : List ℕ) → firstBadBlock log ≡ blocksIn log → (blocks : Bool) (i : ℕ) → i < recordsIn (listOf log) → placeOf blocks i + 32 ≤ length log
 unfolding placeOf
-log-within log good i h =
+log-within log good true i h =
     let b = block-in log good i h in
+    omega arith
+log-within log good false i h =
+    let e = list-blocks log good in
     omega arith
 
 pub log-formed : (s : Settings) (log : List ℕ) → firstBadBlock log ≡ blocksIn log → firstBad s (listOf log) ≡ recordsIn (listOf log)

@@ -10,7 +10,6 @@ use Rattle.record.specs.declared.Record.{Record}
 use Rattle.record.specs.declared.Record.the-variants.{DataOf}
 use Rattle.record.specs.declared.RecordRead.{RecordRead}
 use Rattle.record.specs.declared.RecordRead.the-variants.{NoRecord, Known}
-use Rattle.record.specs.declared.Refusal.{Refusal}
 use Rattle.record.specs.declared.Refusal.the-variants.{Word, Rule, Block, Length}
 use Rattle.record.specs.Record.{recordRead, recordAt, recordsIn, firstBad}
 use Rattle.log.specs.Block.{blocksIn, firstBadBlock, listOf}

@@ -1,7 +1,6 @@
 -- `check_list` meets its contract: where the walk stops says which of the definition's cases holds; the first bad record counts
 -- before a broken rule.
 use mathlib.Core.Path.{_≡_, sym, _∙_, ap}
-use Prim.Native.Nat.{ℕ}
 use native.Mathlib.Omega.{arith}
 use borrow.Author.Tests.{eq-eqb, ne-eqb}
 use Rattle.record.specs.declared.Refusal.the-variants.{Word, Rule}
@@ -27,7 +26,8 @@ returns-2 : tie.Need-returns-2
 unfolding listAnswer recordsAnswer stopOf
 returns-2 c =
     let a = c .before .before .before .before .args in
-    let q = sym (ap (λ (x : Stop). x .at) (c .before .walk .ensures)) ∙ c .if2 .taken in
+    let end : c .before .walk .result .at ≡ recordsIn (a .list .now) = c .if2 .taken in
+    let q = sym (ap (λ (x : Stop). x .at) (c .before .walk .ensures)) ∙ end in
     rw (eq-eqb _ 0 (c .before .before .if1 .left), eq-eqb _ _ (list-good (a .s) (a .list .now) q))
     (stop-passed (a .s) _ (a .list .now) (recordsIn (a .list .now)) q ∙ ap (ruleAnswer (a .s)) (list-via (a .s) (a .list .now)))
 

@@ -1,6 +1,5 @@
 -- `check_log` meets its contract: the tests are the definition's, in their order.
-use mathlib.Core.Path.{_≡_, sym, _∙_, ap}
-use Prim.Native.Nat.{ℕ}
+use mathlib.Core.Path.{sym, _∙_, ap}
 use native.Mathlib.Omega.{arith}
 use borrow.Author.Tests.{eq-eqb, ne-eqb}
 use Rattle.checker.specs.Check.{logAnswer, recordsAnswer, ruleAnswer}
@@ -41,7 +40,7 @@ judge-all-requires c κs =
     let g = sym (f .0) ∙ c .before .before .if2 .left in
     let n = c .before .records-in .ensures in
     let e = sym (f .1 (c .before .before .if2 .left)) ∙ c .if3 .left ∙ n in
-    rw n (omega (arith, log-few (a .log .now) g), (log-within (a .log .now) g, log-formed (a .s) (a .log .now) g e))
+    rw n (omega (arith, log-few (a .log .now) g), (log-within (a .log .now) g _, log-formed (a .s) (a .log .now) g e))
 
 returns-4 : tie.Need-returns-4
 unfolding logAnswer recordsAnswer

@@ -1,10 +1,9 @@
 -- `judge_all` meets its contract: the walk stops at the first record that breaks a rule, since all are records.
-use mathlib.Core.Path.{_≡_, sym, _∙_, ap}
-use Prim.Native.Nat.{ℕ}
+use mathlib.Core.Path.{sym, _∙_, ap}
 use Rattle.record.specs.declared.Refusal.the-variants.{Rule}
 use Rattle.checker.specs.declared.Stop.{Stop}
 use Rattle.checker.specs.declared.Judged.the-variants.{Refused}
-use Rattle.checker.specs.Walk.{stopAt, stopOf}
+use Rattle.checker.specs.Walk.{stopOf}
 use Rattle.checker.proofs.StopLaws.{stop-passed, stop-refused}
 use borrow.Author.Needs.{needs}
 use Rattle.checker.proofs.walk.judge_all.Statement.{statement}

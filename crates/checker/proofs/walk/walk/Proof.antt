@@ -1,37 +1,26 @@
 -- `walk` meets its contract: the state is that after the records passed, each of which is one and breaks no rule.
-use Prim.Native.Nat.{ℕ, _+_, _-_, _<_, _≤_}
-use mathlib.Core.Path.{_≡_, refl, sym, _∙_, ap, ap₂}
-use mathlib.Core.Bool.{Bool, true, false, not, _&&_, cond}
+use Prim.Native.Nat.{ℕ, _-_, _<_, _≤_}
+use mathlib.Core.Path.{_≡_, refl, sym, _∙_, ap}
+use mathlib.Core.Bool.{true, false}
 use mathlib.Core.List.{List}
 use mathlib.Core.Logic.{⊎-elim}
 use native.Mathlib.Omega.{arith}
 use borrow.Author.Count.{below-more}
 use borrow.Author.Tests.{not-false}
-use lib.ListN.{length, getD, set, replicate}
-use Rattle.num.specs.Bytes.{part}
-use Rattle.settings.specs.declared.Settings.{Settings}
-use Rattle.record.specs.declared.Record.{Record}
-use Rattle.record.specs.declared.RecordRead.the-variants.{NoRecord, Known}
-use Rattle.record.specs.Record.{recordRead, wellFormed, isKnown}
+use lib.ListN.{length, replicate}
 use Rattle.rules.specs.declared.BankTrack.{BankTrack}
-use Rattle.rules.specs.declared.Buffer.{Buffer}
 use Rattle.rules.specs.declared.Channel.{Channel}
 use Rattle.rules.specs.Neighbour.{split}
-use Rattle.rules.specs.Broken.{recordOf}
-use Rattle.rules.specs.Channel.{idle, after}
-use Rattle.rules.specs.Checks.{judged, channelAfter, foundAt}
-use Rattle.channel.specs.declared.View.{View}
-use Rattle.channel.specs.declared.Held.{Held}
-use Rattle.channel.specs.declared.Lasts.{Lasts}
-use Rattle.channel.specs.View.{slotOf, viewOf, heldOf}
-use Rattle.channel.specs.Steps.{banksNext, bufferStep, lastsNext, channelOf}
-use Rattle.channel.proofs.StepLaws.{apart-after, apart-fresh, apart-length}
-use Rattle.checker.specs.Check.{known}
-use Rattle.checker.specs.Walk.{placeOf, recordsVia, formedVia, foundVia, stopOf}
+use Rattle.rules.specs.Channel.{idle}
+use Rattle.rules.specs.Checks.{judged, channelAfter}
+use Rattle.channel.specs.View.{heldOf}
+use Rattle.channel.specs.Steps.{banksNext, channelOf}
+use Rattle.channel.proofs.StepLaws.{apart-fresh}
+use Rattle.checker.specs.Walk.{recordsVia}
 use Rattle.rules.proofs.Bools.{not-both}
 use Rattle.checker.proofs.StoreLaws.{Opened, opened-fresh, opened-same}
 use Rattle.checker.proofs.StopLaws.{holds, stop-end, stop-bad, stop-broken}
-use Rattle.checker.proofs.TurnLaws.{met-here, formed-here, bank-here, found-here, after-here, holds-here, unformed, quick-here, open-here, unopened-here, close-here, unclosed-here, banks-here, length-here, opened-here, within-here, state-here}
+use Rattle.checker.proofs.TurnLaws.{formed-here, bank-here, found-here, after-here, holds-here, unformed, quick-here, open-here, unopened-here, close-here, unclosed-here, banks-here, length-here, opened-here, within-here, state-here}
 use borrow.Author.Needs.{needs}
 use Rattle.checker.proofs.walk.walk.Statement.{statement}
 use Rattle.checker.proofs.walk.walk.Tie as tie
