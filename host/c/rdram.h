@@ -1,6 +1,6 @@
 /*
- * rdram.h: Direct RDRAM packet words, block logs and timing rules. Link with
- * librdram.a.
+ * rdram.h: Direct RDRAM packet words, block logs, timing rules, plans and a
+ * device model. Link with librdram.a.
  *
  * Common to all calls:
  * - A buffer is a pointer and its length in bytes. A null pointer is allowed
@@ -11,7 +11,8 @@
  *   refusal (enum rdram_refusal): every other field of the answer is then 0,
  *   except `place` and `rule` where the call names them, and no buffer is
  *   changed.
- * - The library keeps no state and allocates nothing.
+ * - The library keeps no state and allocates nothing: the states of planners
+ *   and models are buffers of the caller.
  */
 #ifndef RDRAM_H
 #define RDRAM_H
@@ -50,6 +51,69 @@ extern "C" {
 #define RDRAM_BLOCK_BYTES 512
 #define RDRAM_BLOCK_RECORDS 15
 
+/*
+ * Request, 24 bytes: kind 1 (enum rdram_request), bank 1, row 2, column 1,
+ * zero 1, mask 2, data 16. Mask bit i governs data byte i. A read uses bank,
+ * row and column, a write all of them; a wait has its cycles in bytes 8 to 11,
+ * any 32-bit number. Every byte that the kind does not use is 0.
+ */
+#define RDRAM_REQUEST_BYTES 24
+
+/* The most records that one request makes: room for so many is enough. */
+#define RDRAM_REQUEST_RECORDS 17
+
+/*
+ * Planner, 740 bytes: the state of a planner between two requests. A program
+ * need not look inside; it may keep a copy and go on from that.
+ *    0  32 x 4  instant of each bank's last ACT or REFA
+ *  128  32 x 4  of its last ACT
+ *  256  32 x 4  of the last PRER or REFP to it or that closed it
+ *  384  32 x 4  of its last RD
+ *  512  32 x 4  of the last retire to it
+ *  640  32 x 2  each bank: 0 closed, 1 + row open
+ *  704  4       instant of the last packet
+ *  708  4       of the last ROW packet
+ *  712  4       of the last COL packet
+ *  716  4       of the last PRER or REFP
+ *  720  4       of the last RD
+ *  724  1       write buffer: 0 empty, 1 a write waits
+ *  725  1       bank of the waiting write
+ *  726  1       its column
+ *  727  1       0
+ *  728  4       instant of its WR
+ *  732  4       now
+ *  736  2       bank of the next refresh, 0 to 31
+ *  738  2       mask of the last write, which is the one that waits, if any
+ * An instant is 0, for never, or 4 to 1,000,000,000. Now and the instant of a
+ * waiting write are never 0. In an empty buffer bytes 724 to 731 are 0. A bank
+ * under refresh (65535) and a write whose data are due (2) have a number but
+ * do not occur between requests.
+ */
+#define RDRAM_PLANNER_BYTES 740
+
+/*
+ * Store, rows x columns x 512 bytes: bank, then row, then column, then byte. A
+ * dualoct is the 16 bytes from 16 * ((bank * rows + row) * columns + column).
+ * Its bytes 0 to 7 travel on DQA, earliest first, 8 to 15 on DQB. Mask bit i
+ * governs byte i.
+ */
+#define RDRAM_STORE_BYTES(rows, columns) ((size_t)512 * (rows) * (columns))
+#define RDRAM_DUALOCT_BYTES 16
+
+/*
+ * Model, 752 bytes: the state of a device model between two records. A program
+ * need not look inside; it may keep a copy, with one of the store, and go on
+ * from that.
+ *    0  732     as in a planner, but that a bank may be under refresh (65535)
+ *               and a write may wait whose data are due (2 at byte 724)
+ *  732  2       REFR, the row that a refresh is due for, below rows
+ *  734  2       0
+ *  736  16      the data of the last D record, which are those of the waiting
+ *               write, if any, once they have come
+ * The instants are those of the records that the model has taken.
+ */
+#define RDRAM_MODEL_BYTES 752
+
 /* The mask of a COL packet that is sent without one (M = 0). */
 #define RDRAM_MASK_FULL 0xFFFFu
 
@@ -71,10 +135,26 @@ enum rdram_kind {
     RDRAM_KIND_D = 2
 };
 
-/* Answer numbers. The calls below answer 0, 1, 4, 5, 6, 8 and 10 to 13. */
+/* Kinds of request. */
+enum rdram_request {
+    RDRAM_REQUEST_READ = 0,
+    RDRAM_REQUEST_WRITE = 1,
+    RDRAM_REQUEST_REFRESH = 2,
+    RDRAM_REQUEST_WAIT = 3,
+    RDRAM_REQUEST_DRAIN = 4
+};
+
+/* What a record that a model took did. */
+enum rdram_event {
+    RDRAM_EVENT_NONE = 0,   /* it neither read nor retired a write */
+    RDRAM_EVENT_READ = 1,   /* an RD: its dualoct is in the answer buffer */
+    RDRAM_EVENT_RETIRED = 2 /* it retired the waiting write to the store */
+};
+
+/* Answer numbers. */
 enum rdram_refusal {
     RDRAM_OK = 0,
-    RDRAM_REFUSED_SETTINGS = 1,  /* settings not 32 bytes, or a figure out of range */
+    RDRAM_REFUSED_SETTINGS = 1,  /* settings, planner or model: length, or a figure out of range */
     RDRAM_REFUSED_KIND = 2,      /* request kind too high */
     RDRAM_REFUSED_SPARE = 3,     /* a request byte that its kind does not use is not 0 */
     RDRAM_REFUSED_BANK = 4,      /* bank above 31 */
@@ -115,6 +195,19 @@ typedef struct {
     uint32_t rule;
     uint64_t place;
 } rdram_judged;
+
+typedef struct {
+    uint32_t number;
+    uint64_t records;
+} rdram_planned;
+
+/*
+ * event: enum rdram_event.
+ * bytes: the bytes that a retire wrote, 0 to 16; 0 for the other events.
+ */
+typedef struct {
+    uint32_t number, rule, event, bytes;
+} rdram_stepped;
 
 /*
  * The word of a packet: 24 bits for a ROW packet, 40 for a COL packet. The
@@ -250,6 +343,119 @@ rdram_judged rdram_check(const uint8_t *settings, size_t settings_len,
  */
 rdram_judged rdram_check_log(const uint8_t *settings, size_t settings_len,
                              const uint8_t *log, size_t log_len);
+
+/*
+ * Writes a fresh planner: banks closed, write buffer empty, refresh bank 0,
+ * now 4. Answers 0.
+ *
+ * Refusal:
+ *    1  planner_len is not 740: pass RDRAM_PLANNER_BYTES bytes.
+ */
+uint32_t rdram_planner_fresh(uint8_t *planner, size_t planner_len);
+
+/*
+ * Plans one request: makes the packets that serve it, each at the least
+ * instant, not before now, at which it keeps the rules of rdram_check.
+ *
+ * The records are written to the start of room and `records` is their number,
+ * at most RDRAM_REQUEST_RECORDS; the bytes of room after them are unchanged.
+ * planner becomes the state after the request: pass it to the next call. The
+ * records of all accepted calls from a fresh planner on, one after the other
+ * and under the same settings, are a list that passes rdram_check.
+ *
+ *   read     Where the row is not open: PRER to each open one of the bank and
+ *            its neighbours, in rising order, then ACT. NOCOP where the
+ *            waiting write has this bank and column. RD.
+ *   write    Where the row is not open: as for read. WR, then D. The write
+ *            waits until a later NOCOP or WR retires it, which carries its
+ *            mask.
+ *   refresh  PRER as for read, about the refresh bank; REFA and REFP to it.
+ *            The refresh bank rises, modulo 32.
+ *   wait     No packet: now rises by the cycles.
+ *   drain    NOCOP where a write waits, then PRER to each open bank, in rising
+ *            order.
+ *
+ * A NOCOP stands before each PRER that would close the bank of the waiting
+ * write. Now is the instant of the latest packet, and what waits add to it.
+ * Data bytes alter no instant and no word.
+ *
+ * Refusals, in this order:
+ *    1  settings: correct the settings bytes. Or planner is not 740 bytes, or
+ *       not a state between requests under these settings: a field is out of
+ *       its range, two neighbours are both open, the bank of the waiting write
+ *       is not open, a bank is under refresh, or data are due. Pass the bytes
+ *       that the last call left, with the same settings, or a fresh planner.
+ *   13  request_len is not 24: pass one whole request.
+ *    2  the kind is above 4: correct the kind.
+ *    3  a byte that the kind does not use is not 0: clear it.
+ *    4  bank above 31: correct the bank.
+ *    5  the row is not below rows: correct the row.
+ *    6  the column is not below columns: correct the column.
+ *    7  a packet, its data or now would pass 1,000,000,000: the run is at its
+ *       end. Go on with a fresh planner, or wait for fewer cycles.
+ *    8  room has fewer whole records than needed: pass a longer room. A request
+ *       that makes no record needs none.
+ */
+rdram_planned rdram_plan(const uint8_t *settings, size_t settings_len,
+                         uint8_t *planner, size_t planner_len,
+                         const uint8_t *request, size_t request_len,
+                         uint8_t *room, size_t room_len);
+
+/*
+ * Writes a fresh model: banks closed, write buffer empty, no earlier record,
+ * REFR 0. Answers 0.
+ *
+ * Refusal:
+ *    1  model_len is not 752: pass RDRAM_MODEL_BYTES bytes.
+ */
+uint32_t rdram_model_fresh(uint8_t *model, size_t model_len);
+
+/*
+ * Takes one record, as the device would: tests it by the rules of rdram_check,
+ * given the records that the model has taken, and does what it says.
+ *
+ * model becomes the state after the record: pass it to the next call, with the
+ * same settings and store. A fresh model takes a store of any bytes.
+ *
+ *   RD       The 16 bytes of its dualoct, in the row open in its bank, are
+ *            written to the start of answer; the bytes of answer after them are
+ *            unchanged. Event RDRAM_EVENT_READ. The waiting write is not seen:
+ *            it is not in the store yet.
+ *   NOCOP,   Where a write waits, it goes to the row open in its bank: byte i
+ *   WR       of its dualoct in store is written where bit i of the mask that
+ *            this packet carries is 1, and all 16 where it carries none (M = 0).
+ *            Event RDRAM_EVENT_RETIRED, and `bytes` is the number of bytes
+ *            written. A WR then waits itself, for its D and to be retired.
+ *   D        brings the data of the WR before it.
+ *   ACT, PRER, REFA, REFP
+ *            open and close banks. REFR rises, modulo rows, after REFA to bank
+ *            31. The store is not read or written.
+ *
+ * Fed with the records of all accepted calls of rdram_plan, a model reads what
+ * an array of rows x columns x 512 bytes would that each write sets at once,
+ * and after a drain the store is that array.
+ *
+ * Refusals, in this order:
+ *    1  settings: correct the settings bytes. Or model is not 752 bytes, or no
+ *       state under these settings: a field is out of its range, two neighbours
+ *       are both not closed, or the bank of the waiting write is not open by
+ *       ACT. Pass the bytes that the last call left, with the same settings, or
+ *       a fresh model.
+ *    9  store_len is not rows x columns x 512: pass the whole store.
+ *   13  record_len is not 32: pass one whole record.
+ *   10  the record is not well formed, or its word has no packet under these
+ *       settings: correct it, or pass the settings under which it was written.
+ *   11  the record breaks a rule, and rule is the lowest that it breaks (1 to
+ *       16), given the records that the model has taken. Correct the list, or
+ *       leave this record out and go on.
+ *    8  answer has fewer than 16 bytes for an RD: pass the same record again
+ *       with a longer answer. Other records need none.
+ */
+rdram_stepped rdram_model_step(const uint8_t *settings, size_t settings_len,
+                               uint8_t *model, size_t model_len,
+                               uint8_t *store, size_t store_len,
+                               const uint8_t *record, size_t record_len,
+                               uint8_t *answer, size_t answer_len);
 
 #ifdef __cplusplus
 }

@@ -1,6 +1,8 @@
 /*
- * Reads a list of records from a file and says whether it keeps the sixteen
- * rules under set H: judge_list FILE. Ends with 0 where it does.
+ * Says in words whether a list of records keeps the sixteen rules under set H:
+ * judge_list FILE, of records of 32 bytes. Ends with 0 where it does. Without a
+ * file: ACT at 4 with RD at 13, and with RD at 12, which is too soon; ends with
+ * 0 where the first passes and the second is record 1, rule 10.
  *
  * cc -std=c11 -O2 -Ihost/c host/c/examples/judge_list.c target/staticlib/librdram.a -o judge_list
  */
@@ -16,8 +18,12 @@ static const char *const RULES[17] = {
     "PRER too soon after RD or a retire", "PRER closes the bank of a waiting write",
     "a WR without its D, or a D elsewhere", "a mask on a packet that retires nothing"};
 
-static int say(rdram_judged answer)
+static const uint8_t SET_H[RDRAM_SETTINGS_BYTES] = {28, 0, 20, 0, 8, 0, 8, 0, 8, 0, 9, 0, 8, 0, 4, 0,
+                                                    4, 0, 4, 0, 8, 0, 6, 0, 0, 0, 2, 0, 4, 0, 0, 0};
+
+static rdram_judged judge(const uint8_t *list, size_t length)
 {
+    rdram_judged answer = rdram_check(SET_H, sizeof SET_H, list, length);
     if (answer.number == RDRAM_OK)
         printf("the list passes\n");
     else if (answer.number == RDRAM_REFUSED_RULE)
@@ -25,21 +31,33 @@ static int say(rdram_judged answer)
     else if (answer.number == RDRAM_REFUSED_WORD)
         printf("record %" PRIu64 " is not well formed under set H\n", answer.place);
     else /* set H is never refused */
-        printf("the file is not one of whole records of %d bytes\n", RDRAM_RECORD_BYTES);
-    return answer.number != RDRAM_OK;
+        printf("the list is not one of whole records of %d bytes\n", RDRAM_RECORD_BYTES);
+    return answer;
+}
+
+/* ACT of bank 0, row 0 at 4 (word 401000) and RD of column 1 at 13 (8000260000), then at 12. */
+static int judge_two(void)
+{
+    uint8_t list[2][RDRAM_RECORD_BYTES] = {{4, 0, 0, 0, RDRAM_KIND_ROW, 0, 0, 0, 0x00, 0x10, 0x40},
+                                           {13, 0, 0, 0, RDRAM_KIND_COL, 0, 0, 0, 0x00, 0x00, 0x26, 0x00, 0x80}};
+    rdram_judged first = judge(list[0], sizeof list);
+    list[1][0] = 12;
+    rdram_judged second = judge(list[0], sizeof list);
+    int right = second.number == RDRAM_REFUSED_RULE && second.rule == 10 && second.place == 1;
+    return first.number == RDRAM_OK && right ? 0 : 1;
 }
 
 int main(int count, char **arguments)
 {
-    static const uint8_t set_h[RDRAM_SETTINGS_BYTES] = {28, 0, 20, 0, 8, 0, 8, 0, 8, 0, 9, 0, 8, 0, 4, 0,
-                                                        4, 0, 4, 0, 8, 0, 6, 0, 0, 0, 2, 0, 4, 0, 0, 0};
     static uint8_t list[RDRAM_RECORD_BYTES * 100000 + 1];
+    if (count == 1)
+        return judge_two();
     FILE *file = count == 2 ? fopen(arguments[1], "rb") : NULL;
     size_t length = file ? fread(list, 1, sizeof list, file) : 0;
     if (!file || ferror(file) || length == sizeof list) {
-        fprintf(stderr, "usage: judge_list FILE, a file of at most 100,000 records of 32 bytes\n");
+        fprintf(stderr, "usage: judge_list [FILE], a file of at most 100,000 records of 32 bytes\n");
         return 2;
     }
     fclose(file);
-    return say(rdram_check(set_h, sizeof set_h, list, length));
+    return judge(list, length).number != RDRAM_OK;
 }

@@ -1,4 +1,5 @@
-//! Direct RDRAM packet words, block logs and timing rules: safe wrappers of `librdram.a`.
+//! Direct RDRAM packet words, block logs, timing rules, plans and device model: safe wrappers of
+//! `librdram.a`.
 //!
 //! ```
 //! use rdram::{log_decode, log_encode, packet_record, word_encode, Kind, Packet, Settings, MASK_FULL};
@@ -20,9 +21,13 @@
 //! ```
 #![no_std]
 
+mod model;
+mod planner;
 pub mod raw;
 mod refusal;
 
+pub use model::{Event, Model};
+pub use planner::{Planner, Request};
 pub use refusal::Refusal;
 
 /// Bytes of the settings.
@@ -33,6 +38,16 @@ pub const RECORD_BYTES: usize = 32;
 pub const BLOCK_BYTES: usize = 512;
 /// Most records of a block.
 pub const BLOCK_RECORDS: usize = 15;
+/// Bytes of a request.
+pub const REQUEST_BYTES: usize = 24;
+/// Most records of a request.
+pub const REQUEST_RECORDS: usize = 17;
+/// Bytes of a planner.
+pub const PLANNER_BYTES: usize = 740;
+/// Bytes of a model.
+pub const MODEL_BYTES: usize = 752;
+/// Bytes of a dualoct.
+pub const DUALOCT_BYTES: usize = 16;
 /// The mask of a COL packet that is sent without one (M = 0).
 pub const MASK_FULL: u16 = 0xFFFF;
 
@@ -84,6 +99,13 @@ impl Settings {
             pair.copy_from_slice(&figure.to_le_bytes());
         }
         bytes
+    }
+
+    /// The length of a [`Model`]'s store: rows × columns × 512.
+    pub fn store_bytes(&self) -> usize {
+        // At most 33,554,432 for settings that are not refused.
+        let dualocts = usize::from(self.rows).saturating_mul(self.columns.into());
+        dualocts.saturating_mul(512)
     }
 }
 

@@ -38,6 +38,24 @@ pub struct Judged {
     pub place: u64,
 }
 
+/// The answer of [`rdram_plan`].
+#[repr(C)]
+#[derive(Clone, Copy, Debug, PartialEq, Eq)]
+pub struct Planned {
+    pub number: u32,
+    pub records: u64,
+}
+
+/// The answer of [`rdram_model_step`].
+#[repr(C)]
+#[derive(Clone, Copy, Debug, Default, PartialEq, Eq)]
+pub struct Stepped {
+    pub number: u32,
+    pub rule: u32,
+    pub event: u32,
+    pub bytes: u32,
+}
+
 extern "C" {
     pub fn rdram_word_encode(
         settings: *const u8,
@@ -86,4 +104,32 @@ extern "C" {
         log: *const u8,
         log_len: usize,
     ) -> Judged;
+
+    pub fn rdram_planner_fresh(planner: *mut u8, planner_len: usize) -> u32;
+
+    pub fn rdram_plan(
+        settings: *const u8,
+        settings_len: usize,
+        planner: *mut u8,
+        planner_len: usize,
+        request: *const u8,
+        request_len: usize,
+        room: *mut u8,
+        room_len: usize,
+    ) -> Planned;
+
+    pub fn rdram_model_fresh(model: *mut u8, model_len: usize) -> u32;
+
+    pub fn rdram_model_step(
+        settings: *const u8,
+        settings_len: usize,
+        model: *mut u8,
+        model_len: usize,
+        store: *mut u8,
+        store_len: usize,
+        record: *const u8,
+        record_len: usize,
+        answer: *mut u8,
+        answer_len: usize,
+    ) -> Stepped;
 }

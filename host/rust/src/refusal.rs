@@ -6,25 +6,37 @@ use core::fmt;
 #[derive(Clone, Copy, Debug, PartialEq, Eq)]
 #[non_exhaustive]
 pub enum Refusal {
-    /// 1: a figure of the settings is outside its range.
+    /// 1: a figure of the settings is outside its range, or the bytes of a planner or a model are
+    /// no state under these settings.
     Settings,
+    /// 2: a request kind above 4.
+    Kind,
+    /// 3: a byte of a request that its kind does not use is not 0.
+    Spare,
     /// 4: a bank above 31.
     Bank,
     /// 5: a row that is not below the settings' rows.
     Row,
     /// 6: a column that is not below the settings' columns.
     Column,
+    /// 7: a packet, its data or now would pass instant 1,000,000,000.
+    Horizon,
     /// 8: the buffer for the answer is too short.
     Full,
+    /// 9: the store is not of the settings' rows × columns × 512 bytes.
+    Store,
     /// 10: a packet, word or record has no coding under the settings. `place` is the first such
-    /// record of a list, from 0; a single packet or word has none.
+    /// record of a list, from 0; a single packet, word or record has none.
     Word { place: Option<u64> },
     /// 11: a record breaks a rule, given the records before it. `place` is the first such record,
     /// from 0, and `rule` the lowest rule that it breaks, 1 to 16.
     Rule { rule: u32, place: u64 },
+    /// 11: the record that a model was given breaks a rule, given the records that it has taken.
+    /// `rule` is the lowest that it breaks, 1 to 16.
+    Broken { rule: u32 },
     /// 12: a block is damaged or out of order. `place` is the first such block, from 0.
     Block { place: u64 },
-    /// 13: a length is not one of whole records or blocks.
+    /// 13: a length is not one of whole records or blocks, or of one request or record.
     Length,
     /// A number that this crate does not know: crate and archive are of different versions.
     Other { number: u32 },
@@ -35,12 +47,16 @@ impl Refusal {
     pub fn number(&self) -> u32 {
         match *self {
             Refusal::Settings => 1,
+            Refusal::Kind => 2,
+            Refusal::Spare => 3,
             Refusal::Bank => 4,
             Refusal::Row => 5,
             Refusal::Column => 6,
+            Refusal::Horizon => 7,
             Refusal::Full => 8,
+            Refusal::Store => 9,
             Refusal::Word { .. } => 10,
-            Refusal::Rule { .. } => 11,
+            Refusal::Rule { .. } | Refusal::Broken { .. } => 11,
             Refusal::Block { .. } => 12,
             Refusal::Length => 13,
             Refusal::Other { number } => number,
@@ -59,7 +75,7 @@ impl Refusal {
     /// The broken rule, 1 to 16, where the refusal names one.
     pub fn rule(&self) -> Option<u32> {
         match *self {
-            Refusal::Rule { rule, .. } => Some(rule),
+            Refusal::Rule { rule, .. } | Refusal::Broken { rule } => Some(rule),
             _ => None,
         }
     }
@@ -83,6 +99,35 @@ impl Refusal {
             8 => Refusal::Full,
             10 => Refusal::Word { place: Some(place) },
             12 => Refusal::Block { place },
+            13 => Refusal::Length,
+            number => Refusal::Other { number },
+        }
+    }
+
+    /// The refusal of a plan.
+    pub(crate) fn of_plan(number: u32) -> Refusal {
+        match number {
+            1 => Refusal::Settings,
+            2 => Refusal::Kind,
+            3 => Refusal::Spare,
+            4 => Refusal::Bank,
+            5 => Refusal::Row,
+            6 => Refusal::Column,
+            7 => Refusal::Horizon,
+            8 => Refusal::Full,
+            13 => Refusal::Length,
+            number => Refusal::Other { number },
+        }
+    }
+
+    /// The refusal of a model's step.
+    pub(crate) fn of_step(number: u32, rule: u32) -> Refusal {
+        match number {
+            1 => Refusal::Settings,
+            8 => Refusal::Full,
+            9 => Refusal::Store,
+            10 => Refusal::Word { place: None },
+            11 => Refusal::Broken { rule },
             13 => Refusal::Length,
             number => Refusal::Other { number },
         }
@@ -121,23 +166,44 @@ const RULES: [(&str, &str); 16] = [
     ("a mask (M = 1) on a packet that retires no write", "send it with M = 0"),
 ];
 
+/// What breaks a rule, and what to do; also for a number that is no rule.
+fn rule_text(rule: u32) -> (&'static str, &'static str) {
+    let known = RULES.get((rule as usize).wrapping_sub(1));
+    *known.unwrap_or(&(
+        "unknown rule",
+        "use the crate and the archive of the same version",
+    ))
+}
+
 impl fmt::Display for Refusal {
     fn fmt(&self, f: &mut fmt::Formatter<'_>) -> fmt::Result {
         write!(f, "refusal {}: ", self.number())?;
         match *self {
-            Refusal::Settings => {
-                f.write_str("a figure of the settings is outside its range; correct the settings")
-            }
+            Refusal::Settings => f.write_str(
+                "a figure of the settings or of the planner or model is outside its range; \
+                 correct the settings, or go on from a state that these settings made",
+            ),
+            Refusal::Kind => f.write_str("a request's kind is above 4; correct the kind"),
+            Refusal::Spare => f.write_str(
+                "a byte of a request that its kind does not use is not 0; clear that byte",
+            ),
             Refusal::Bank => f.write_str("a bank is above 31; correct the bank"),
             Refusal::Row => f.write_str("a row is not below the settings' rows; correct the row"),
             Refusal::Column => {
                 f.write_str("a column is not below the settings' columns; correct the column")
             }
+            Refusal::Horizon => f.write_str(
+                "an instant would pass 1,000,000,000; \
+                 go on with a fresh planner, or wait for fewer cycles",
+            ),
             Refusal::Full => f.write_str(
                 "the buffer for the answer is too short; pass a longer one, or a shorter list",
             ),
+            Refusal::Store => f.write_str(
+                "the store is not rows x columns x 512 bytes; pass the whole store of these settings",
+            ),
             Refusal::Word { place: None } => f.write_str(
-                "the packet or word has no coding under these settings; \
+                "the packet, word or record has no coding under these settings; \
                  check its fields and the device number",
             ),
             Refusal::Word { place: Some(place) } => write!(
@@ -146,15 +212,15 @@ impl fmt::Display for Refusal {
                  correct the record, or use the settings under which it was written"
             ),
             Refusal::Rule { rule, place } => {
-                let known = RULES.get((rule as usize).wrapping_sub(1));
-                let (what, remedy) = known.unwrap_or(&(
-                    "unknown rule",
-                    "use the crate and the archive of the same version",
-                ));
+                let (what, remedy) = rule_text(rule);
                 write!(
                     f,
                     "record {place} (from 0) breaks rule {rule}: {what}; {remedy}"
                 )
+            }
+            Refusal::Broken { rule } => {
+                let (what, remedy) = rule_text(rule);
+                write!(f, "the record breaks rule {rule}: {what}; {remedy}")
             }
             Refusal::Block { place } => write!(
                 f,
@@ -162,8 +228,8 @@ impl fmt::Display for Refusal {
                  restore the log, or pass only the blocks before it"
             ),
             Refusal::Length => f.write_str(
-                "the length is not one of whole records (32 bytes) or blocks (512 bytes); \
-                 pass whole ones",
+                "the length is not one of whole records (32 bytes) or blocks (512 bytes), \
+                 or of one request (24 bytes) or record; pass whole ones",
             ),
             Refusal::Other { .. } => {
                 f.write_str("unknown number; use the crate and the archive of the same version")

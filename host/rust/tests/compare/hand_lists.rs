@@ -9,7 +9,7 @@ use crate::rule_calls::{check, check_both, check_log, Verdicts};
 
 const NAMES: [&str; 7] = ["ACT", "PRER", "REFA", "REFP", "NOCOP", "WR", "RD"];
 
-fn item(line: &str) -> Item {
+pub fn item(line: &str) -> Item {
     let fields: Vec<&str> = line.split_whitespace().collect();
     let number = |i: usize| fields.get(i).map_or(0, |n: &&str| n.parse().unwrap());
     let command = NAMES.iter().position(|name| *name == fields[1]);
@@ -31,7 +31,7 @@ fn item(line: &str) -> Item {
     }
 }
 
-fn set_h_list(text: &str) -> (Vec<u8>, Vec<u8>) {
+pub fn set_h_list(text: &str) -> (Vec<u8>, Vec<u8>) {
     let settings = bytes(&set_h(2, 4, 0));
     let items: Vec<Item> = text.split(',').map(item).collect();
     let list = list_bytes(&settings, &items);
@@ -39,7 +39,7 @@ fn set_h_list(text: &str) -> (Vec<u8>, Vec<u8>) {
 }
 
 /// Lists that pass.
-const PASS: [&str; 35] = [
+pub const PASS: [&str; 35] = [
     // The paper's runs.
     "4 ACT 0 0, 13 RD 0 1, 19 WR 0 1, 25 D, 27 NOCOP 0 0 0003, 31 RD 0 1, 35 PRER 0, 43 ACT 1 0, \
      52 RD 1 0, 63 PRER 1",
@@ -83,7 +83,7 @@ const PASS: [&str; 35] = [
 ];
 
 /// Lists whose last record breaks one rule.
-const ONE: [(u32, &str); 56] = [
+pub const ONE: [(u32, &str); 56] = [
     (1, "3 ACT 0"),
     (1, "0 NOCOP"),
     (1, "1000000001 ACT 0"),

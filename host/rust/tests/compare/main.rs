@@ -3,14 +3,31 @@
 //! `cargo test -- --show-output`.
 
 mod calls;
+mod flat_memory;
 mod hand_lists;
 mod lists;
 mod logs;
+mod model;
+mod model_calls;
+mod model_runs;
+mod model_states;
+mod plain_model;
+mod plain_plan;
+mod plain_state;
+mod plan;
+mod plan_calls;
+mod plan_runs;
+mod plan_states;
+mod plan_streams;
 mod random;
 mod reference;
+mod reference_model;
+mod reference_plan;
 mod reference_rules;
+mod reference_state;
 mod refusals;
 mod rule_calls;
 mod rules;
 mod settings;
+mod whole_runs;
 mod words;

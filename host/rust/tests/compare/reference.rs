@@ -14,6 +14,7 @@ fn refused<T>(number: u32, place: usize) -> Result<T, Refused> {
 // ---- Settings ----
 
 /// Those figures of the settings on which words depend.
+#[derive(Clone, Copy)]
 pub struct Figures {
     pub rows: u64,
     pub columns: u64,

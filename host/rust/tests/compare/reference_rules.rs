@@ -11,6 +11,7 @@ const FIRST: u64 = 4;
 const LAST: u64 = 1_000_000_000;
 
 /// The twelve timings.
+#[derive(Clone, Copy)]
 pub struct Timings {
     pub rc: u64,
     pub ras: u64,
@@ -80,7 +81,7 @@ pub struct Step {
     /// The place and bank of the write that waits when the record comes.
     waiting: Option<(usize, u32)>,
     /// The banks that a PRER or REFP closes, one bit each.
-    closes: u32,
+    pub closes: u32,
 }
 
 impl Step {
@@ -98,7 +99,7 @@ impl Step {
     }
 
     /// The place and bank of the write that this record retires.
-    fn retired(&self) -> Option<(usize, u32)> {
+    pub fn retired(&self) -> Option<(usize, u32)> {
         let p = self.packet?;
         self.waiting.filter(|_| is_col(p) && p.command != RD)
     }
@@ -128,7 +129,7 @@ pub fn neighbours(a: u32, b: u32) -> bool {
     a.abs_diff(b) == 1 && a / 16 == b / 16
 }
 
-fn near(a: u32, b: u32) -> bool {
+pub fn near(a: u32, b: u32) -> bool {
     a == b || neighbours(a, b)
 }
 

@@ -3,15 +3,20 @@
 use rdram::{raw, Refusal};
 use std::mem::{align_of, offset_of, size_of};
 
-const ALL: [Refusal; 11] = [
+const ALL: [Refusal; 16] = [
     Refusal::Settings,
+    Refusal::Kind,
+    Refusal::Spare,
     Refusal::Bank,
     Refusal::Row,
     Refusal::Column,
+    Refusal::Horizon,
     Refusal::Full,
+    Refusal::Store,
     Refusal::Word { place: None },
     Refusal::Word { place: Some(7) },
     Refusal::Rule { rule: 10, place: 5 },
+    Refusal::Broken { rule: 12 },
     Refusal::Block { place: 3 },
     Refusal::Length,
     Refusal::Other { number: 99 },
@@ -21,7 +26,7 @@ const ALL: [Refusal; 11] = [
 fn numbers_and_places() {
     assert_eq!(
         ALL.map(|r| r.number()),
-        [1, 4, 5, 6, 8, 10, 10, 11, 12, 13, 99]
+        [1, 2, 3, 4, 5, 6, 7, 8, 9, 10, 10, 11, 11, 12, 13, 99]
     );
     assert_eq!(
         ALL.map(|r| r.place()),
@@ -32,8 +37,13 @@ fn numbers_and_places() {
             None,
             None,
             None,
+            None,
+            None,
+            None,
+            None,
             Some(7),
             Some(5),
+            None,
             Some(3),
             None,
             None
@@ -67,6 +77,10 @@ fn texts_of_rules() {
         let front = format!("refusal 11: record 70 (from 0) breaks rule {rule}: ");
         let rest = text.strip_prefix(&front).expect("number, record and rule");
         assert!(rest.contains("; ") && !rest.contains('\n'), "{text}");
+        let broken = Refusal::Broken { rule };
+        assert_eq!((broken.rule(), broken.place()), (Some(rule), None));
+        let text = format!("refusal 11: the record breaks rule {rule}: {rest}");
+        assert_eq!(broken.to_string(), text);
         texts.push(rest.into());
     }
     texts.sort();
@@ -96,5 +110,13 @@ fn layout_of_answers() {
     assert_eq!(
         (size_of::<raw::Judged>(), offset_of!(raw::Judged, place)),
         (16, 8)
+    );
+    assert_eq!(
+        (size_of::<raw::Planned>(), offset_of!(raw::Planned, records)),
+        (16, 8)
+    );
+    assert_eq!(
+        (size_of::<raw::Stepped>(), offset_of!(raw::Stepped, bytes)),
+        (16, 12)
     );
 }

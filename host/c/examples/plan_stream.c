@@ -1,0 +1,49 @@
+/*
+ * Plans a stream of requests under set H and prints the packets: instant, name,
+ * bank, row or column. The stream is run 1 of document 01.
+ *
+ * cc -std=c11 -O2 -Ihost/c host/c/examples/plan_stream.c target/staticlib/librdram.a -o plan_stream
+ */
+#include "rdram.h"
+#include <inttypes.h>
+#include <stdio.h>
+
+static const uint8_t SET_H[RDRAM_SETTINGS_BYTES] = {28, 0, 20, 0, 8, 0, 8, 0, 8, 0, 9, 0, 8, 0, 4, 0,
+                                                    4, 0, 4, 0, 8, 0, 6, 0, 0, 0, 2, 0, 4, 0, 0, 0};
+
+static uint64_t get(const uint8_t *from, int bytes)
+{
+    return bytes == 0 ? 0 : get(from + 1, bytes - 1) << 8 | *from;
+}
+
+static void print(const uint8_t *record)
+{
+    static const char *const NAMES[] = {"ACT", "PRER", "REFA", "REFP", "NOCOP", "WR", "RD"};
+    rdram_packet p = rdram_word_decode(SET_H, sizeof SET_H, record[4], get(record + 8, 8));
+    if (record[4] == RDRAM_KIND_D)
+        printf("%" PRIu64 " D\n", get(record, 4));
+    else
+        printf("%" PRIu64 " %s %" PRIu32 " %" PRIu32 "\n", get(record, 4), NAMES[p.command], p.bank, p.place);
+}
+
+int main(void)
+{
+    /* kind, bank, row 2, column, 0, mask 2, data 16 */
+    static const uint8_t requests[][RDRAM_REQUEST_BYTES] = {
+        {RDRAM_REQUEST_READ, 0, 0, 0, 1}, {RDRAM_REQUEST_WRITE, 0, 0, 0, 1, 0, 3, 0, 0xAA, 0xBB},
+        {RDRAM_REQUEST_READ, 0, 0, 0, 1}, {RDRAM_REQUEST_READ, 1}, {RDRAM_REQUEST_DRAIN}};
+    uint8_t planner[RDRAM_PLANNER_BYTES], room[RDRAM_REQUEST_RECORDS * RDRAM_RECORD_BYTES];
+    uint64_t records = 0;
+    rdram_planner_fresh(planner, sizeof planner);
+    for (size_t i = 0; i < sizeof requests / sizeof requests[0]; i++) {
+        rdram_planned made = rdram_plan(SET_H, sizeof SET_H, planner, sizeof planner, requests[i], sizeof requests[i],
+                                        room, sizeof room);
+        if (made.number != RDRAM_OK)
+            printf("refused %" PRIu32 "\n", made.number);
+        for (uint64_t k = 0; k < made.records; k++)
+            print(room + k * RDRAM_RECORD_BYTES);
+        records += made.records;
+    }
+    printf("records %" PRIu64 "\n", records);
+    return records == 10 ? 0 : 1;
+}

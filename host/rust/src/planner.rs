@@ -1,0 +1,228 @@
+//! Requests, and the planner that makes packets of them.
+
+use crate::{raw, Refusal, Settings, PLANNER_BYTES, REQUEST_BYTES};
+
+/// What a planner is asked for.
+///
+/// Bit i of a `mask` governs byte i of the `data`. [`Planner::plan`] tests that banks are below 32
+/// and rows and columns below those of the settings.
+#[derive(Clone, Copy, Debug, PartialEq, Eq)]
+pub enum Request {
+    Read {
+        bank: u8,
+        row: u16,
+        column: u8,
+    },
+    Write {
+        bank: u8,
+        row: u16,
+        column: u8,
+        mask: u16,
+        data: [u8; 16],
+    },
+    /// A refresh of the planner's refresh bank, which then rises, modulo 32.
+    Refresh,
+    /// No packet for so many cycles.
+    Wait {
+        cycles: u32,
+    },
+    /// The waiting write is retired and every bank closed.
+    Drain,
+}
+
+impl Request {
+    /// The request as the library reads it: kind 1, bank 1, row 2, column 1, zero 1, mask 2,
+    /// data 16, low byte first. A wait has its cycles in bytes 8 to 11.
+    ///
+    /// ```
+    /// use rdram::Request;
+    /// let write = Request::Write { bank: 31, row: 258, column: 4, mask: 3, data: [7; 16] };
+    /// assert_eq!(write.to_bytes()[..9], [1, 31, 2, 1, 4, 0, 3, 0, 7]);
+    /// assert_eq!(Request::Wait { cycles: 500 }.to_bytes()[..12], [3, 0, 0, 0, 0, 0, 0, 0, 244, 1, 0, 0]);
+    /// ```
+    pub fn to_bytes(&self) -> [u8; REQUEST_BYTES] {
+        let mut bytes = [0; REQUEST_BYTES];
+        match *self {
+            Request::Read { bank, row, column } => place(&mut bytes, 0, bank, row, column),
+            Request::Write {
+                bank,
+                row,
+                column,
+                mask,
+                data,
+            } => {
+                place(&mut bytes, 1, bank, row, column);
+                bytes[6..8].copy_from_slice(&mask.to_le_bytes());
+                bytes[8..].copy_from_slice(&data);
+            }
+            Request::Refresh => bytes[0] = 2,
+            Request::Wait { cycles } => {
+                bytes[0] = 3;
+                bytes[8..12].copy_from_slice(&cycles.to_le_bytes());
+            }
+            Request::Drain => bytes[0] = 4,
+        }
+        bytes
+    }
+}
+
+/// Kind, bank, row and column.
+fn place(bytes: &mut [u8; REQUEST_BYTES], kind: u8, bank: u8, row: u16, column: u8) {
+    (bytes[0], bytes[1], bytes[4]) = (kind, bank, column);
+    bytes[2..4].copy_from_slice(&row.to_le_bytes());
+}
+
+/// A planner between two requests: banks, write buffer, last instants, now and refresh bank.
+///
+/// It is plain bytes: a copy of it is the same planner at the same point.
+///
+/// ```
+/// # let settings = rdram::Settings {
+/// #     t_rc: 28, t_ras: 20, t_rp: 8, t_pp: 8, t_rr: 8, t_rcd: 9, t_rtr: 8, t_rdp: 4, t_rtp: 4,
+/// #     t_cc: 4, t_cac: 8, t_cwd: 6, rows: 2, columns: 4, device: 0,
+/// # };
+/// use rdram::{check, Planner, Request, RECORD_BYTES, REQUEST_RECORDS};
+/// let requests = [
+///     Request::Read { bank: 15, row: 0, column: 0 },
+///     Request::Write { bank: 16, row: 1, column: 3, mask: 0x00FF, data: [9; 16] },
+///     Request::Drain,
+/// ];
+/// let (mut planner, mut list) = (Planner::fresh(), Vec::new());
+/// for request in &requests {
+///     let mut room = [0; REQUEST_RECORDS * RECORD_BYTES];
+///     let records = planner.plan(&settings, request, &mut room)?;
+///     list.extend_from_slice(&room[..records * RECORD_BYTES]);
+/// }
+/// // ACT RD, ACT WR D, NOCOP PRER PRER
+/// assert_eq!(list.len(), 8 * RECORD_BYTES);
+/// assert_eq!(check(&settings, &list), Ok(()));
+/// # Ok::<(), rdram::Refusal>(())
+/// ```
+#[derive(Clone, Debug, PartialEq, Eq)]
+pub struct Planner {
+    bytes: [u8; PLANNER_BYTES],
+}
+
+impl Planner {
+    /// Banks closed, write buffer empty, refresh bank 0, now 4.
+    ///
+    /// ```
+    /// assert_eq!(rdram::Planner::fresh().now(), 4);
+    /// ```
+    pub fn fresh() -> Planner {
+        let mut bytes = [0; PLANNER_BYTES];
+        // SAFETY: the pointer and the length are those of `bytes`.
+        let number = unsafe { raw::rdram_planner_fresh(bytes.as_mut_ptr(), bytes.len()) };
+        // Refused only for another length, thus where crate and archive are of different versions.
+        debug_assert_eq!(number, 0);
+        Planner { bytes }
+    }
+
+    /// The planner of bytes that [`Planner::to_bytes`] gave; `rdram.h` has their layout. Any bytes
+    /// are taken: [`Planner::plan`] tests them and answers [`Refusal::Settings`] for bad ones.
+    pub fn from_bytes(bytes: [u8; PLANNER_BYTES]) -> Planner {
+        Planner { bytes }
+    }
+
+    /// The state of the planner, to go on from later.
+    ///
+    /// ```
+    /// use rdram::Planner;
+    /// let planner = Planner::fresh();
+    /// assert_eq!(Planner::from_bytes(planner.to_bytes()), planner);
+    /// ```
+    pub fn to_bytes(&self) -> [u8; PLANNER_BYTES] {
+        self.bytes
+    }
+
+    /// The instant before which no further packet is placed: that of the latest packet, and what
+    /// waits added to it.
+    pub fn now(&self) -> u32 {
+        let b = &self.bytes;
+        u32::from_le_bytes([b[732], b[733], b[734], b[735]])
+    }
+
+    /// Plans `request`: writes the records of its packets to the start of `room`, each packet at
+    /// the least instant that the rules of [`check`](crate::check) allow, and answers their number.
+    /// The bytes of `room` after them are unchanged. Room for [`REQUEST_RECORDS`] is enough.
+    ///
+    /// The records of all accepted calls from a fresh planner on, under the same settings, are a
+    /// list that passes [`check`](crate::check).
+    ///
+    /// Refused, in this order, with planner and room unchanged: [`Refusal::Settings`], also for a
+    /// planner of bytes that are no state; [`Refusal::Bank`], [`Refusal::Row`] and
+    /// [`Refusal::Column`] for a read or write; [`Refusal::Horizon`] where an instant would pass
+    /// 1,000,000,000; [`Refusal::Full`] for a room of fewer whole records than needed.
+    ///
+    /// [`REQUEST_RECORDS`]: crate::REQUEST_RECORDS
+    ///
+    /// ```
+    /// # let settings = rdram::Settings {
+    /// #     t_rc: 28, t_ras: 20, t_rp: 8, t_pp: 8, t_rr: 8, t_rcd: 9, t_rtr: 8, t_rdp: 4, t_rtp: 4,
+    /// #     t_cc: 4, t_cac: 8, t_cwd: 6, rows: 2, columns: 4, device: 0,
+    /// # };
+    /// use rdram::{packet_record, Kind, Planner, Refusal, Request};
+    /// let (mut planner, mut room) = (Planner::fresh(), [0; 3 * 32]);
+    /// let read = Request::Read { bank: 0, row: 0, column: 1 };
+    /// assert_eq!(planner.plan(&settings, &read, &mut room[..63]), Err(Refusal::Full));
+    /// assert_eq!(planner.plan(&settings, &read, &mut room), Ok(2));
+    /// assert_eq!(room[..32], packet_record(4, Kind::Row, 0x401000)); // ACT
+    /// assert_eq!(room[32..64], packet_record(13, Kind::Col, 0x80_0026_0000)); // RD
+    /// // The row is open now, so RD alone.
+    /// assert_eq!(planner.plan(&settings, &read, &mut room), Ok(1));
+    /// assert_eq!(planner.now(), 17);
+    /// ```
+    pub fn plan(
+        &mut self,
+        settings: &Settings,
+        request: &Request,
+        room: &mut [u8],
+    ) -> Result<usize, Refusal> {
+        self.plan_bytes(settings, &request.to_bytes(), room)
+    }
+
+    /// [`Planner::plan`] for a request of bytes, as [`Request::to_bytes`] writes them.
+    ///
+    /// Refused as there, and after the settings: [`Refusal::Length`] for a request that is not 24
+    /// bytes, [`Refusal::Kind`] for a kind above 4, [`Refusal::Spare`] for a byte that the kind
+    /// does not use and that is not 0.
+    ///
+    /// ```
+    /// # let settings = rdram::Settings {
+    /// #     t_rc: 28, t_ras: 20, t_rp: 8, t_pp: 8, t_rr: 8, t_rcd: 9, t_rtr: 8, t_rdp: 4, t_rtp: 4,
+    /// #     t_cc: 4, t_cac: 8, t_cwd: 6, rows: 2, columns: 4, device: 0,
+    /// # };
+    /// use rdram::{Planner, Refusal};
+    /// let mut refresh_of_bank_1 = [0; 24];
+    /// refresh_of_bank_1[..2].copy_from_slice(&[2, 1]);
+    /// // The planner counts the refresh banks itself.
+    /// let refused = Planner::fresh().plan_bytes(&settings, &refresh_of_bank_1, &mut []);
+    /// assert_eq!(refused, Err(Refusal::Spare));
+    /// ```
+    pub fn plan_bytes(
+        &mut self,
+        settings: &Settings,
+        request: &[u8],
+        room: &mut [u8],
+    ) -> Result<usize, Refusal> {
+        let s = settings.to_bytes();
+        // SAFETY: each pointer and length are those of one slice; `self` and `room` are lent by
+        // `&mut`, so they overlap neither each other nor `request` nor `s`.
+        let answer = unsafe {
+            raw::rdram_plan(
+                s.as_ptr(),
+                s.len(),
+                self.bytes.as_mut_ptr(),
+                self.bytes.len(),
+                request.as_ptr(),
+                request.len(),
+                room.as_mut_ptr(),
+                room.len(),
+            )
+        };
+        match answer.number {
+            0 => Ok(answer.records as usize), // at most REQUEST_RECORDS
+            number => Err(Refusal::of_plan(number)),
+        }
+    }
+}

@@ -1,0 +1,340 @@
+//! Model states: damaged field by field, and any that are not refused, also those that no run
+//! reaches. For the latter the plain model, which needs no list, says what is wanted.
+
+use crate::calls::Seen as Numbers;
+use crate::lists::{legal, list_bytes, Item, LAST};
+use crate::model_calls::{
+    any_store, compare, fresh, fresh_refused, small_numbers, wanted, Case, Run, Seen,
+};
+use crate::random::{bytes, set_h, Random};
+use crate::reference::{Fields, ACT, COLUMNS, NOCOP, PRER, REFA, ROWS, T_CWD, WR};
+use crate::reference_model::{state_fits, STATE_BYTES};
+use crate::reference_rules::near;
+use crate::reference_state::{put, tag};
+
+/// A call from any bytes as model; answers number and rule, or what was taken.
+fn call(numbers: &[u16; 16], model: &[u8], store: &[u8], record: &[u8]) -> Result<u32, (u32, u32)> {
+    let settings = bytes(numbers);
+    let case = Case {
+        settings: &settings,
+        model,
+        store,
+        record,
+        room: 16,
+    };
+    let want = wanted(&case);
+    let refused = matches!(want, Err((1, _)));
+    assert_eq!(refused, !state_fits(numbers, model), "{model:?}");
+    compare(&case, &want);
+    want.map(|_| 0)
+}
+
+fn number(answer: Result<u32, (u32, u32)>) -> u32 {
+    answer.err().map_or(0, |(number, _)| number)
+}
+
+/// A record of a packet or, where there is none, of a D.
+fn record(numbers: &[u16; 16], at: u32, packet: Option<Fields>) -> Vec<u8> {
+    let item = Item { at, packet };
+    list_bytes(&bytes(numbers), &[item])
+}
+
+/// A record that no rule refuses in most states: PRER of a bank at the last instant.
+fn late_prer(numbers: &[u16; 16], bank: u32) -> Vec<u8> {
+    let prer = Fields {
+        command: PRER,
+        bank,
+        place: 0,
+        mask: 0,
+    };
+    record(numbers, LAST, Some(prer))
+}
+
+/// A model after some records.
+fn reached(random: &mut Random, numbers: &[u16; 16]) -> Run {
+    let store = any_store(random, numbers);
+    let (mut run, records) = (Run::new(numbers, store), 1 + random.below(24));
+    let list = list_bytes(&bytes(numbers), &legal(random, numbers, records));
+    // Without the last D its data are due.
+    let cut = random.pick(&[0, 32]).min(list.len() - 32);
+    for record in list[..list.len() - cut].chunks(32) {
+        run.call(&mut Seen::default(), record, 16).unwrap();
+    }
+    run
+}
+
+/// Fields: offset and width.
+fn fields() -> Vec<(usize, usize)> {
+    let instants = (0..160).map(|i| (4 * i, 4));
+    let banks = (0..32).map(|i| (640 + 2 * i, 2));
+    let lasts = (0..5).map(|i| (704 + 4 * i, 4));
+    let buffer = [(724, 1), (725, 1), (726, 1), (727, 1), (728, 4)];
+    let rest = [(732, 2), (734, 1), (735, 1), (736, 8), (744, 8)];
+    let fields = instants.chain(banks).chain(lasts).chain(buffer);
+    fields.chain(rest).collect()
+}
+
+#[test]
+fn fields_have_every_byte() {
+    let ends = fields().into_iter().scan(0, |end, (at, width)| {
+        assert_eq!(at, *end);
+        *end += width;
+        Some(*end)
+    });
+    assert_eq!(ends.last(), Some(STATE_BYTES));
+}
+
+/// Each field at and beyond the ends of its range; a PRER at the last instant shows that the others
+/// come back.
+#[test]
+fn damaged_field_by_field() {
+    let (mut seen, mut random) = (Numbers::default(), Random::new(91));
+    let (mut refused, mut taken) = (vec![0; STATE_BYTES], 0);
+    for _ in 0..60 {
+        let numbers = small_numbers(&mut random);
+        let run = reached(&mut random, &numbers);
+        let (rows, columns) = (u64::from(numbers[ROWS]), u64::from(numbers[COLUMNS]));
+        let record = late_prer(&numbers, random.below(32) as u32);
+        let last = u64::from(LAST);
+        for (at, width) in fields() {
+            let ends = [0, 1, 2, 3, 4, 5, 31, 32, last, last + 1, 1 << 31, u64::MAX];
+            let more = [rows - 1, rows, rows + 1, columns - 1, columns, 512, 513];
+            for value in ends.into_iter().chain(more).chain([65_534, 65_535]) {
+                let mut damaged = run.state.clone();
+                put(&mut damaged, at, width, value);
+                let number = number(call(&numbers, &damaged, &run.store, &record));
+                seen.add(number);
+                refused[at] += u32::from(number == 1);
+                taken += u32::from(number == 0);
+            }
+        }
+    }
+    seen.report("model, states damaged field by field", &[0, 1, 11]);
+    for (at, _) in fields().into_iter().filter(|(at, _)| *at < 736) {
+        assert!(
+            refused[at] > 0,
+            "no damage of the field at {at} was refused"
+        );
+    }
+    assert_eq!(refused[736] + refused[744], 0, "any data will do");
+    assert!(taken > 20_000, "{taken} taken");
+}
+
+/// Any bytes changed, and any record.
+#[test]
+fn damaged_bytes() {
+    let (mut seen, mut random) = (Numbers::default(), Random::new(92));
+    for _ in 0..1_500 {
+        let numbers = small_numbers(&mut random);
+        let run = reached(&mut random, &numbers);
+        for _ in 0..40 {
+            let mut damaged = run.state.clone();
+            for _ in 0..1 + random.below(3) {
+                let any = random.below(STATE_BYTES);
+                let late = 640 + random.below(112);
+                let at = random.pick(&[any, late]);
+                let flipped = damaged[at] ^ 1 << random.below(8);
+                damaged[at] = random.pick(&[0, 1, 2, flipped]);
+            }
+            let record = any_record(&mut random, &numbers, &damaged);
+            seen.add(number(call(&numbers, &damaged, &run.store, &record)));
+        }
+    }
+    seen.report("model, states with damaged bytes", &[0, 1, 11]);
+}
+
+#[test]
+fn lengths_of_models() {
+    let (numbers, long) = (set_h(1, 1, 0), [fresh(), fresh()].concat());
+    for length in 0..=long.len() {
+        let record = late_prer(&numbers, 3);
+        let answer = call(&numbers, &long[..length], &[9; 512], &record);
+        assert_eq!(answer.is_err(), length != STATE_BYTES);
+        if length != STATE_BYTES {
+            fresh_refused(length);
+        }
+    }
+}
+
+/// Two banks that are open or under refresh: refused where they are neighbours. 15 and 16 are not.
+#[test]
+fn neighbours_not_closed() {
+    let (mut seen, numbers) = (Numbers::default(), set_h(2, 4, 0));
+    let mut store = vec![0; 4096];
+    store[77] = 1;
+    for (a, b) in (0..32usize).flat_map(|a| (0..32usize).map(move |b| (a, b))) {
+        for tags in [(1, 2), (1, 65_535), (65_535, 2), (65_535, 65_535)] {
+            let mut state = fresh();
+            put(&mut state, 640 + 2 * a, 2, tags.0);
+            put(&mut state, 640 + 2 * b, 2, tags.1);
+            let answer = number(call(&numbers, &state, &store, &late_prer(&numbers, 9)));
+            let neighbours = a.abs_diff(b) == 1 && a / 16 == b / 16;
+            assert_eq!(answer == 1, neighbours, "banks {a} and {b}");
+            seen.add(answer);
+        }
+    }
+    seen.report("model, two banks not closed", &[0, 1]);
+}
+
+/// A waiting write needs its bank open by ACT.
+#[test]
+fn bank_of_the_waiting_write() {
+    let (numbers, store) = (set_h(2, 4, 0), vec![3; 4096]);
+    let nocop = Fields {
+        command: NOCOP,
+        bank: 0,
+        place: 0,
+        mask: 0x1234,
+    };
+    for bank in 0..=255u8 {
+        for (kind, tag) in [1, 2]
+            .into_iter()
+            .flat_map(|k| [0, 1, 2, 3, 65_535].map(|t| (k, t)))
+        {
+            let mut state = fresh();
+            (state[724], state[725]) = (kind, bank);
+            put(&mut state, 728, 4, 4);
+            put(&mut state, 640 + 2 * usize::from(bank % 32), 2, tag);
+            let record = record(&numbers, 900, Some(nocop));
+            let answer = call(&numbers, &state, &store, &record);
+            let open = bank < 32 && (tag == 1 || tag == 2);
+            let want = if kind == 1 { Ok(0) } else { Err((11, 15)) };
+            assert_eq!(answer, if open { want } else { Err((1, 0)) });
+        }
+    }
+}
+
+/// Banks of which no two neighbours are both not closed; answers those that are open.
+fn any_banks(random: &mut Random, numbers: &[u16; 16], state: &mut [u8]) -> Vec<usize> {
+    let (mut open, mut below) = (Vec::new(), 0);
+    for bank in 0..32usize {
+        let row = random.below(numbers[ROWS].into()) as u64;
+        let mut tag = random.pick(&[0, 0, 0, row + 1, row + 1, 65_535]);
+        if bank % 16 != 0 && below != 0 {
+            tag = 0;
+        }
+        put(state, 640 + 2 * bank, 2, tag);
+        below = tag;
+        if (1..65_535).contains(&tag) {
+            open.push(bank);
+        }
+    }
+    open
+}
+
+/// A state that is not refused, with any instants in range.
+fn any_state(random: &mut Random, numbers: &[u16; 16]) -> Vec<u8> {
+    let mut state = vec![0; STATE_BYTES];
+    let last = u64::from(LAST);
+    let middle = 4 + random.below(LAST as usize - 4) as u64;
+    let centre = random.pick(&[100, 100, middle, last - 200, last - 60]);
+    let spread = random.pick(&[1, 40, 200]);
+    let instant = |random: &mut Random, never: bool| {
+        let about = (centre + random.below(spread) as u64).clamp(4, last);
+        let any = 4 + random.below(LAST as usize - 3) as u64;
+        let rare = if random.chance(300) { any } else { about };
+        match random.below(8) {
+            0 | 1 if never => 0,
+            2 => random.pick(&[4, about, about, rare]),
+            _ => rare,
+        }
+    };
+    for at in (0..640).chain(704..724).step_by(4) {
+        let number = instant(random, true);
+        put(&mut state, at, 4, number);
+    }
+    let open = any_banks(random, numbers, &mut state);
+    if !open.is_empty() && random.below(3) > 0 {
+        let column = random.below(numbers[COLUMNS].into());
+        let kind = random.pick(&[1, 1, 2]);
+        (state[724], state[725], state[726]) = (kind, random.pick(&open) as u8, column as u8);
+        let number = instant(random, false);
+        put(&mut state, 728, 4, number);
+    }
+    let refr = random.below(numbers[ROWS].into());
+    put(&mut state, 732, 2, refr as u64);
+    state[736..].copy_from_slice(&random.bytes(16));
+    state
+}
+
+/// A record at an instant that some field of the state decides, give or take.
+fn any_record(random: &mut Random, numbers: &[u16; 16], state: &[u8]) -> Vec<u8> {
+    let field = |at: usize| u32::from_le_bytes(state[at..at + 4].try_into().unwrap());
+    let latest = (0..640).chain(704..724).step_by(4).map(field);
+    let latest = latest.filter(|at| *at <= LAST).max().unwrap_or(4);
+    let mut packet = random.packet(numbers);
+    let open: Vec<u32> = (0..32)
+        .filter(|b| (1..65_535).contains(&tag(state, *b as usize)))
+        .collect();
+    if packet.command > NOCOP && !open.is_empty() && !random.chance(8) {
+        packet.bank = random.pick(&open);
+    }
+    let free: Vec<u32> = (0..32)
+        .filter(|b| (0..32).all(|c| !near(*b, c) || tag(state, c as usize) == 0))
+        .collect();
+    if [ACT, REFA].contains(&packet.command) && !free.is_empty() && !random.chance(8) {
+        packet.bank = random.pick(&free);
+    }
+    if packet.command >= NOCOP && random.chance(2) {
+        packet.mask = 0xFFFF;
+    }
+    let t_cwd = u32::from(numbers[T_CWD]);
+    if state[724] == 2 && !random.chance(8) {
+        let at = field(728).wrapping_add(t_cwd);
+        return record(numbers, at.wrapping_add(u32::from(random.chance(8))), None);
+    }
+    if packet.command == WR && random.chance(16) {
+        return record(numbers, field(728).wrapping_add(t_cwd), None);
+    }
+    let late = latest.wrapping_add(random.below(80) as u32);
+    let any = field(4 * random.below(160));
+    let about = any.wrapping_add(random.below(70) as u32);
+    let at = random.pick(&[late, late, late, about, latest.wrapping_add(64)]);
+    record(numbers, at, Some(packet))
+}
+
+/// Any states and any records: the model does what the plain model does.
+#[test]
+fn any_states() {
+    let (mut seen, mut random) = (Numbers::default(), Random::new(93));
+    let mut rules = [0; 17];
+    for _ in 0..80_000 {
+        let numbers = small_numbers(&mut random);
+        let (state, store) = (
+            any_state(&mut random, &numbers),
+            any_store(&mut random, &numbers),
+        );
+        let record = any_record(&mut random, &numbers, &state);
+        let answer = call(&numbers, &state, &store, &record);
+        seen.add(number(answer));
+        if let Err((_, rule)) = answer {
+            rules[rule as usize] += 1;
+        }
+    }
+    seen.report("model, any states", &[0, 11]);
+    println!("model, any states: rules {:?}", &rules[1..]);
+    assert!(rules[1..].iter().all(|count| *count > 0), "{rules:?}");
+}
+
+/// A copy of model and store goes on alike.
+#[test]
+fn a_copy_goes_on_alike() {
+    let (mut random, mut seen) = (Random::new(94), Seen::default());
+    for _ in 0..50 {
+        let numbers = small_numbers(&mut random);
+        let list = list_bytes(&bytes(&numbers), &legal(&mut random, &numbers, 30));
+        let mut run = Run::new(&numbers, any_store(&mut random, &numbers));
+        let (before, after) = list.split_at(list.len() / 64 * 32);
+        for record in before.chunks(32) {
+            run.call(&mut seen, record, 16).unwrap();
+        }
+        let mut copy = run.clone();
+        for one in [&mut run, &mut copy] {
+            for record in after.chunks(32) {
+                one.call(&mut seen, record, 16).unwrap();
+            }
+        }
+        assert!(run.state == copy.state && run.store == copy.store);
+    }
+    seen.report("model, copies", &[0]);
+}

@@ -1,0 +1,433 @@
+//! The device model in plain Rust, written for speed from document 01: banks, write buffer and last
+//! instants in a struct of numbers, and no list. It goes on from any state that is not refused, also
+//! one that no run reaches.
+
+use crate::plain_state::{
+    beside, near, since, Channel, Figures, Write, ACT, FULL, LAST, NOCOP, PRER, RD, REFA, REFP,
+    UNDER_REFRESH, WR,
+};
+
+pub const MODEL_BYTES: usize = 752;
+
+/// The number of a refusal, and the rule where it is 11.
+#[derive(Clone, Copy, Debug, PartialEq, Eq)]
+pub struct Refused {
+    pub number: u32,
+    pub rule: u32,
+}
+
+fn refused<T>(number: u32) -> Result<T, Refused> {
+    Err(Refused { number, rule: 0 })
+}
+
+#[derive(Clone, Copy, Debug, PartialEq, Eq)]
+pub enum Event {
+    Neither,
+    Read,
+    Retired(u32),
+}
+
+// ---- Records ----
+
+type Dualoct = [u8; 16];
+
+/// What a well formed record is.
+#[derive(Clone, Copy)]
+enum Record {
+    Act {
+        bank: usize,
+        row: u16,
+    },
+    Refa {
+        bank: usize,
+    },
+    /// PRER or REFP.
+    Prer {
+        bank: usize,
+    },
+    Rd {
+        bank: usize,
+        column: u32,
+        mask: u16,
+    },
+    Wr {
+        bank: usize,
+        column: u32,
+        mask: u16,
+    },
+    Nocop {
+        mask: u16,
+    },
+    D {
+        data: Dualoct,
+    },
+}
+
+fn row_record(f: &Figures, word: u64) -> Option<Record> {
+    let bank = (word >> 13 & 31) as usize;
+    match (word ^ f.row_device) & !(31 << 13) {
+        PRER | REFP => Some(Record::Prer { bank }),
+        REFA => Some(Record::Refa { bank }),
+        rest if rest.wrapping_sub(ACT) < f.rows.into() => {
+            let row = (rest - ACT) as u16;
+            Some(Record::Act { bank, row })
+        }
+        _ => None,
+    }
+}
+
+fn col_record(f: &Figures, word: u64) -> Option<Record> {
+    let rest = word ^ f.col_device;
+    let low = rest & 0x1FFFF;
+    let mask = if low == f.second_device {
+        FULL
+    } else if (0x10000..0x1FFFF).contains(&low) {
+        low as u16
+    } else {
+        return None;
+    };
+    let column = (rest & !(31 << 29)) >> 21;
+    if column >= f.columns.into() {
+        return None;
+    }
+    let (bank, column) = ((rest >> 29 & 31) as usize, column as u32);
+    match rest >> 17 & 15 {
+        WR => Some(Record::Wr { bank, column, mask }),
+        RD => Some(Record::Rd { bank, column, mask }),
+        NOCOP if rest >> 17 == 0 => Some(Record::Nocop { mask }),
+        _ => None,
+    }
+}
+
+fn record_of(f: &Figures, bytes: &[u8; 32]) -> Option<Record> {
+    let number = |at: usize| u64::from_le_bytes(bytes[at..at + 8].try_into().unwrap());
+    let (kind, word) = (number(0) >> 32, number(8));
+    if kind == 2 {
+        let data = bytes[16..].try_into().unwrap();
+        return (word == 0).then_some(Record::D { data });
+    }
+    if number(16) | number(24) != 0 {
+        return None;
+    }
+    match kind {
+        0 => row_record(f, word),
+        1 => col_record(f, word),
+        _ => None,
+    }
+}
+
+// ---- Model ----
+
+#[derive(Clone)]
+pub struct Model {
+    channel: Channel,
+    refr: u16,
+    data: Dualoct,
+}
+
+/// The first broken one of some rules, in rising order.
+macro_rules! rules {
+    ($($rule:literal: $broken:expr),* $(,)?) => {
+        $(if $broken {
+            return Err($rule);
+        })*
+    };
+}
+
+impl Model {
+    pub fn fresh() -> Model {
+        Model {
+            channel: Channel::FRESH,
+            refr: 0,
+            data: [0; 16],
+        }
+    }
+
+    // ---- Rules: each answers the lowest that is broken ----
+
+    fn judge_opening(&mut self, f: &Figures, at: u32, bank: usize) -> Result<(), u32> {
+        let ch = &mut self.channel;
+        let (below, above) = beside(bank);
+        rules! {
+            2: at < since(ch.last_row, 4),
+            4: ch.tags[below] | ch.tags[bank] | ch.tags[above] != 0,
+            5: at < since(near(&ch.opened, bank), f.rc) || at < ch.others_ask(f, bank),
+            7: at < since(near(&ch.pre, bank), f.rp),
+            15: ch.due,
+        }
+        Ok(())
+    }
+
+    fn judge_prer(&self, f: &Figures, at: u32, bank: usize) -> Result<(), u32> {
+        let ch = &self.channel;
+        let (below, above) = beside(bank);
+        rules! {
+            2: at < since(ch.last_row, 4),
+            6: at < since(near(&ch.opened, bank), f.ras),
+            8: at < since(ch.last_pre, f.pp),
+            13: at < since(near(&ch.rd, bank), f.rdp) || at < since(near(&ch.retire, bank), f.rtp),
+            14: ch.waiting.is_some_and(|w| (below..=above).contains(&w.bank)),
+            15: ch.due,
+        }
+        Ok(())
+    }
+
+    fn judge_rd(&self, f: &Figures, at: u32, bank: usize, mask: u16) -> Result<(), u32> {
+        let ch = &self.channel;
+        rules! {
+            3: at < since(ch.last_col, f.cc),
+            9: !self.is_open(bank),
+            10: at < since(ch.act[bank], f.rcd),
+            15: ch.due,
+            16: mask != FULL,
+        }
+        Ok(())
+    }
+
+    fn judge_wr(&self, f: &Figures, at: u32, bank: usize, mask: u16) -> Result<(), u32> {
+        let ch = &self.channel;
+        rules! {
+            3: at < since(ch.last_col, f.cc),
+            9: !self.is_open(bank),
+            10: at < since(ch.act[bank], f.act_to_wr) || at < self.retire_asks(f),
+            11: at < since(ch.last_rd, f.rd_to_wr),
+            12: ch.waiting.is_some_and(|w| at < w.at + f.rtr),
+            15: ch.due,
+            16: mask != FULL && ch.waiting.is_none(),
+        }
+        Ok(())
+    }
+
+    fn judge_nocop(&self, f: &Figures, at: u32, mask: u16) -> Result<(), u32> {
+        let ch = &self.channel;
+        rules! {
+            3: at < since(ch.last_col, f.cc),
+            10: at < self.retire_asks(f),
+            12: ch.waiting.is_some_and(|w| at < w.at + f.rtr),
+            15: ch.due,
+            16: mask != FULL && ch.waiting.is_none(),
+        }
+        Ok(())
+    }
+
+    fn judge_data(&self, f: &Figures, at: u32) -> Result<(), u32> {
+        let ch = &self.channel;
+        rules! { 15: !(ch.due && ch.waiting.is_some_and(|w| at == w.at + f.cwd)) }
+        Ok(())
+    }
+
+    /// Rule 10 for the bank that is retired to.
+    fn retire_asks(&self, f: &Figures) -> u32 {
+        let w = self.channel.waiting;
+        w.map_or(0, |w| since(self.channel.act[w.bank & 31], f.rcd))
+    }
+
+    fn is_open(&self, bank: usize) -> bool {
+        (1..UNDER_REFRESH).contains(&self.channel.tags[bank])
+    }
+
+    /// The lowest rule that is broken. Rule 1 first: after it all sums fit 32 bits.
+    #[inline(always)]
+    fn judge(&mut self, f: &Figures, at: u32, record: &Record) -> Result<(), u32> {
+        let (delay, packet) = match record {
+            Record::Rd { .. } => (f.cac, true),
+            Record::Wr { .. } => (f.cwd, true),
+            Record::D { .. } => (0, false),
+            _ => (0, true),
+        };
+        let in_range = (4..=LAST - delay).contains(&at);
+        rules! { 1: !in_range | (packet & (at < self.channel.last)) }
+        match *record {
+            Record::Act { bank, .. } | Record::Refa { bank } => self.judge_opening(f, at, bank),
+            Record::Prer { bank } => self.judge_prer(f, at, bank),
+            Record::Rd { bank, mask, .. } => self.judge_rd(f, at, bank, mask),
+            Record::Wr { bank, mask, .. } => self.judge_wr(f, at, bank, mask),
+            Record::Nocop { mask } => self.judge_nocop(f, at, mask),
+            Record::D { .. } => self.judge_data(f, at),
+        }
+    }
+
+    // ---- What a record does that breaks no rule ----
+
+    fn row_taken(&mut self, at: u32) {
+        (self.channel.last, self.channel.last_row) = (at, at);
+    }
+
+    fn open(&mut self, at: u32, bank: usize, tag: u16) {
+        self.channel.opened[bank] = at;
+        self.channel.tags[bank] = tag;
+        // Rule 5 has put it after all others.
+        self.channel.last_opened = Some(at);
+        self.row_taken(at);
+    }
+
+    fn close(&mut self, at: u32, bank: usize) {
+        let ch = &mut self.channel;
+        let (below, above) = beside(bank);
+        ch.last_pre = at;
+        ch.pre[bank] = at;
+        for b in below..=above {
+            if ch.tags[b] != 0 {
+                (ch.tags[b], ch.pre[b]) = (0, at);
+            }
+        }
+        self.row_taken(at);
+    }
+
+    /// A COL packet other than RD.
+    fn retire(&mut self, f: &Figures, at: u32, mask: u16, store: &mut [u8]) -> Event {
+        let ch = &mut self.channel;
+        (ch.last, ch.last_col) = (at, at);
+        let Some(w) = ch.waiting.take() else {
+            return Event::Neither;
+        };
+        ch.retire[w.bank & 31] = at;
+        let dualoct = dualoct(f, store, w.bank & 31, ch.tags[w.bank & 31], w.column);
+        for (i, (byte, new)) in dualoct.iter_mut().zip(&self.data).enumerate() {
+            *byte = if mask >> i & 1 == 1 { *new } else { *byte };
+        }
+        Event::Retired(mask.count_ones())
+    }
+
+    fn read(&mut self, at: u32, bank: usize) {
+        let ch = &mut self.channel;
+        (ch.last, ch.last_col, ch.last_rd) = (at, at, at);
+        ch.rd[bank] = at;
+    }
+
+    fn refresh(&mut self, f: &Figures, at: u32, bank: usize) {
+        self.open(at, bank, UNDER_REFRESH);
+        if bank == 31 {
+            self.refr = (self.refr + 1) % f.rows as u16;
+        }
+    }
+
+    /// Takes a record of 32 bytes.
+    #[inline]
+    pub fn step(
+        &mut self,
+        f: &Figures,
+        store: &mut [u8],
+        record: &[u8],
+        answer: &mut [u8],
+    ) -> Result<Event, Refused> {
+        if store.len() != 512 * (f.rows * f.columns) as usize {
+            return refused(9);
+        }
+        let Ok(bytes) = <&[u8; 32]>::try_from(record) else {
+            return refused(13);
+        };
+        let Some(record) = record_of(f, bytes) else {
+            return refused(10);
+        };
+        let at = u32::from_le_bytes(bytes[..4].try_into().unwrap());
+        if let Err(rule) = self.judge(f, at, &record) {
+            return Err(Refused { number: 11, rule });
+        }
+        self.take(f, at, record, store, answer)
+    }
+
+    /// Takes a record that breaks no rule.
+    #[inline(always)]
+    fn take(
+        &mut self,
+        f: &Figures,
+        at: u32,
+        record: Record,
+        store: &mut [u8],
+        answer: &mut [u8],
+    ) -> Result<Event, Refused> {
+        match record {
+            Record::Act { bank, row } => {
+                self.channel.act[bank] = at;
+                self.open(at, bank, row + 1);
+            }
+            Record::Refa { bank } => self.refresh(f, at, bank),
+            Record::Prer { bank } => self.close(at, bank),
+            Record::D { data } => (self.data, self.channel.due) = (data, false),
+            Record::Nocop { mask } => return Ok(self.retire(f, at, mask, store)),
+            Record::Wr { bank, column, mask } => {
+                let event = self.retire(f, at, mask, store);
+                self.channel.waiting = Some(Write { bank, column, at });
+                self.channel.due = true;
+                return Ok(event);
+            }
+            Record::Rd { bank, column, .. } => {
+                let Some(answer) = answer.first_chunk_mut() else {
+                    return refused(8);
+                };
+                *answer = *dualoct(f, store, bank, self.channel.tags[bank], column);
+                self.read(at, bank);
+                return Ok(Event::Read);
+            }
+        }
+        Ok(Event::Neither)
+    }
+
+    // ---- State bytes ----
+
+    /// The model of bytes that need not be one: `fits` tells.
+    fn decode(state: &[u8; MODEL_BYTES]) -> Model {
+        Model {
+            channel: Channel::decode(state.first_chunk().unwrap()),
+            refr: u16::from_le_bytes([state[732], state[733]]),
+            data: state[736..].try_into().unwrap(),
+        }
+    }
+
+    /// Whether the bytes are those of a model that is not refused under 1.
+    fn fits(&self, f: &Figures, state: &[u8; MODEL_BYTES]) -> bool {
+        let ch = &self.channel;
+        // A bank under refresh comes before 0.
+        let most = ch.tags.iter().fold(0, |m, tag| tag.wrapping_add(1).max(m));
+        ch.lasts_are(LAST)
+            & (most <= f.rows as u16 + 1)
+            & ch.apart()
+            & (u32::from(self.refr) < f.rows)
+            & (state[734] | state[735] == 0)
+            & ch.buffer_fits(f, state.first_chunk().unwrap())
+    }
+
+    pub fn encode(&self, state: &mut [u8; MODEL_BYTES]) {
+        self.channel.encode(state.first_chunk_mut().unwrap());
+        state[732..734].copy_from_slice(&self.refr.to_le_bytes());
+        state[734..736].fill(0);
+        state[736..].copy_from_slice(&self.data);
+    }
+}
+
+/// The dualoct of a column in the row that a bank's tag says.
+fn dualoct<'a>(
+    f: &Figures,
+    store: &'a mut [u8],
+    bank: usize,
+    tag: u16,
+    column: u32,
+) -> &'a mut Dualoct {
+    let row = bank as u32 * f.rows + u32::from(tag) - 1;
+    let at = 16 * (row * f.columns + column) as usize;
+    (&mut store[at..at + 16]).try_into().unwrap()
+}
+
+/// The call on bytes: settings and model are tested, and the next model is written.
+pub fn step(
+    settings: &[u8],
+    state: &mut [u8],
+    store: &mut [u8],
+    record: &[u8],
+    answer: &mut [u8],
+) -> Result<Event, Refused> {
+    let Some(f) = Figures::of(settings) else {
+        return refused(1);
+    };
+    let Ok(state) = <&mut [u8; MODEL_BYTES]>::try_from(state) else {
+        return refused(1);
+    };
+    let mut model = Model::decode(state);
+    if !model.fits(&f, state) {
+        return refused(1);
+    }
+    let event = model.step(&f, store, record, answer)?;
+    model.encode(state);
+    Ok(event)
+}

@@ -1,0 +1,426 @@
+//! The planner in plain Rust, written for speed from document 01: last instants in a struct of
+//! numbers, and no list. It plans from any state that is not refused, also one that no run reaches.
+
+use crate::plain_state::{
+    beside, near, since, Channel, Figures, Write, ACT, FULL, LAST, NOCOP, PRER, RD, REFA, REFP, WR,
+};
+
+/// No request gets from here past the last instant: it makes at most 17 packets, each at most 64
+/// after the latest instant before it, and data come at most 12 later.
+const SAFE: u32 = LAST - 4_096;
+pub const STATE_BYTES: usize = 740;
+const RECORDS: usize = 17;
+
+/// A refusal number.
+pub type Refused = u32;
+type Records = [[u8; 32]; RECORDS];
+
+// ---- Requests ----
+
+enum Request {
+    Read,
+    Write,
+    Refresh,
+    Wait,
+    Drain,
+}
+
+/// A request: its kind, its place, and its mask and data or cycles as they stand in the bytes.
+struct Asked {
+    kind: Request,
+    bank: usize,
+    row: u32,
+    column: u32,
+    mask: u16,
+    low: u64,
+    high: u64,
+}
+
+impl Asked {
+    #[inline(always)]
+    fn of(f: &Figures, request: &[u8]) -> Result<Asked, Refused> {
+        let request: &[u8; 24] = request.try_into().map_err(|_| 13u32)?;
+        let number = |at: usize| u64::from_le_bytes(request[at..at + 8].try_into().unwrap());
+        let (head, low, high) = (number(0), number(8), number(16));
+        let (kind, spare) = match head & 0xFF {
+            0 => (Request::Read, head >> 40 | low | high),
+            1 => (Request::Write, head & 0xFF << 40),
+            2 => (Request::Refresh, head >> 8 | low | high),
+            3 => (Request::Wait, head >> 8 | low >> 32 | high),
+            4 => (Request::Drain, head >> 8 | low | high),
+            _ => return Err(2),
+        };
+        let asked = Asked {
+            kind,
+            bank: (head >> 8 & 0xFF) as usize,
+            row: (head >> 16 & 0xFFFF) as u32,
+            column: (head >> 32 & 0xFF) as u32,
+            mask: (head >> 48) as u16,
+            low,
+            high,
+        };
+        if spare != 0 {
+            return Err(3);
+        }
+        // The place of the other kinds is 0/0/0.
+        if asked.bank > 31 {
+            return Err(4);
+        }
+        if asked.row >= f.rows {
+            return Err(5);
+        }
+        if asked.column >= f.columns {
+            return Err(6);
+        }
+        Ok(asked)
+    }
+}
+
+// ---- Words and records ----
+
+/// The records of a call.
+struct Out<'a> {
+    records: &'a mut Records,
+    used: usize,
+}
+
+impl Out<'_> {
+    #[inline]
+    fn add(&mut self, at: u32, kind: u64, word: u64, low: u64, high: u64) {
+        let record = &mut self.records[self.used];
+        record[..8].copy_from_slice(&(kind << 32 | u64::from(at)).to_le_bytes());
+        record[8..16].copy_from_slice(&word.to_le_bytes());
+        record[16..24].copy_from_slice(&low.to_le_bytes());
+        record[24..].copy_from_slice(&high.to_le_bytes());
+        self.used += 1;
+    }
+
+    fn row(&mut self, f: &Figures, at: u32, bank: usize, code: u64) {
+        self.add(at, 0, f.row_device | (bank as u64) << 13 | code, 0, 0);
+    }
+
+    #[inline]
+    fn col(&mut self, f: &Figures, at: u32, cop: u64, bank: usize, column: u32, mask: u16) {
+        let tail = match mask {
+            FULL => f.second_device,
+            mask => 0x10000 | u64::from(mask),
+        };
+        let place = (bank as u64) << 29 | u64::from(column) << 21;
+        self.add(at, 1, f.col_device | place | cop << 17 | tail, 0, 0);
+    }
+}
+
+// ---- Planner ----
+
+#[derive(Clone)]
+pub struct Planner {
+    channel: Channel,
+    now: u32,
+    refresh: u16,
+    mask: u16,
+    /// Whether the planner came with an instant past `SAFE`.
+    far: bool,
+}
+
+impl Planner {
+    pub fn fresh() -> Planner {
+        Planner {
+            channel: Channel::FRESH,
+            now: 4,
+            refresh: 0,
+            mask: 0,
+            far: false,
+        }
+    }
+
+    /// Rules 1 and 2 of a ROW packet, and rules 1 and 3 of a COL packet.
+    fn row_from(&self) -> u32 {
+        self.now
+            .max(self.channel.last)
+            .max(since(self.channel.last_row, 4))
+    }
+
+    fn col_from(&self, f: &Figures) -> u32 {
+        self.now
+            .max(self.channel.last)
+            .max(since(self.channel.last_col, f.cc))
+    }
+
+    fn row_sent(&mut self, at: u32) {
+        (self.now, self.channel.last, self.channel.last_row) = (at, at, at);
+    }
+
+    fn col_sent(&mut self, at: u32) {
+        (self.now, self.channel.last, self.channel.last_col) = (at, at, at);
+    }
+
+    /// ACT or REFA.
+    fn opening(&mut self, f: &Figures, bank: usize) -> u32 {
+        let at = self
+            .row_from()
+            .max(since(near(&self.channel.opened, bank), f.rc))
+            .max(self.channel.others_ask(f, bank))
+            .max(since(near(&self.channel.pre, bank), f.rp));
+        self.channel.opened[bank] = at;
+        self.channel.last_opened = self.channel.last_opened.map(|last| last.max(at));
+        self.row_sent(at);
+        at
+    }
+
+    fn activate(&mut self, f: &Figures, out: &mut Out, bank: usize, row: u32) {
+        let at = self.opening(f, bank);
+        self.channel.act[bank] = at;
+        self.channel.tags[bank] = row as u16 + 1;
+        out.row(f, at, bank, ACT | u64::from(row));
+    }
+
+    /// PRER or REFP; the neighbours are closed.
+    fn precharge(&mut self, f: &Figures, out: &mut Out, bank: usize, code: u64) {
+        let at = self
+            .row_from()
+            .max(since(near(&self.channel.opened, bank), f.ras))
+            .max(since(self.channel.last_pre, f.pp))
+            .max(since(near(&self.channel.rd, bank), f.rdp))
+            .max(since(near(&self.channel.retire, bank), f.rtp));
+        (self.channel.pre[bank], self.channel.last_pre) = (at, at);
+        self.channel.tags[bank] = 0;
+        self.row_sent(at);
+        out.row(f, at, bank, code);
+    }
+
+    /// The mask that a packet other than RD carries, and the instant that rules 10 and 12 ask.
+    fn retires(&self, f: &Figures) -> (u16, u32) {
+        match self.channel.waiting {
+            Some(w) => (
+                self.mask,
+                since(self.channel.act[w.bank], f.rcd).max(w.at + f.rtr),
+            ),
+            None => (FULL, 0),
+        }
+    }
+
+    fn retired(&mut self, at: u32) {
+        if let Some(w) = self.channel.waiting.take() {
+            self.channel.retire[w.bank] = at;
+        }
+    }
+
+    fn nocop(&mut self, f: &Figures, out: &mut Out) {
+        let (mask, from) = self.retires(f);
+        let at = self.col_from(f).max(from);
+        self.retired(at);
+        self.col_sent(at);
+        out.col(f, at, NOCOP, 0, 0, mask);
+    }
+
+    /// Closes a bank if it is open.
+    fn close(&mut self, f: &Figures, out: &mut Out, bank: usize) {
+        if self.channel.tags[bank] != 0 {
+            if self.channel.waiting.is_some_and(|w| w.bank == bank) {
+                self.nocop(f, out);
+            }
+            self.precharge(f, out, bank, PRER);
+        }
+    }
+
+    /// Closes the open ones of a bank and its neighbours.
+    fn close_near(&mut self, f: &Figures, out: &mut Out, bank: usize) {
+        let (below, above) = beside(bank);
+        self.close(f, out, below);
+        self.close(f, out, bank);
+        self.close(f, out, above);
+    }
+
+    #[inline]
+    fn reach(&mut self, f: &Figures, out: &mut Out, asked: &Asked) {
+        if u32::from(self.channel.tags[asked.bank & 31]) != asked.row + 1 {
+            self.change_row(f, out, asked.bank & 31, asked.row);
+        }
+    }
+
+    #[inline(never)] // so that a row hit is short
+    fn change_row(&mut self, f: &Figures, out: &mut Out, bank: usize, row: u32) {
+        self.close_near(f, out, bank);
+        self.activate(f, out, bank, row);
+    }
+
+    #[inline(always)]
+    fn read(&mut self, f: &Figures, out: &mut Out, asked: &Asked) {
+        let (bank, column) = (asked.bank & 31, asked.column);
+        self.reach(f, out, asked);
+        let own = |w: Write| (w.bank, w.column) == (bank, column);
+        if self.channel.waiting.is_some_and(own) {
+            self.nocop(f, out);
+        }
+        let at = self.col_from(f).max(since(self.channel.act[bank], f.rcd));
+        (self.channel.rd[bank], self.channel.last_rd) = (at, at);
+        self.col_sent(at);
+        out.col(f, at, RD, bank, column, FULL);
+    }
+
+    #[inline]
+    fn write(&mut self, f: &Figures, out: &mut Out, asked: &Asked) {
+        let (bank, column) = (asked.bank & 31, asked.column);
+        self.reach(f, out, asked);
+        let (mask, from) = self.retires(f);
+        let at = self
+            .col_from(f)
+            .max(since(self.channel.act[bank], f.act_to_wr))
+            .max(since(self.channel.last_rd, f.rd_to_wr))
+            .max(from);
+        self.retired(at);
+        self.channel.waiting = Some(Write { bank, column, at });
+        self.mask = asked.mask;
+        self.col_sent(at);
+        out.col(f, at, WR, bank, column, mask);
+        out.add(at + f.cwd, 2, 0, asked.low, asked.high);
+    }
+
+    fn refresh(&mut self, f: &Figures, out: &mut Out) {
+        let bank = usize::from(self.refresh);
+        self.close_near(f, out, bank);
+        let at = self.opening(f, bank);
+        out.row(f, at, bank, REFA);
+        self.precharge(f, out, bank, REFP);
+        self.refresh = (self.refresh + 1) % 32;
+    }
+
+    fn drain(&mut self, f: &Figures, out: &mut Out) {
+        if self.channel.waiting.is_some() {
+            self.nocop(f, out);
+        }
+        for bank in 0..32 {
+            self.close(f, out, bank);
+        }
+    }
+
+    /// Plans without regard to the horizon; answers the delay of the data of the last packet.
+    #[inline(always)]
+    fn serve(&mut self, f: &Figures, out: &mut Out, asked: &Asked) -> u32 {
+        match asked.kind {
+            Request::Read => {
+                self.read(f, out, asked);
+                return f.cac;
+            }
+            Request::Write => {
+                self.write(f, out, asked);
+                return f.cwd;
+            }
+            Request::Refresh => self.refresh(f, out),
+            Request::Drain => self.drain(f, out),
+            Request::Wait => {}
+        }
+        0
+    }
+
+    /// Plans on a copy, which takes the planner's place where nothing is refused.
+    #[cold]
+    fn plan_with_care(
+        &mut self,
+        f: &Figures,
+        asked: &Asked,
+        room: &mut [u8],
+    ) -> Result<usize, Refused> {
+        let (mut next, mut records) = (self.clone(), [[0; 32]; RECORDS]);
+        let mut out = Out {
+            records: &mut records,
+            used: 0,
+        };
+        let delay = next.serve(f, &mut out, asked);
+        let used = out.used;
+        // Instants never fall, so the last packet or its data come last.
+        if next.now + delay > LAST {
+            return Err(7);
+        }
+        if room.len() / 32 < used {
+            return Err(8);
+        }
+        room[..32 * used].copy_from_slice(records[..used].as_flattened());
+        *self = next;
+        Ok(used)
+    }
+
+    fn wait(&mut self, cycles: u64) -> Result<usize, Refused> {
+        let now = u64::from(self.now) + cycles;
+        if now > u64::from(LAST) {
+            return Err(7);
+        }
+        self.now = now as u32;
+        Ok(0)
+    }
+
+    /// The number of records that a request makes, at the start of `room`.
+    pub fn plan(&mut self, f: &Figures, request: &[u8], room: &mut [u8]) -> Result<usize, Refused> {
+        let asked = Asked::of(f, request)?;
+        if let Request::Wait = asked.kind {
+            return self.wait(asked.low);
+        }
+        let safe = !self.far & (self.now <= SAFE);
+        match room.as_chunks_mut::<32>().0.first_chunk_mut::<RECORDS>() {
+            Some(records) if safe => {
+                let mut out = Out { records, used: 0 };
+                self.serve(f, &mut out, &asked);
+                Ok(out.used)
+            }
+            _ => self.plan_with_care(f, &asked, room),
+        }
+    }
+
+    // ---- State bytes ----
+
+    /// The planner of bytes that need not be one: `fits` tells.
+    fn decode(state: &[u8; STATE_BYTES]) -> Planner {
+        let half = |at: usize| u16::from_le_bytes(state[at..at + 2].try_into().unwrap());
+        Planner {
+            channel: Channel::decode(state.first_chunk().unwrap()),
+            now: u32::from_le_bytes(state[732..736].try_into().unwrap()),
+            refresh: half(736),
+            mask: half(738),
+            far: false,
+        }
+    }
+
+    /// Whether the bytes are those of a planner that is not refused under 1. Notes whether an
+    /// instant is far.
+    fn fits(&mut self, f: &Figures, state: &[u8; STATE_BYTES]) -> bool {
+        let ch = &self.channel;
+        let usual = ch.lasts_are(SAFE);
+        self.far = !usual;
+        (usual || ch.lasts_are(LAST))
+            & (self.now.wrapping_sub(4) <= LAST - 4)
+            & (ch.tags.iter().fold(0, |most, tag| *tag.max(&most)) <= f.rows as u16)
+            & ch.apart()
+            & (self.refresh < 32)
+            & !ch.due
+            & ch.buffer_fits(f, state.first_chunk().unwrap())
+    }
+
+    pub fn encode(&self, state: &mut [u8; STATE_BYTES]) {
+        self.channel.encode(state.first_chunk_mut().unwrap());
+        state[732..736].copy_from_slice(&self.now.to_le_bytes());
+        state[736..738].copy_from_slice(&self.refresh.to_le_bytes());
+        state[738..740].copy_from_slice(&self.mask.to_le_bytes());
+    }
+}
+
+/// The call on bytes: settings, planner and request are tested, and the next planner is written.
+pub fn plan(
+    settings: &[u8],
+    state: &mut [u8],
+    request: &[u8],
+    room: &mut [u8],
+) -> Result<usize, Refused> {
+    let Some(f) = Figures::of(settings) else {
+        return Err(1);
+    };
+    let Ok(state) = <&mut [u8; STATE_BYTES]>::try_from(state) else {
+        return Err(1);
+    };
+    let mut planner = Planner::decode(state);
+    if !planner.fits(&f, state) {
+        return Err(1);
+    }
+    let records = planner.plan(&f, request, room)?;
+    planner.encode(state);
+    Ok(records)
+}

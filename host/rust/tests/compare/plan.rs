@@ -1,0 +1,283 @@
+//! Random and damaged requests, planned by the library and by the reference.
+
+use crate::lists::{rule_numbers, SettingsSeen};
+use crate::plan_calls::{Run, Seen, ENOUGH};
+use crate::plan_streams::{
+    bare, read, sixteen_banks, wait, write, Maker, DRAIN, READ, REFRESH, WAIT, WRITE,
+};
+use crate::random::{set_h, Random};
+use crate::reference::{COLUMNS, ROWS};
+use crate::reference_state::{put, LAST};
+
+/// Plans requests one after the other, now and then with too little room first.
+fn plan_all(random: &mut Random, seen: &mut Seen, run: &mut Run, maker: &Maker, requests: usize) {
+    for _ in 0..requests {
+        let request = maker.request(random);
+        match random.below(8) {
+            0 => run.call_short(seen, &request, 0),
+            1 => run.call_short(seen, &request, random.below(ENOUGH)),
+            2 => _ = run.call(seen, &request, random.below(ENOUGH)),
+            _ => _ = run.call(seen, &request, ENOUGH),
+        }
+    }
+}
+
+#[test]
+fn random_streams() {
+    let name = "plan, random streams";
+    let (mut seen, mut random) = (Seen::default(), Random::new(61));
+    let mut settings_seen = SettingsSeen::default();
+    for _ in 0..20_000 {
+        let numbers = rule_numbers(&mut random);
+        settings_seen.add(&numbers);
+        let maker = Maker::new(&mut random, &numbers);
+        let mut run = Run::new(&numbers);
+        let requests = 1 + random.below(24);
+        plan_all(&mut random, &mut seen, &mut run, &maker, requests);
+        run.check();
+    }
+    // 7 where damage made a long wait.
+    seen.report(name, &[0, 2, 3, 4, 5, 6, 7, 8, 13]);
+    seen.all_kinds();
+    settings_seen.report(name);
+}
+
+#[test]
+fn long_streams() {
+    let (mut seen, mut random) = (Seen::default(), Random::new(62));
+    for _ in 0..40 {
+        let numbers = rule_numbers(&mut random);
+        let maker = Maker::new(&mut random, &numbers);
+        let mut run = Run::new(&numbers);
+        plan_all(&mut random, &mut seen, &mut run, &maker, 150);
+        run.check();
+    }
+    seen.report("plan, long streams", &[0, 2, 3, 4, 5, 6, 8, 13]);
+    seen.all_kinds();
+}
+
+/// Sixteen open banks and a waiting write.
+fn seventeen(random: &mut Random, seen: &mut Seen, numbers: &[u16; 16]) -> Run {
+    let mut run = Run::new(numbers);
+    let row = |random: &mut Random| random.below(numbers[ROWS].into()) as u16;
+    let mut banks = sixteen_banks(random);
+    for i in (1..16).rev() {
+        banks.swap(i, random.below(i + 1));
+    }
+    for bank in &banks {
+        let row = row(random);
+        run.call(seen, &read(*bank, row, 0), ENOUGH).unwrap();
+    }
+    let (bank, row, data) = (random.pick(&banks), row(random), random.bytes(16));
+    let column = (numbers[COLUMNS] - 1) as u8;
+    let mask = random.pick(&[0xFFFF, 0, 3]);
+    let request = write(bank, row, column, mask, &data);
+    run.call(seen, &request, ENOUGH).unwrap();
+    run
+}
+
+#[test]
+fn seventeen_records() {
+    let (mut seen, mut random) = (Seen::default(), Random::new(63));
+    let drain = bare(DRAIN);
+    for round in 0..300 {
+        let numbers = match round {
+            0 => set_h(2, 4, 0),
+            _ => rule_numbers(&mut random),
+        };
+        let run = seventeen(&mut random, &mut seen, &numbers);
+        for records in 0..17 {
+            let room = 32 * records + random.below(32);
+            let refused = run.clone().call(&mut seen, &drain, room);
+            assert_eq!(refused, Err(8), "room for {records} records");
+        }
+        let mut drained = run.clone();
+        assert_eq!(drained.call(&mut seen, &drain, ENOUGH), Ok(17));
+        // Nothing is open now.
+        assert_eq!(drained.call(&mut seen, &drain, 0), Ok(0));
+        drained.check();
+        // At the end of time any of the seventeen may be the first that is late.
+        let span = (drained.now() - run.now()) as usize;
+        let lefts: Vec<usize> = match round {
+            0 => (0..=span + 1).collect(),
+            _ => (0..12).map(|_| random.below(span + 2)).collect(),
+        };
+        for left in lefts {
+            let mut late = run.clone();
+            let cycles = LAST - left as u64 - late.now();
+            late.call(&mut seen, &wait(cycles as u32), 0).unwrap();
+            _ = late.call(&mut seen, &drain, ENOUGH);
+        }
+    }
+    seen.report("plan, seventeen records", &[0, 7, 8]);
+    assert!(seen.with_records(17) >= 300);
+}
+
+#[test]
+fn near_the_horizon() {
+    let (mut seen, mut random) = (Seen::default(), Random::new(64));
+    for _ in 0..20_000 {
+        let numbers = rule_numbers(&mut random);
+        let maker = Maker::new(&mut random, &numbers);
+        let mut run = Run::new(&numbers);
+        let before = random.below(6);
+        plan_all(&mut random, &mut seen, &mut run, &maker, before);
+        let left = random.pick(&[0, 8, 40, 150, 400]);
+        let left = random.below(left + 1) as u64;
+        let cycles = LAST - left - run.now();
+        run.call(&mut seen, &wait(cycles as u32), 0).unwrap();
+        let after = 1 + random.below(16);
+        plan_all(&mut random, &mut seen, &mut run, &maker, after);
+        run.check();
+    }
+    let numbers = [0, 2, 3, 4, 5, 6, 7, 8, 13];
+    seen.report("plan, near the horizon", &numbers);
+    seen.all_kinds();
+}
+
+/// Runs that lead to each kind of step: an empty list, an open bank, a waiting write, open
+/// neighbours on both sides.
+fn prefixes() -> Vec<Vec<Vec<u8>>> {
+    let full = |bank, row, column| write(bank, row, column, 0xFFFF, &[5; 16]);
+    let part = |bank, row, column| write(bank, row, column, 0x0F01, &[6; 16]);
+    vec![
+        vec![],
+        vec![read(0, 0, 1)],
+        vec![part(0, 0, 1)],
+        vec![read(2, 0, 0), full(0, 1, 2)],
+        vec![part(2, 0, 0), read(0, 1, 2)],
+        vec![read(1, 0, 0)],
+        vec![bare(REFRESH), part(1, 1, 3), wait(1)],
+    ]
+}
+
+fn one_of_each_kind() -> Vec<Vec<u8>> {
+    vec![
+        read(1, 0, 0),
+        read(0, 0, 1),
+        read(0, 1, 2),
+        write(1, 1, 3, 0xFFFF, &[7; 16]),
+        write(0, 0, 1, 0x8001, &[8; 16]),
+        bare(REFRESH),
+        wait(0),
+        wait(1),
+        wait(u32::MAX),
+        bare(DRAIN),
+    ]
+}
+
+#[test]
+fn every_distance_to_the_horizon() {
+    let (mut seen, numbers) = (Seen::default(), set_h(2, 4, 0));
+    for prefix in prefixes() {
+        let mut run = Run::new(&numbers);
+        for request in &prefix {
+            run.call(&mut seen, request, ENOUGH).unwrap();
+        }
+        for left in 0..=100 {
+            let mut late = run.clone();
+            let cycles = LAST - left - late.now();
+            late.call(&mut seen, &wait(cycles as u32), 0).unwrap();
+            for request in one_of_each_kind() {
+                _ = late.clone().call(&mut seen, &request, ENOUGH);
+                // 7 before 8.
+                _ = late.clone().call(&mut seen, &request, 0);
+            }
+        }
+    }
+    seen.report("plan, every distance to the horizon", &[0, 7, 8]);
+}
+
+#[test]
+fn damaged_requests() {
+    let (mut seen, mut random) = (Seen::default(), Random::new(65));
+    for round in 0..6 {
+        let mut numbers = rule_numbers(&mut random);
+        (numbers[ROWS], numbers[COLUMNS]) = [(2, 4), (512, 128), (1, 1)][round % 3];
+        for prefix in prefixes() {
+            let mut run = Run::new(&numbers);
+            for request in &prefix {
+                _ = run.call(&mut seen, request, ENOUGH);
+            }
+            for kind in [READ, WRITE, REFRESH, WAIT, DRAIN] {
+                damage_each_byte(&mut random, &mut seen, &run, &bare(kind));
+            }
+        }
+    }
+    let numbers = [0, 2, 3, 4, 5, 6, 7];
+    seen.report("plan, requests damaged byte by byte", &numbers);
+}
+
+fn damage_each_byte(random: &mut Random, seen: &mut Seen, run: &Run, request: &[u8]) {
+    for byte in 0..24 {
+        let any = random.word() as u8;
+        for value in [1, 2, 3, 4, 5, 31, 32, 127, 128, 255, any] {
+            let mut damaged = request.to_vec();
+            damaged[byte] = value;
+            _ = run.clone().call(seen, &damaged, ENOUGH);
+        }
+    }
+}
+
+#[test]
+fn lengths_of_requests() {
+    let (mut seen, numbers) = (Seen::default(), set_h(2, 4, 0));
+    let run = Run::new(&numbers);
+    for mut request in one_of_each_kind() {
+        request.extend(vec![0; 26]);
+        for length in 0..=50 {
+            let answer = run.clone().call(&mut seen, &request[..length], ENOUGH);
+            assert_eq!(answer == Err(13), length != 24);
+        }
+    }
+    seen.report("plan, lengths of requests", &[0, 7, 13]);
+}
+
+/// Every length of a room up to some bytes more than 17 records.
+#[test]
+fn rooms() {
+    let (mut seen, mut random, numbers) = (Seen::default(), Random::new(66), set_h(2, 4, 0));
+    let run = seventeen(&mut random, &mut seen, &numbers);
+    for request in one_of_each_kind() {
+        let need = run.clone().call(&mut seen, &request, ENOUGH);
+        for room in 0..=ENOUGH + 40 {
+            let answer = run.clone().call(&mut seen, &request, room);
+            let short = need.is_ok_and(|records| room / 32 < records);
+            assert_eq!(answer, if short { Err(8) } else { need }, "room {room}");
+        }
+    }
+    seen.report("plan, rooms of every length", &[0, 7, 8]);
+}
+
+/// Faults of a request from the first that is tested to the last, each with all that come after it.
+#[test]
+fn order_of_refusals() {
+    let (mut seen, numbers) = (Seen::default(), set_h(2, 4, 0));
+    let mut run = Run::new(&numbers);
+    run.call(&mut seen, &wait(LAST as u32 - 4), 0).unwrap();
+    let fault = |request: &mut Vec<u8>, number: u32| match number {
+        13 => request.push(0),
+        2 => request[0] = 5,
+        3 => request[5] = 1,
+        4 => request[1] = 32,
+        5 => put(request, 2, 2, 2),
+        6 => request[4] = 4,
+        _ => {}
+    };
+    // At the last instant no read is in time, and a room of 0 has no space for one.
+    let order = [13, 2, 3, 4, 5, 6, 7];
+    for first in 0..order.len() {
+        let mut request = bare(READ);
+        order[first..].iter().for_each(|n| fault(&mut request, *n));
+        let answer = run.call(&mut seen, &request, 0);
+        assert_eq!(answer, Err(order[first]));
+    }
+    let mut fresh = Run::new(&numbers);
+    assert_eq!(fresh.call(&mut seen, &bare(READ), 0), Err(8));
+    // Spare before bank: a refresh names no bank.
+    let mut refresh = bare(REFRESH);
+    refresh[1] = 32;
+    assert_eq!(fresh.call(&mut seen, &refresh, 0), Err(3));
+    let numbers = [0, 2, 3, 4, 5, 6, 7, 8, 13];
+    seen.report("plan, order of refusals", &numbers);
+}

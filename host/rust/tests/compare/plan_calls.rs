@@ -1,0 +1,322 @@
+//! Plan calls of the library, each compared with what is wanted: C functions and safe wrappers. The
+//! plain planner of the benchmark is compared along with them.
+
+use crate::calls::{typed, Seen as Numbers};
+use crate::plain_plan;
+use crate::plan_streams::{DRAIN, READ, REFRESH, WAIT, WRITE};
+use crate::random::bytes;
+use crate::reference::{NOCOP, PRER, RD, WR};
+use crate::reference_plan::{self as reference, STATE_BYTES};
+use rdram::{raw, Planner, Refusal, Request};
+
+/// What a call must do: the number of a refusal, or the new records and the next state.
+pub type Want = Result<(Vec<u8>, Vec<u8>), u32>;
+
+/// What is lent to a call.
+pub struct Case<'a> {
+    pub settings: &'a [u8],
+    pub planner: &'a [u8],
+    pub request: &'a [u8],
+    /// Bytes of the room.
+    pub room: usize,
+}
+
+/// Bytes before and after each lent buffer, to see that they stay.
+const GUARD: usize = 64;
+
+pub fn guarded(bytes: &[u8]) -> Vec<u8> {
+    let guard: Vec<u8> = (0..GUARD).map(|i| (i * 29 + 7) as u8).collect();
+    [&guard, bytes, &guard].concat()
+}
+
+pub fn lent(guarded: &mut [u8]) -> &mut [u8] {
+    let end = guarded.len() - GUARD;
+    &mut guarded[GUARD..end]
+}
+
+/// A room of a pattern that no record has.
+pub fn pattern(room: usize) -> Vec<u8> {
+    (0..room).map(|i| (i * 37 + 11) as u8).collect()
+}
+
+/// What a wrapper must say of a refusal.
+fn refusal(number: u32) -> Refusal {
+    match number {
+        1 => Refusal::Settings,
+        2 => Refusal::Kind,
+        3 => Refusal::Spare,
+        4 => Refusal::Bank,
+        5 => Refusal::Row,
+        6 => Refusal::Column,
+        7 => Refusal::Horizon,
+        8 => Refusal::Full,
+        13 => Refusal::Length,
+        number => panic!("no refusal {number} of a plan"),
+    }
+}
+
+/// The wrapper's request, where it can hold the bytes.
+fn typed_request(request: &[u8]) -> Option<Request> {
+    let b: &[u8; 24] = request.try_into().ok()?;
+    let (bank, row, column) = (b[1], u16::from_le_bytes([b[2], b[3]]), b[4]);
+    let typed = match b[0] {
+        0 => Request::Read { bank, row, column },
+        1 => Request::Write {
+            bank,
+            row,
+            column,
+            mask: u16::from_le_bytes([b[6], b[7]]),
+            data: b[8..].try_into().unwrap(),
+        },
+        2 => Request::Refresh,
+        3 => Request::Wait {
+            cycles: u32::from_le_bytes(b[8..12].try_into().unwrap()),
+        },
+        _ => Request::Drain,
+    };
+    (typed.to_bytes() == *b).then_some(typed)
+}
+
+/// The planner and the room after a call.
+fn buffers(case: &Case, want: &Want) -> (Vec<u8>, Vec<u8>) {
+    let mut room = pattern(case.room);
+    match want {
+        Ok((records, next)) => {
+            room[..records.len()].copy_from_slice(records);
+            (next.clone(), room)
+        }
+        Err(_) => (case.planner.to_vec(), room),
+    }
+}
+
+fn compare_c(case: &Case, want: &Want) {
+    let (s, q) = (case.settings.to_vec(), case.request.to_vec());
+    let (mut planner, mut room) = (guarded(case.planner), guarded(&pattern(case.room)));
+    let (p, r) = (lent(&mut planner), lent(&mut room));
+    // SAFETY: each pointer and length are those of one slice, and the slices do not overlap.
+    let got = unsafe {
+        raw::rdram_plan(
+            s.as_ptr(),
+            s.len(),
+            p.as_mut_ptr(),
+            p.len(),
+            q.as_ptr(),
+            q.len(),
+            r.as_mut_ptr(),
+            r.len(),
+        )
+    };
+    let answer = raw::Planned {
+        number: want.as_ref().err().copied().unwrap_or(0),
+        records: want.as_ref().map_or(0, |(r, _)| r.len() as u64 / 32),
+    };
+    let context = || {
+        let (settings, planner, request) = (case.settings, case.planner, case.request);
+        let room = case.room;
+        format!("settings {settings:?}, planner {planner:?}, request {request:?}, room {room}")
+    };
+    assert_eq!(got, answer, "{}", context());
+    let (next, records) = buffers(case, want);
+    assert!(room == guarded(&records), "other records: {}", context());
+    assert!(planner == guarded(&next), "another state: {}", context());
+    assert!(s == case.settings && q == case.request, "an input changed");
+}
+
+fn compare_wrappers(case: &Case, want: &Want) {
+    let (Some(settings), Ok(state)) = (
+        typed(case.settings),
+        <[u8; STATE_BYTES]>::try_from(case.planner),
+    ) else {
+        return;
+    };
+    let answer = want
+        .as_ref()
+        .map(|(r, _)| r.len() / 32)
+        .map_err(|n| refusal(*n));
+    let after = buffers(case, want);
+    let (mut planner, mut room) = (Planner::from_bytes(state), pattern(case.room));
+    let got = planner.plan_bytes(&settings, case.request, &mut room);
+    assert_eq!(got, answer);
+    assert!((planner.to_bytes().to_vec(), room) == after);
+    if let Some(request) = typed_request(case.request) {
+        let (mut planner, mut room) = (Planner::from_bytes(state), pattern(case.room));
+        assert_eq!(planner.plan(&settings, &request, &mut room), answer);
+        assert!((planner.to_bytes().to_vec(), room) == after);
+    }
+}
+
+fn compare_plain(case: &Case, want: &Want) {
+    let (mut planner, mut room) = (case.planner.to_vec(), pattern(case.room));
+    let got = plain_plan::plan(case.settings, &mut planner, case.request, &mut room);
+    let answer = want.as_ref().map(|(r, _)| r.len() / 32).map_err(|n| *n);
+    assert_eq!(got, answer, "plain: {:?}, {:?}", case.planner, case.request);
+    assert!((planner, room) == buffers(case, want), "plain");
+}
+
+/// Runs the call through C, through the wrappers and in plain Rust.
+pub fn compare(case: &Case, want: &Want) {
+    compare_plain(case, want);
+    compare_c(case, want);
+    compare_wrappers(case, want);
+}
+
+/// The bytes of a fresh planner, by the library.
+pub fn fresh() -> Vec<u8> {
+    let mut state = guarded(&[0xA5; STATE_BYTES]);
+    let lent = lent(&mut state);
+    // SAFETY: pointer and length are those of one slice.
+    let number = unsafe { raw::rdram_planner_fresh(lent.as_mut_ptr(), lent.len()) };
+    assert_eq!(number, 0);
+    let bytes = lent.to_vec();
+    assert!(state == guarded(&bytes));
+    assert!(bytes == Planner::fresh().to_bytes());
+    let mut plain = [0; STATE_BYTES];
+    plain_plan::Planner::fresh().encode(&mut plain);
+    assert!(bytes == plain);
+    bytes
+}
+
+/// The call for a fresh planner, with a buffer of another length: refused, nothing written.
+pub fn fresh_refused(length: usize) {
+    let mut state = guarded(&pattern(length));
+    let lent = lent(&mut state);
+    // SAFETY: pointer and length are those of one slice.
+    let number = unsafe { raw::rdram_planner_fresh(lent.as_mut_ptr(), lent.len()) };
+    assert_eq!(number, 1, "a fresh planner of {length} bytes");
+    assert!(state == guarded(&pattern(length)));
+}
+
+// ---- Runs ----
+
+/// What calls were seen.
+#[derive(Default)]
+pub struct Seen {
+    numbers: Numbers,
+    /// Accepted requests by kind.
+    kinds: [u64; 5],
+    /// Accepted requests by the number of their records.
+    records: [u64; 18],
+    /// NOCOP before RD, NOCOP before PRER, two PRER before ACT or REFA, a WR with a mask.
+    shapes: [u64; 4],
+}
+
+impl Seen {
+    fn add(&mut self, request: &[u8], want: &Want, commands: &[Option<u32>]) {
+        self.numbers.add(want.as_ref().err().copied().unwrap_or(0));
+        let Ok((list, _)) = want else {
+            return;
+        };
+        self.kinds[usize::from(request[0])] += 1;
+        self.records[commands.len()] += 1;
+        let pair = |a, b| commands.windows(2).any(|w| w == [Some(a), Some(b)]);
+        let closings = commands.iter().filter(|c| **c == Some(PRER)).count();
+        let mut records = list.chunks(32).zip(commands);
+        self.shapes[0] += u64::from(pair(NOCOP, RD));
+        self.shapes[1] += u64::from(pair(NOCOP, PRER));
+        self.shapes[2] += u64::from(closings == 2 && request[0] != DRAIN);
+        // M is bit 16 of the word.
+        self.shapes[3] += u64::from(records.any(|(r, c)| *c == Some(WR) && r[10] & 1 == 1));
+    }
+
+    /// Prints the counts; fails unless exactly these numbers were seen.
+    pub fn report(&self, name: &str, numbers: &[u32]) {
+        self.numbers.report(name, numbers);
+        let most = self.records.iter().rposition(|n| *n > 0).unwrap_or(0);
+        let [read, write, refresh, wait, drain] =
+            [READ, WRITE, REFRESH, WAIT, DRAIN].map(|kind| self.kinds[usize::from(kind)]);
+        println!("{name}: accepted: {read} read, {write} write, {refresh} refresh, {wait} wait, {drain} drain");
+        let [own, lost, two, masked] = self.shapes;
+        println!(
+            "{name}: {own} with NOCOP RD, {lost} with NOCOP PRER, {two} with two PRER, \
+             {masked} with a masked WR; most records {most}"
+        );
+    }
+
+    /// Fails unless each kind and each shape was seen.
+    pub fn all_kinds(&self) {
+        assert!(self.kinds.iter().all(|n| *n > 0), "{:?}", self.kinds);
+        assert!(self.shapes.iter().all(|n| *n > 0), "{:?}", self.shapes);
+        assert!(
+            self.records[..7].iter().all(|n| *n > 0),
+            "{:?}",
+            self.records
+        );
+    }
+
+    /// Accepted requests of so many records.
+    pub fn with_records(&self, records: usize) -> u64 {
+        self.records[records]
+    }
+}
+
+/// A run of plan calls from a fresh planner: the library beside the reference.
+#[derive(Clone)]
+pub struct Run {
+    pub settings: Vec<u8>,
+    pub state: Vec<u8>,
+    pub list: Vec<u8>,
+    reference: reference::Planner,
+}
+
+/// Room for any request.
+pub const ENOUGH: usize = 17 * 32;
+
+impl Run {
+    pub fn new(numbers: &[u16; 16]) -> Run {
+        let settings = bytes(numbers);
+        let reference = reference::Planner::fresh(&settings).expect("valid settings");
+        let state = fresh();
+        assert!(state == reference.state(), "the bytes of a fresh planner");
+        Run {
+            settings,
+            state,
+            list: Vec::new(),
+            reference,
+        }
+    }
+
+    pub fn now(&self) -> u64 {
+        self.reference.now()
+    }
+
+    /// Plans a request; answers the number of records or the refusal.
+    pub fn call(&mut self, seen: &mut Seen, request: &[u8], room: usize) -> Result<usize, u32> {
+        let planned = self.reference.plan(request, room);
+        let want = planned.map(|records| (records, self.reference.state()));
+        compare(&self.case(request, room), &want);
+        let made = want.as_ref().map_or(0, |(list, _)| list.len() / 32);
+        seen.add(request, &want, &self.reference.commands(made));
+        let (records, next) = want?;
+        self.list.extend(records);
+        self.state = next;
+        Ok(made)
+    }
+
+    /// As `call`, and before it the same call with a room that is too short.
+    pub fn call_short(&mut self, seen: &mut Seen, request: &[u8], less: usize) {
+        let mut again = self.clone();
+        if let Ok(made) = again.call(seen, request, ENOUGH) {
+            if made > 0 {
+                let short = 32 * made - 1 - less % (32 * made);
+                compare(&self.case(request, short), &Err(8));
+                seen.add(request, &Err(8), &[]);
+            }
+        }
+        *self = again;
+    }
+
+    fn case<'a>(&'a self, request: &'a [u8], room: usize) -> Case<'a> {
+        Case {
+            settings: &self.settings,
+            planner: &self.state,
+            request,
+            room,
+        }
+    }
+
+    /// The whole list passes the library's check.
+    pub fn check(&self) {
+        let settings = typed(&self.settings).unwrap();
+        assert_eq!(rdram::check(&settings, &self.list), Ok(()));
+    }
+}

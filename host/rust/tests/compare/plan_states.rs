@@ -1,0 +1,292 @@
+//! Planner states: damaged field by field, and any that are not refused, also those that no run
+//! reaches. For the latter the plain planner, which needs no list, says what is wanted.
+
+use crate::calls::Seen as Numbers;
+use crate::lists::rule_numbers;
+use crate::plain_plan;
+use crate::plan_calls::{compare, fresh, fresh_refused, Case, Run, Seen, Want, ENOUGH};
+use crate::plan_streams::{bare, read, wait, write, Maker, DRAIN};
+use crate::random::{bytes, set_h, Random};
+use crate::reference::{COLUMNS, ROWS};
+use crate::reference_plan::{state_fits, STATE_BYTES};
+use crate::reference_state::{put, LAST};
+
+/// A call from any bytes as planner; answers its number.
+fn call(numbers: &[u16; 16], planner: &[u8], request: &[u8], room: usize) -> u32 {
+    let settings = bytes(numbers);
+    let (mut next, mut records) = (planner.to_vec(), vec![0; room]);
+    let planned = plain_plan::plan(&settings, &mut next, request, &mut records);
+    let refused = planned == Err(1);
+    assert_eq!(refused, !state_fits(numbers, planner), "{planner:?}");
+    let want: Want = planned.map(|made| (records[..32 * made].to_vec(), next));
+    let case = Case {
+        settings: &settings,
+        planner,
+        request,
+        room,
+    };
+    compare(&case, &want);
+    want.err().unwrap_or(0)
+}
+
+/// A planner after some requests.
+fn reached(random: &mut Random, numbers: &[u16; 16]) -> Vec<u8> {
+    let (mut run, maker) = (Run::new(numbers), Maker::new(random, numbers));
+    for _ in 0..2 + random.below(10) {
+        let request = maker.request(random);
+        _ = run.call(&mut Seen::default(), &request, ENOUGH);
+    }
+    run.state
+}
+
+/// Fields: offset and width.
+fn fields() -> Vec<(usize, usize)> {
+    let instants = (0..160).map(|i| (4 * i, 4));
+    let banks = (0..32).map(|i| (640 + 2 * i, 2));
+    let lasts = (0..5).map(|i| (704 + 4 * i, 4));
+    let buffer = [(724, 1), (725, 1), (726, 1), (727, 1), (728, 4)];
+    let rest = [(732, 4), (736, 2), (738, 2)];
+    let fields = instants.chain(banks).chain(lasts).chain(buffer);
+    fields.chain(rest).collect()
+}
+
+#[test]
+fn fields_have_every_byte() {
+    let ends = fields().into_iter().scan(0, |end, (at, width)| {
+        assert_eq!(at, *end);
+        *end += width;
+        Some(*end)
+    });
+    assert_eq!(ends.last(), Some(STATE_BYTES));
+}
+
+/// Each field at and beyond the ends of its range; a request that makes no record shows a state that
+/// comes back unchanged.
+#[test]
+fn damaged_field_by_field() {
+    let (mut seen, mut random) = (Numbers::default(), Random::new(71));
+    let mut refused = vec![0; STATE_BYTES];
+    for _ in 0..60 {
+        let numbers = rule_numbers(&mut random);
+        let state = reached(&mut random, &numbers);
+        let (rows, columns) = (u64::from(numbers[ROWS]), u64::from(numbers[COLUMNS]));
+        for (at, width) in fields() {
+            let ends = [0, 1, 2, 3, 4, 5, 31, 32, LAST, LAST + 1, 1 << 31];
+            let more = [
+                rows,
+                rows + 1,
+                columns - 1,
+                columns,
+                512,
+                513,
+                65_534,
+                65_535,
+                u64::MAX,
+            ];
+            for value in ends.into_iter().chain(more) {
+                let mut damaged = state.clone();
+                put(&mut damaged, at, width, value);
+                let number = call(&numbers, &damaged, &wait(0), 0);
+                seen.add(number);
+                refused[at] += number;
+            }
+        }
+    }
+    seen.report("plan, states damaged field by field", &[0, 1]);
+    for (at, _) in fields().into_iter().filter(|(at, _)| *at != 738) {
+        assert!(
+            refused[at] > 0,
+            "no damage of the field at {at} was refused"
+        );
+    }
+    assert_eq!(refused[738], 0, "any mask will do");
+}
+
+/// Any byte changed, and a request of any kind.
+#[test]
+fn damaged_bytes() {
+    let (mut seen, mut random) = (Numbers::default(), Random::new(72));
+    for _ in 0..3_000 {
+        let numbers = rule_numbers(&mut random);
+        let (state, maker) = (
+            reached(&mut random, &numbers),
+            Maker::new(&mut random, &numbers),
+        );
+        for _ in 0..40 {
+            let mut damaged = state.clone();
+            for _ in 0..1 + random.below(3) {
+                let any = random.below(STATE_BYTES);
+                let late = 640 + random.below(100);
+                let at = random.pick(&[any, late]);
+                let flipped = damaged[at] ^ 1 << random.below(8);
+                damaged[at] = random.pick(&[0, 1, flipped]);
+            }
+            let request = maker.request(&mut random);
+            seen.add(call(&numbers, &damaged, &request, ENOUGH));
+        }
+    }
+    let numbers = [0, 1, 2, 3, 4, 5, 6, 13];
+    seen.report("plan, states with damaged bytes", &numbers);
+}
+
+#[test]
+fn lengths_of_planners() {
+    let mut long = fresh();
+    long.extend(fresh());
+    for length in 0..=long.len() {
+        let number = call(&set_h(2, 4, 0), &long[..length], &read(0, 0, 0), ENOUGH);
+        assert_eq!(number == 1, length != STATE_BYTES);
+        if length != STATE_BYTES {
+            fresh_refused(length);
+        }
+    }
+}
+
+/// Settings and planner come before the request: all faults at once give 1.
+#[test]
+fn settings_first() {
+    let (good, state) = (set_h(2, 4, 0), fresh());
+    assert_eq!(call(&good, &state[1..], &[9; 25], 0), 1);
+    for figure in 0..16 {
+        let mut numbers = good;
+        numbers[figure] = 0xFFFF;
+        assert_eq!(refused_settings(&bytes(&numbers), &state), 1);
+    }
+    for length in (0..32).chain(33..64) {
+        let long = [bytes(&good), bytes(&good)].concat();
+        assert_eq!(refused_settings(&long[..length], &state), 1);
+    }
+}
+
+fn refused_settings(settings: &[u8], planner: &[u8]) -> u32 {
+    let case = Case {
+        settings,
+        planner,
+        request: &[9; 25],
+        room: 0,
+    };
+    compare(&case, &Err(1));
+    1
+}
+
+/// Two open banks: refused where they are neighbours. 15 and 16 are not.
+#[test]
+fn open_neighbours() {
+    let (mut seen, numbers) = (Numbers::default(), set_h(2, 4, 0));
+    for a in 0..32usize {
+        for b in 0..32usize {
+            let mut state = fresh();
+            put(&mut state, 640 + 2 * a, 2, 1);
+            put(&mut state, 640 + 2 * b, 2, 2);
+            let number = call(&numbers, &state, &bare(DRAIN), ENOUGH);
+            let neighbours = a.abs_diff(b) == 1 && a / 16 == b / 16;
+            assert_eq!(number == 1, neighbours, "banks {a} and {b}");
+            seen.add(number);
+        }
+    }
+    seen.report("plan, two open banks", &[0, 1]);
+}
+
+/// A waiting write needs its bank open by ACT.
+#[test]
+fn bank_of_the_waiting_write() {
+    let numbers = set_h(2, 4, 0);
+    for bank in 0..=255u8 {
+        for tag in [0, 1, 2, 3, 65_535] {
+            let mut state = fresh();
+            (state[724], state[725]) = (1, bank);
+            put(&mut state, 728, 4, 4);
+            put(&mut state, 640 + 2 * usize::from(bank % 32), 2, tag);
+            let number = call(&numbers, &state, &bare(DRAIN), ENOUGH);
+            let open = bank < 32 && (tag == 1 || tag == 2);
+            assert_eq!(number == 0, open, "bank {bank}, {tag}");
+        }
+    }
+}
+
+/// A state that is not refused, with any instants in range.
+fn any_state(random: &mut Random, numbers: &[u16; 16]) -> Vec<u8> {
+    let mut state = vec![0; STATE_BYTES];
+    let middle = 4 + random.below(LAST as usize - 4) as u64;
+    let centre = random.pick(&[100, 100, middle, LAST - 200, LAST - 4_096]);
+    let spread = random.pick(&[1, 40, 200]);
+    let instant = |random: &mut Random, never: bool| {
+        let about = (centre + random.below(spread) as u64).clamp(4, LAST);
+        let any = 4 + random.below(LAST as usize - 3) as u64;
+        let rare = if random.chance(200) { any } else { about };
+        match random.below(8) {
+            0 | 1 if never => 0,
+            2 => random.pick(&[4, about, about, rare]),
+            _ => rare,
+        }
+    };
+    for at in (0..640).chain(704..724).step_by(4) {
+        let number = instant(random, true);
+        put(&mut state, at, 4, number);
+    }
+    let mut open = Vec::new();
+    for bank in 0..32usize {
+        let free = bank % 16 == 0 || open.last() != Some(&(bank - 1));
+        if free && random.chance(2) {
+            let row = random.below(numbers[ROWS].into()) as u64;
+            put(&mut state, 640 + 2 * bank, 2, row + 1);
+            open.push(bank);
+        }
+    }
+    if !open.is_empty() && random.chance(2) {
+        let column = random.below(numbers[COLUMNS].into());
+        (state[724], state[725], state[726]) = (1, random.pick(&open) as u8, column as u8);
+        let number = instant(random, false);
+        put(&mut state, 728, 4, number);
+    }
+    let now = instant(random, false);
+    put(&mut state, 732, 4, now);
+    put(&mut state, 736, 2, random.below(32) as u64);
+    put(&mut state, 738, 2, random.below(0x10000) as u64);
+    state
+}
+
+/// Any states: a wait of 0 leaves every byte, and any request does what the plain planner does.
+#[test]
+fn any_states() {
+    let (mut seen, mut random) = (Numbers::default(), Random::new(73));
+    for _ in 0..120_000 {
+        let numbers = rule_numbers(&mut random);
+        let (state, maker) = (
+            any_state(&mut random, &numbers),
+            Maker::new(&mut random, &numbers),
+        );
+        let settings = bytes(&numbers);
+        let case = Case {
+            settings: &settings,
+            planner: &state,
+            request: &wait(0),
+            room: 0,
+        };
+        compare(&case, &Ok((vec![], state.clone())));
+        let request = maker.request(&mut random);
+        let some = random.below(ENOUGH);
+        let room = random.pick(&[ENOUGH, ENOUGH, ENOUGH, some]);
+        seen.add(call(&numbers, &state, &request, room));
+    }
+    let numbers = [0, 2, 3, 4, 5, 6, 7, 8, 13];
+    seen.report("plan, any states", &numbers);
+}
+
+/// The write waits, is read by its own place and by others, and a copy of the state goes on alike.
+#[test]
+fn a_copy_goes_on_alike() {
+    let numbers = set_h(2, 4, 0);
+    let mut run = Run::new(&numbers);
+    let mut seen = Seen::default();
+    run.call(&mut seen, &write(7, 1, 3, 0x0FF0, &[3; 16]), ENOUGH)
+        .unwrap();
+    let mut copy = run.clone();
+    for request in [read(7, 1, 2), read(7, 1, 3), bare(DRAIN)] {
+        run.call(&mut seen, &request, ENOUGH).unwrap();
+    }
+    for request in [read(7, 1, 2), read(7, 1, 3), bare(DRAIN)] {
+        copy.call(&mut seen, &request, ENOUGH).unwrap();
+    }
+    assert!(run.state == copy.state && run.list == copy.list);
+}

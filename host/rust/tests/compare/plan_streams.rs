@@ -1,0 +1,134 @@
+//! Streams of requests for the planner.
+
+use crate::random::Random;
+use crate::reference::{COLUMNS, ROWS};
+use crate::reference_state::put;
+
+pub const READ: u8 = 0;
+pub const WRITE: u8 = 1;
+pub const REFRESH: u8 = 2;
+pub const WAIT: u8 = 3;
+pub const DRAIN: u8 = 4;
+
+/// A request without place, mask and data.
+pub fn bare(kind: u8) -> Vec<u8> {
+    let mut request = vec![0; 24];
+    request[0] = kind;
+    request
+}
+
+pub fn read(bank: u8, row: u16, column: u8) -> Vec<u8> {
+    let mut request = bare(READ);
+    (request[1], request[4]) = (bank, column);
+    put(&mut request, 2, 2, row.into());
+    request
+}
+
+pub fn write(bank: u8, row: u16, column: u8, mask: u16, data: &[u8]) -> Vec<u8> {
+    let mut request = read(bank, row, column);
+    request[0] = WRITE;
+    put(&mut request, 6, 2, mask.into());
+    request[8..].copy_from_slice(data);
+    request
+}
+
+pub fn wait(cycles: u32) -> Vec<u8> {
+    let mut request = bare(WAIT);
+    put(&mut request, 8, 4, cycles.into());
+    request
+}
+
+/// Requests that often meet the same banks, rows and columns.
+pub struct Maker {
+    rows: u16,
+    columns: u16,
+    banks: [u8; 4],
+    row_choice: [u16; 3],
+    column_choice: [u8; 3],
+    /// One in so many requests is damaged, or none where it is 0.
+    damaged: usize,
+}
+
+impl Maker {
+    pub fn new(random: &mut Random, numbers: &[u16; 16]) -> Maker {
+        let (rows, columns) = (numbers[ROWS], numbers[COLUMNS]);
+        let (low, any) = (random.below(29) as u8, random.below(32) as u8);
+        let first = random.pick(&[0, 13, 14, 15, 28, low]);
+        let row = random.below(rows.into()) as u16;
+        let column = random.below(columns.into()) as u8;
+        Maker {
+            rows,
+            columns,
+            banks: [first, first + 1, first + 2, any],
+            row_choice: [0, rows - 1, row],
+            column_choice: [0, (columns - 1) as u8, column],
+            damaged: random.pick(&[0, 0, 0, 8]),
+        }
+    }
+
+    fn mask(random: &mut Random) -> u16 {
+        let any = random.word() as u16;
+        random.pick(&[0xFFFF, 0xFFFF, any, any, 0, 3, 0x8000, 0xFFFE])
+    }
+
+    fn cycles(random: &mut Random) -> u32 {
+        let (few, more) = (random.below(12) as u32, random.below(200) as u32);
+        random.pick(&[0, 1, few, few, more])
+    }
+
+    fn place(&self, random: &mut Random) -> (u8, u16, u8) {
+        let any = random.below(32) as u8;
+        let often = random.pick(&self.banks);
+        let bank = random.pick(&[often, often, often, any]);
+        let row = random.pick(&self.row_choice);
+        (bank, row, random.pick(&self.column_choice))
+    }
+
+    /// A request with right fields.
+    fn right(&self, random: &mut Random) -> Vec<u8> {
+        let (bank, row, column) = self.place(random);
+        match random.below(20) {
+            0..8 => read(bank, row, column),
+            8..15 => {
+                let (mask, data) = (Self::mask(random), random.bytes(16));
+                write(bank, row, column, mask, &data)
+            }
+            15 | 16 => bare(REFRESH),
+            17 | 18 => wait(Self::cycles(random)),
+            _ => bare(DRAIN),
+        }
+    }
+
+    /// Damages a request: a field at the first value out of range, a byte, or the length.
+    fn damage(&self, random: &mut Random, request: &mut Vec<u8>) {
+        match random.below(8) {
+            0 => request[1] = random.pick(&[31, 32, 33, 64, 255]),
+            1 => put(request, 2, 2, self.rows.into()),
+            2 => put(request, 4, 1, self.columns.into()),
+            3 => request[0] = random.pick(&[0, 1, 2, 3, 4, 5, 6, 255]),
+            4 => request[random.below(24)] = random.word() as u8,
+            5 => request.truncate(random.below(24)),
+            6 => request.extend(vec![0; 1 + random.below(24)]),
+            _ => request[random.below(24)] ^= 1 << random.below(8),
+        }
+    }
+
+    pub fn request(&self, random: &mut Random) -> Vec<u8> {
+        let mut request = self.right(random);
+        if self.damaged > 0 && random.chance(self.damaged) {
+            self.damage(random, &mut request);
+        }
+        request
+    }
+}
+
+/// Sixteen banks of which no two are neighbours: in each half, pairs of banks of which first the
+/// lower and then the upper is taken.
+pub fn sixteen_banks(random: &mut Random) -> Vec<u8> {
+    let turn = [random.below(9), random.below(9)];
+    let pairs = (0..16).map(|pair| {
+        let upper = pair % 8 >= turn[pair / 8];
+        (2 * pair + usize::from(upper)) as u8
+    });
+    pairs.collect()
+}

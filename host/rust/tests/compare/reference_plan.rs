@@ -1,0 +1,314 @@
+//! The planner as plain Rust, written from document 01 alone, by trying. It keeps every record that
+//! it has made, reads banks and the waiting write off that list, and tries each packet at now,
+//! now + 1, .. until it breaks none of the rules of `reference_rules` against all earlier records.
+
+use crate::reference::{
+    figures, number, word, Fields, Figures, ACT, NOCOP, PRER, RD, REFA, REFP, WR,
+};
+use crate::reference_rules::{self as rules, near, Step, Timings};
+use crate::reference_state::{
+    channel_bytes, channel_fits, open_row, put, tag, waiting, DUE, LAST, UNDER_REFRESH,
+};
+
+pub const STATE_BYTES: usize = 740;
+
+/// Refusal numbers.
+type Refused = u32;
+
+#[derive(Clone)]
+pub struct Planner {
+    figures: Figures,
+    timings: Timings,
+    /// Every record so far.
+    steps: Vec<Step>,
+    /// The data of each D, in order.
+    data: Vec<[u8; 16]>,
+    /// The mask of each write, in the order of their WR.
+    masks: Vec<u32>,
+    now: u64,
+    refresh: u32,
+}
+
+// ---- Requests ----
+
+enum Request {
+    Read {
+        at: Place,
+    },
+    Write {
+        at: Place,
+        mask: u32,
+        data: [u8; 16],
+    },
+    Refresh,
+    Wait {
+        cycles: u64,
+    },
+    Drain,
+}
+
+#[derive(Clone, Copy)]
+struct Place {
+    bank: u32,
+    row: u32,
+    column: u32,
+}
+
+/// Whether a request of a kind uses one of its bytes.
+fn used(kind: u8, byte: usize) -> bool {
+    match byte {
+        0 => true,
+        1..=4 => kind == 0 || kind == 1,
+        5 => false,
+        6 | 7 => kind == 1,
+        8..=11 => kind == 1 || kind == 3,
+        _ => kind == 1,
+    }
+}
+
+fn place(f: &Figures, request: &[u8]) -> Result<Place, Refused> {
+    let (bank, row, column) = (request[1], number(&request[2..4]), request[4]);
+    if bank > 31 {
+        return Err(4);
+    }
+    if row >= f.rows {
+        return Err(5);
+    }
+    if u64::from(column) >= f.columns {
+        return Err(6);
+    }
+    Ok(Place {
+        bank: bank.into(),
+        row: row as u32,
+        column: column.into(),
+    })
+}
+
+fn read_request(f: &Figures, request: &[u8]) -> Result<Request, Refused> {
+    if request.len() != 24 {
+        return Err(13);
+    }
+    let kind = request[0];
+    if kind > 4 {
+        return Err(2);
+    }
+    if (0..24).any(|i| !used(kind, i) && request[i] != 0) {
+        return Err(3);
+    }
+    Ok(match kind {
+        0 => Request::Read {
+            at: place(f, request)?,
+        },
+        1 => Request::Write {
+            at: place(f, request)?,
+            mask: number(&request[6..8]) as u32,
+            data: request[8..].try_into().unwrap(),
+        },
+        2 => Request::Refresh,
+        3 => Request::Wait {
+            cycles: number(&request[8..12]),
+        },
+        _ => Request::Drain,
+    })
+}
+
+// ---- Plans ----
+
+impl Planner {
+    /// A fresh planner, if the settings are not refused.
+    pub fn fresh(settings: &[u8]) -> Option<Planner> {
+        Some(Planner {
+            figures: figures(settings)?,
+            timings: Timings::of(settings),
+            steps: Vec::new(),
+            data: Vec::new(),
+            masks: Vec::new(),
+            now: 4,
+            refresh: 0,
+        })
+    }
+
+    pub fn now(&self) -> u64 {
+        self.now
+    }
+
+    /// The mask that a packet carries which retires the waiting write, or M = 0 where none waits.
+    fn carried(&self) -> u32 {
+        match waiting(&self.steps) {
+            Some(_) => *self.masks.last().expect("a mask of the waiting write"),
+            None => 0xFFFF,
+        }
+    }
+
+    /// Sends a packet at the first instant, from now on, at which it breaks no rule.
+    fn send(&mut self, command: u32, bank: u32, place: u32, mask: u32) -> Result<(), Refused> {
+        let packet = Fields {
+            command,
+            bank,
+            place,
+            mask,
+        };
+        let mut step = Step::new(&self.steps, self.now, Some(packet));
+        while !rules::broken(&self.timings, &self.steps, &step).none() {
+            step.at += 1;
+            if step.at > LAST {
+                return Err(7);
+            }
+            // No distance is longer than 64.
+            assert!(step.at < self.now + 100, "never legal: {step:?}");
+        }
+        self.now = step.at;
+        self.steps.push(step);
+        Ok(())
+    }
+
+    fn nocop(&mut self) -> Result<(), Refused> {
+        self.send(NOCOP, 0, 0, self.carried())
+    }
+
+    /// PRER, with a NOCOP before it where it would lose the waiting write.
+    fn close(&mut self, bank: u32) -> Result<(), Refused> {
+        if waiting(&self.steps).is_some_and(|(b, ..)| near(b, bank)) {
+            self.nocop()?;
+        }
+        self.send(PRER, bank, 0, 0)
+    }
+
+    fn close_open(&mut self, pick: impl Fn(u32) -> bool) -> Result<(), Refused> {
+        for bank in (0..32).filter(|b| pick(*b)) {
+            if open_row(&self.steps, bank).is_some() {
+                self.close(bank)?;
+            }
+        }
+        Ok(())
+    }
+
+    fn reach(&mut self, at: Place) -> Result<(), Refused> {
+        if open_row(&self.steps, at.bank) == Some(at.row) {
+            return Ok(());
+        }
+        self.close_open(|b| near(b, at.bank))?;
+        self.send(ACT, at.bank, at.row, 0)
+    }
+
+    fn read(&mut self, at: Place) -> Result<(), Refused> {
+        self.reach(at)?;
+        let own = |(bank, column, _)| (bank, column) == (at.bank, at.column);
+        if waiting(&self.steps).is_some_and(own) {
+            self.nocop()?;
+        }
+        self.send(RD, at.bank, at.column, 0xFFFF)
+    }
+
+    fn write(&mut self, at: Place, mask: u32, data: [u8; 16]) -> Result<(), Refused> {
+        self.reach(at)?;
+        self.send(WR, at.bank, at.column, self.carried())?;
+        self.masks.push(mask);
+        let d = Step::new(&self.steps, self.now + self.timings.cwd, None);
+        assert!(rules::broken(&self.timings, &self.steps, &d).none());
+        self.steps.push(d);
+        self.data.push(data);
+        Ok(())
+    }
+
+    fn refresh(&mut self) -> Result<(), Refused> {
+        let bank = self.refresh;
+        self.close_open(|b| near(b, bank))?;
+        self.send(REFA, bank, 0, 0)?;
+        self.send(REFP, bank, 0, 0)?;
+        self.refresh = (bank + 1) % 32;
+        Ok(())
+    }
+
+    fn wait(&mut self, cycles: u64) -> Result<(), Refused> {
+        self.now += cycles;
+        if self.now > LAST {
+            return Err(7);
+        }
+        Ok(())
+    }
+
+    fn drain(&mut self) -> Result<(), Refused> {
+        if waiting(&self.steps).is_some() {
+            self.nocop()?;
+        }
+        self.close_open(|_| true)
+    }
+
+    fn serve(&mut self, request: &[u8], room: usize) -> Result<(), Refused> {
+        let before = self.steps.len();
+        match read_request(&self.figures, request)? {
+            Request::Read { at } => self.read(at)?,
+            Request::Write { at, mask, data } => self.write(at, mask, data)?,
+            Request::Refresh => self.refresh()?,
+            Request::Wait { cycles } => self.wait(cycles)?,
+            Request::Drain => self.drain()?,
+        }
+        if room / 32 < self.steps.len() - before {
+            return Err(8);
+        }
+        Ok(())
+    }
+
+    /// The new records of a request with a room of so many bytes. A refusal changes nothing.
+    pub fn plan(&mut self, request: &[u8], room: usize) -> Result<Vec<u8>, Refused> {
+        let before = (self.steps.len(), self.data.len(), self.masks.len());
+        let (now, refresh) = (self.now, self.refresh);
+        if let Err(number) = self.serve(request, room) {
+            self.steps.truncate(before.0);
+            self.data.truncate(before.1);
+            self.masks.truncate(before.2);
+            (self.now, self.refresh) = (now, refresh);
+            return Err(number);
+        }
+        Ok(self.records(before.0, before.1))
+    }
+
+    /// The bytes of the records from one place of the list on, and of their data.
+    fn records(&self, first: usize, first_data: usize) -> Vec<u8> {
+        let steps = &self.steps[first..];
+        let (mut list, mut data) = (vec![0; 32 * steps.len()], self.data[first_data..].iter());
+        for (step, record) in steps.iter().zip(list.chunks_mut(32)) {
+            record[..4].copy_from_slice(&(step.at as u32).to_le_bytes());
+            if let Some(p) = step.packet {
+                record[4] = u8::from(p.command >= NOCOP);
+                let word = word(&self.figures, p).expect("a packet with a word");
+                record[8..16].copy_from_slice(&word.to_le_bytes());
+            } else {
+                record[4] = 2;
+                record[16..].copy_from_slice(data.next().expect("the data of a D"));
+            }
+        }
+        list
+    }
+
+    /// The commands of the list from one place on, None for a D.
+    pub fn commands(&self, records: usize) -> Vec<Option<u32>> {
+        let steps = &self.steps[self.steps.len() - records..];
+        steps.iter().map(|s| s.packet.map(|p| p.command)).collect()
+    }
+
+    // ---- State bytes ----
+
+    /// The planner's state in the layout of `rdram.h`, read off the list.
+    pub fn state(&self) -> Vec<u8> {
+        let mut state = channel_bytes(&self.steps);
+        state.resize(STATE_BYTES, 0);
+        put(&mut state, 732, 4, self.now);
+        put(&mut state, 736, 2, self.refresh.into());
+        let mask = self.masks.last().copied().unwrap_or(0);
+        put(&mut state, 738, 2, mask.into());
+        state
+    }
+}
+
+/// Whether bytes are a planner's state that is not refused under 1: no bank is under refresh and no
+/// data are due.
+pub fn state_fits(numbers: &[u16; 16], state: &[u8]) -> bool {
+    state.len() == STATE_BYTES
+        && channel_fits(numbers, state)
+        && (0..32).all(|bank| tag(state, bank) != UNDER_REFRESH)
+        && state[724] != DUE
+        && (4..=LAST).contains(&number(&state[732..736]))
+        && number(&state[736..738]) < 32
+}
