@@ -68,7 +68,7 @@ fn sum_right(b: &[u8]) -> bool
 }
 
 // Whether b is block k of a log, and its last block where last says so.
-pub fn block_right(b: &[u8], k: u64, last: bool) -> bool
+pub(crate) fn block_right(b: &[u8], k: u64, last: bool) -> bool
     requires { ⌜ length (now b) ≡ 512 ⌝ }
     ensures { λ r. ⌜ r ≡ blockRight k last (now (b .entry)) ⌝ }
 {
@@ -85,7 +85,7 @@ pub fn block_right(b: &[u8], k: u64, last: bool) -> bool
 }
 
 // Whether block k of a log is right there.
-pub fn right_at(log: &[u8], k: usize) -> bool
+pub(crate) fn right_at(log: &[u8], k: usize) -> bool
     requires { ⌜ k < blocksIn (now log) ⌝ }
     ensures { λ r. ⌜ r ≡ blockRight k (eqb (k + 1) (blocksIn (now (log .entry)))) (blockAt (now (log .entry)) k) ⌝ }
 {

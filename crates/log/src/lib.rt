@@ -1,9 +1,9 @@
 // Blocks of 512 bytes, and logs of them (document 01, "Blocks").
-pub mod block;
+mod block;
 pub mod copy;
 pub mod read;
-pub mod sum;
-pub mod write;
+mod sum;
+mod write;
 
 use record::Refusal;
 

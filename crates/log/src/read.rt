@@ -51,7 +51,7 @@ fn read_at(log: &[u8], k: usize, list: &mut [u8])
 }
 
 // Reads the list that a log of right blocks keeps.
-pub fn read_list(log: &[u8], list: &mut [u8])
+pub(crate) fn read_list(log: &[u8], list: &mut [u8])
     requires { ⌜ firstBadBlock (now log) ≡ blocksIn (now log) ⌝ }
     requires { ⌜ length (listOf (now log)) ≤ length (now list) ⌝ }
     ensures { λ _. ⌜ now (list .exit) ≡ splice (now (list .entry)) 0 (listOf (now (log .entry))) ⌝ }

@@ -20,7 +20,7 @@ fn write_body(b: &mut [u8], k: u32, recs: &[u8])
 }
 
 // Writes block k; its check word is the wrapping negative of the sum of the other words.
-pub fn write_block(b: &mut [u8], k: u32, recs: &[u8])
+pub(crate) fn write_block(b: &mut [u8], k: u32, recs: &[u8])
     requires { ⌜ (length (now b) ≡ 512) × (length (now recs) ≤ 480) ⌝ }
     ensures { λ _. ⌜ now (b .exit) ≡ block k (now (recs .entry)) ⌝ }
 {
@@ -50,7 +50,7 @@ fn write_at(log: &mut [u8], k: usize, list: &[u8])
 }
 
 // Writes the log of a list of records.
-pub fn write_log(list: &[u8], log: &mut [u8])
+pub(crate) fn write_log(list: &[u8], log: &mut [u8])
     requires { ⌜ 512 * blockCount (length (now list) / 32) ≤ length (now log) ⌝ }
     requires { ⌜ blockCount (length (now list) / 32) ≤ 2 ^ 32 ⌝ }
     ensures { λ _. ⌜ now (log .exit) ≡ splice (now (log .entry)) 0 (logOf (now (list .entry))) ⌝ }
