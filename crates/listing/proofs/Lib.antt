@@ -1,0 +1,6 @@
+pub mod TextLaws
+pub mod LineLaws
+pub mod RoomLaws
+pub mod Worked
+pub mod OutcomeLaws
+pub mod ListingLaws

@@ -1,0 +1,99 @@
+-- The starred runs of document 01 ("Bench runs"), as one list under one theorem: the listing of the bytes of their requests, which
+-- `put_listing` is proved to put, what the checker answers to an RD that comes too early, and two words.
+-- Assumes nothing.
+use Prim.Native.Nat.{ℕ}
+use Prim.Native.String.{String}
+use mathlib.Core.Path.{_≡_, refl}
+use mathlib.Core.List.{List, [], _∷_, _++_}
+use lib.ListN.{replicate}
+use Rattle.num.specs.Bytes.{bytes, number}
+use Rattle.num.specs.Search.{allUpTo, firstFalse}
+use Rattle.packet.specs.declared.RowPacket.the-variants.{Act}
+use Rattle.packet.specs.declared.ColPacket.the-variants.{Rd}
+use Rattle.packet.specs.Row.{deviceHead, rowFields, rowWord, rowOf, rowDecoded}
+use Rattle.packet.specs.Col.{maskBit, maskField, colFields, colWord, maskSaid, maskOf, colOf, colDecoded}
+use Rattle.record.specs.Record.{rowRecord, colRecord, recordOf, recordRead, isKnown, wellFormed, firstBad}
+use Rattle.record.specs.Refusal.{answerOf}
+use Rattle.record.specs.Request.{usesByte, spareRight, placed, requestOf, requestRead}
+use Rattle.rules.specs.Neighbour.{split}
+use Rattle.rules.specs.Packets.{rowTraits, colTraits, traits, instant, isPacket}
+use Rattle.rules.specs.History.{bankBy, bankAfter, isClosed, isOpen, waitingBy, waitingAfter, eventOf, events, keeps}
+use Rattle.rules.specs.Rules.{bankCount, dataDelay, dueAfter, rules, rule1, rule2, rule3, rule4, rule5, rule6, rule7, rule8, rule9, rule10, rule11, rule12, rule13, rule14, rule15, rule16}
+use Rattle.rules.specs.Broken.{lowest, lowestRule, firstBroken}
+use Rattle.rules.specs.Channel.{fresh, waitingOf, bankNext, trackNext, settled, bufferBy, bufferNext, afterPacket, afterData, after}
+use Rattle.rules.specs.Checks.{maxUpTo}
+use Rattle.rules.specs.Earliest.{placedAt, earliest}
+use Rattle.plan.specs.Planner.{freshPlanner}
+use Rattle.plan.specs.Plan.{slot, sent, flushed, closed, closedUpTo, reached, plannedRead, loaded, written, plannedWrite, turned, plannedRefresh, plannedWait, plannedDrain, stepsOf, planned}
+use Rattle.plan.specs.Call.{inTime, timely, outcomeOf, outcomeBy, planOutcome, isMade, draftBy, planNext, planRecords}
+use Rattle.checker.specs.declared.Judged.{Judged}
+use Rattle.checker.specs.declared.Judged.the-variants.{Passed, Refused}
+use Rattle.checker.specs.Check.{known, recordsUpTo as firstRecords, recordsOf, ruleAnswer, recordsAnswer, listAnswer}
+use Rattle.listing.specs.Text.{codes, digit, decimalIn, hexFour, dash, maskText, line, rowLine, colLine, recordLine}
+use Rattle.settings.specs.Bench.{setOf, setH}
+use Rattle.listing.specs.Listing.{recordLines, refusedLine, recordsLine, outcomeText, requestText, plannerAt, recordsUpTo, textUpTo, lengthRight, listing}
+
+-- ---- requests of 24 bytes
+
+-- kind, bank, row, column, the two bytes of the mask, and one byte for all data
+request : ℕ → ℕ → ℕ → ℕ → ℕ → ℕ → ℕ → List ℕ
+request kind bank row column low high fill = kind ∷ bank ∷ row ∷ 0 ∷ column ∷ 0 ∷ low ∷ high ∷ replicate 16 fill
+
+read : ℕ → ℕ → ℕ → List ℕ
+read bank row column = request 0 bank row column 0 0 0
+
+write : ℕ → ℕ → ℕ → ℕ → ℕ → ℕ → List ℕ
+write bank row column low high fill = request 1 bank row column low high fill
+
+refresh : List ℕ
+refresh = request 2 0 0 0 0 0 0
+
+drain : List ℕ
+drain = request 4 0 0 0 0 0 0
+
+-- ---- lines as text
+
+lines : List String → List ℕ
+lines [] = []
+lines (s ∷ l) = codes s ++ (10 ∷ lines l)
+
+-- ---- the runs
+
+-- number, rule and place of a refusal
+numbers : Judged → List ℕ
+numbers Passed = []
+numbers (Refused why) = answerOf why .number ∷ answerOf why .rule ∷ answerOf why .place ∷ []
+
+-- ACT 0/0 at 4 and RD 0/1 at 12, as records
+early : List ℕ
+early = (4 ∷ 0 ∷ 0 ∷ 0 ∷ 0 ∷ 0 ∷ 0 ∷ 0 ∷ 0x00 ∷ 0x10 ∷ 0x40 ∷ replicate 21 0) ++ (12 ∷ 0 ∷ 0 ∷ 0 ∷ 1 ∷ 0 ∷ 0 ∷ 0 ∷ 0x00 ∷ 0x00 ∷ 0x26 ∷ 0x00 ∷ 0x80 ∷ replicate 19 0)
+
+-- in document 01's order; the last two are the checker's answer and the two words
+pub runs : List (List ℕ)
+runs =
+    listing (read 0 0 1 ++ (write 0 0 1 0x03 0x00 1 ++ (read 0 0 1 ++ (read 1 0 0 ++ drain))))
+    ∷ listing (read 15 0 0 ++ read 16 0 0)
+    ∷ listing (read 14 0 0 ++ read 15 0 0)
+    ∷ listing (write 0 0 0 0xFF 0xFF 1 ++ read 0 1 0)
+    ∷ listing (refresh ++ refresh)
+    ∷ listing (write 0 0 0 0x03 0x00 1 ++ write 0 0 0 0x06 0x00 2)
+    ∷ numbers (listAnswer setH early)
+    ∷ (rowWord 0 (Act 0 0) ∷ colWord 0 (Rd 0 1 0xFFFF) ∷ [])
+    ∷ []
+
+-- what document 01 prints for them
+pub results : List (List ℕ)
+results =
+    lines ("4 ACT 0 0 -" ∷ "13 RD 0 1 -" ∷ "19 WR 0 1 -" ∷ "25 D 0 1 -" ∷ "27 NOCOP 0 0 0003" ∷ "31 RD 0 1 -" ∷ "35 PRER 0 0 -" ∷ "43 ACT 1 0 -" ∷ "52 RD 1 0 -" ∷ "63 PRER 1 0 -" ∷ "records 10" ∷ [])
+    ∷ lines ("4 ACT 15 0 -" ∷ "13 RD 15 0 -" ∷ "13 ACT 16 0 -" ∷ "22 RD 16 0 -" ∷ "records 4" ∷ [])
+    ∷ lines ("4 ACT 14 0 -" ∷ "13 RD 14 0 -" ∷ "24 PRER 14 0 -" ∷ "32 ACT 15 0 -" ∷ "41 RD 15 0 -" ∷ "records 5" ∷ [])
+    ∷ lines ("4 ACT 0 0 -" ∷ "5 WR 0 0 -" ∷ "11 D 0 0 -" ∷ "13 NOCOP 0 0 -" ∷ "24 PRER 0 0 -" ∷ "32 ACT 0 1 -" ∷ "41 RD 0 0 -" ∷ "records 7" ∷ [])
+    ∷ lines ("4 REFA 0 0 -" ∷ "24 REFP 0 0 -" ∷ "32 REFA 1 0 -" ∷ "52 REFP 1 0 -" ∷ "records 4" ∷ [])
+    ∷ lines ("4 ACT 0 0 -" ∷ "5 WR 0 0 -" ∷ "11 D 0 0 -" ∷ "13 WR 0 0 0003" ∷ "19 D 0 0 -" ∷ "records 5" ∷ [])
+    ∷ (11 ∷ 10 ∷ 1 ∷ [])
+    ∷ (0x401000 ∷ 0x8000260000 ∷ [])
+    ∷ []
+
+pub worked : runs ≡ results
+unfolding request read write refresh drain codes lines numbers early runs results bytes number allUpTo firstFalse deviceHead rowFields rowWord rowOf rowDecoded maskBit maskField colFields colWord maskSaid maskOf colOf colDecoded rowRecord colRecord recordOf recordRead isKnown wellFormed firstBad answerOf usesByte spareRight placed requestOf requestRead split rowTraits colTraits traits instant isPacket bankBy bankAfter isClosed isOpen waitingBy waitingAfter eventOf events bankCount dataDelay keeps dueAfter rules rule1 rule2 rule3 rule4 rule5 rule6 rule7 rule8 rule9 rule10 rule11 rule12 rule13 rule14 rule15 rule16 lowest lowestRule firstBroken fresh waitingOf bankNext trackNext settled bufferBy bufferNext afterPacket afterData after maxUpTo placedAt earliest freshPlanner slot sent flushed closed closedUpTo reached plannedRead loaded written plannedWrite turned plannedRefresh plannedWait plannedDrain stepsOf planned inTime timely outcomeOf outcomeBy planOutcome isMade draftBy planNext planRecords known firstRecords recordsOf ruleAnswer recordsAnswer listAnswer digit decimalIn hexFour dash maskText line rowLine colLine recordLine setOf setH recordLines refusedLine recordsLine outcomeText requestText plannerAt recordsUpTo textUpTo lengthRight listing
+worked = refl

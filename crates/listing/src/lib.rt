@@ -1,0 +1,63 @@
+// The listing program (document 01, "Bench runs"). The text is made whole before it is printed, so that one contract,
+// of `put_listing`, says all that is printed; only the reading of the input and the writing of the text are outside.
+mod lines;
+mod outcomes;
+mod requests;
+mod text;
+
+ghost use mathlib.Core.Path.{_≡_};
+ghost use Prim.Native.Nat.{_≤_};
+ghost use lib.ListN.{length};
+ghost use Rattle.listing.specs.Text.{Put};
+ghost use Rattle.listing.specs.Listing.{lengthRight, listingRoom, listing};
+use requests::put_requests;
+use text::put_records;
+use text::put_refused;
+
+// Room for the longest listing: 2,730 requests of at most 17 lines and the last line, each of at most 64 bytes.
+pub const ROOM: usize = 2_970_304;
+
+// Whether an input of n bytes is listed: whole requests, and no more than 2,730.
+fn length_right(n: usize) -> bool
+    ensures { λ r. ⌜ r ≡ lengthRight n ⌝ }
+{
+    if 65520 < n {
+        return false;
+    }
+    n % 24 == 0
+}
+
+// Puts the listing of an input.
+pub fn put_listing(input: &[u8], out: &mut [u8]) -> usize
+    requires { ⌜ listingRoom ≤ length (now out) ⌝ }
+    ensures { λ r. ⌜ Put (now (out .entry)) 0 (listing (now (input .entry))) (now (out .exit)) r ⌝ }
+{
+    if length_right(input.len()) {
+        let total = put_requests(input, out);
+        put_records(out, total.end, total.records)
+    } else {
+        let end = put_refused(out, 0, 13);
+        put_records(out, end, 0)
+    }
+}
+
+// Prints the first bytes of a text.
+fn print(text: &[u8], n: usize)
+    requires { ⌜ n ≤ length (now text) ⌝ }
+{
+    io::write_all(1, &text[..n]);
+}
+
+// Prints the listing of an input. The array's length is in its type, so nothing need be shown of 2,970,304 zeros.
+fn print_listing(input: &[u8], out: &mut [u8; ROOM]) {
+    let end = put_listing(input, out);
+    print(out, end);
+}
+
+// Prints the listing of standard input. An input that is longer than the buffer fills it, and 65,536 bytes are too many.
+pub fn run() {
+    let mut input = io::large_buffer();
+    let n = io::read_full(0, &mut input);
+    let mut out = [0u8; ROOM];
+    print_listing(&input[..n], &mut out);
+}

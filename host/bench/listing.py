@@ -1,0 +1,210 @@
+#!/usr/bin/env python3
+"""The listing of document 01 ("Bench runs"), written from that document alone: requests on standard input, lines on standard output.
+
+  listing.py            the listing of standard input
+  listing.py requests   the largest input, 2,730 requests of every kind, refused ones among them
+  listing.py test       compares the listing of each crates/run_*/stdin with the stdout beside it
+"""
+import glob
+import os
+import sys
+
+RC, RAS, RP, PP, RR, RCD, CC, CAC, CWD, RTR, RDP, RTP = 28, 20, 8, 8, 8, 9, 4, 8, 6, 8, 4, 4
+ROWS, COLUMNS, HORIZON = 2, 4, 1_000_000_000
+
+
+class Late(Exception):
+    pass
+
+
+def near(a, b):
+    return a == b or (abs(a - b) == 1 and a // 16 == b // 16)
+
+
+class Planner:
+    def __init__(self):
+        self.open = {}  # bank: row
+        self.write = None  # bank, column, mask, instant of the write in the buffer
+        self.turn = 0  # the bank of the next refresh
+        self.now = 4
+        self.past = []  # events (kind, bank, instant, banks closed) of the last 64 cycles: no gap is longer
+
+    def copy(self):
+        p = Planner()
+        p.__dict__.update(self.__dict__)
+        p.open, p.past = dict(self.open), list(self.past)
+        return p
+
+    def gap(self, event, kind, bank):
+        """The distance that the rules ask from an earlier event to a packet, or 0."""
+        old, other, _, closed = event
+        row, act, pre = ('ACT', 'PRER', 'REFA', 'REFP'), ('ACT', 'REFA'), ('PRER', 'REFP')
+        gaps = [0]
+        if old in row and kind in row:
+            gaps.append(4)
+        if old in ('RD', 'WR', 'NOCOP') and kind in ('RD', 'WR', 'NOCOP'):
+            gaps.append(CC)
+        if old in act and kind in act:
+            gaps.append(RC if near(other, bank) else RR)
+        if old in act and kind in pre and near(other, bank):
+            gaps.append(RAS)
+        if old in pre and kind in act and any(near(b, bank) for b in closed | {other}):
+            gaps.append(RP)
+        if old in pre and kind in pre:
+            gaps.append(PP)
+        if old == 'ACT' and kind == 'RD' and other == bank:
+            gaps.append(RCD)
+        if old == 'ACT' and kind == 'WR' and other == bank:
+            gaps.append(max(0, RCD - RTR))
+        if old == 'RD' and kind == 'WR':
+            gaps.append(CC + CAC - CWD)
+        if old in ('RD', 'retire') and kind in pre and near(other, bank):
+            gaps.append(RDP if old == 'RD' else RTP)
+        if self.write and kind in ('WR', 'NOCOP') and other == self.write[0]:
+            if old == 'ACT':
+                gaps.append(RCD)
+            if old == 'WR' and event[2] == self.write[3]:
+                gaps.append(RTR)
+        return max(gaps)
+
+    def send(self, kind, bank, place, lines):
+        at = max([self.now] + [e[2] + self.gap(e, kind, bank) for e in self.past])
+        if at > HORIZON or (kind == 'RD' and at + CAC > HORIZON) or (kind == 'WR' and at + CWD > HORIZON):
+            raise Late
+        mask = '-'
+        if kind in ('WR', 'NOCOP') and self.write:
+            mask = '-' if self.write[2] == 0xFFFF else '%04x' % self.write[2]
+            self.past.append(('retire', self.write[0], at, set()))
+            self.write = None
+        closed = set()
+        if kind in ('PRER', 'REFP'):
+            closed = {b for b in self.open if near(b, bank)} | {bank}
+            for b in closed:
+                self.open.pop(b, None)
+        if kind == 'ACT':
+            self.open[bank] = place
+        self.now = at
+        self.past = [e for e in self.past if e[2] + 64 >= at] + [(kind, bank, at, closed)]
+        lines.append('%d %s %d %d %s' % (at, kind, 0 if kind == 'NOCOP' else bank, place, mask))
+        return at
+
+    def close(self, banks, lines):
+        for b in banks:
+            if b in self.open:
+                if self.write and near(self.write[0], b):
+                    self.send('NOCOP', 0, 0, lines)
+                self.send('PRER', b, 0, lines)
+
+    def reach(self, bank, row, lines):
+        if self.open.get(bank) != row:
+            self.close([b for b in range(32) if near(b, bank)], lines)
+            self.send('ACT', bank, row, lines)
+
+    def request(self, r):
+        kind, bank, row, column, mask = r[0], r[1], r[2] + 256 * r[3], r[4], r[6] + 256 * r[7]
+        used = {0: {0, 1, 2, 3, 4}, 1: set(range(24)) - {5}, 2: {0}, 3: {0, 8, 9, 10, 11}, 4: {0}}
+        if kind > 4:
+            return 2
+        if any(r[i] for i in range(24) if i not in used[kind]):
+            return 3
+        if kind < 2:
+            if bank > 31:
+                return 4
+            if row >= ROWS:
+                return 5
+            if column >= COLUMNS:
+                return 6
+        lines = []
+        if kind < 2:
+            self.reach(bank, row, lines)
+        if kind == 0:
+            if self.write and self.write[:2] == (bank, column):
+                self.send('NOCOP', 0, 0, lines)
+            self.send('RD', bank, column, lines)
+        elif kind == 1:
+            at = self.send('WR', bank, column, lines)
+            lines.append('%d D %d %d -' % (at + CWD, bank, column))
+            self.write = (bank, column, mask, at)
+        elif kind == 2:
+            self.close([b for b in range(32) if near(b, self.turn)], lines)
+            self.send('REFA', self.turn, 0, lines)
+            self.send('REFP', self.turn, 0, lines)
+            self.turn = (self.turn + 1) % 32
+        elif kind == 3:
+            self.now += int.from_bytes(r[8:12], 'little')
+            if self.now > HORIZON:
+                return 7
+        else:
+            if self.write:
+                self.send('NOCOP', 0, 0, lines)
+            self.close(range(32), lines)
+        return lines
+
+
+def listing(data):
+    if len(data) > 65520 or len(data) % 24:
+        return 'refused 13\nrecords 0\n'
+    planner, out, records = Planner(), [], 0
+    for i in range(0, len(data), 24):
+        step = planner.copy()
+        try:
+            made = step.request(data[i : i + 24])
+        except Late:
+            made = 7
+        if isinstance(made, int):
+            out.append('refused %d' % made)
+        else:
+            planner, records = step, records + len(made)
+            out += made
+    return ''.join(line + '\n' for line in out + ['records %d' % records])
+
+
+def largest():
+    seed, out = 1, b''
+
+    def below(n):
+        nonlocal seed
+        seed = (seed * 1103515245 + 12345) % 2**31
+        return seed // 65536 % n
+
+    for i in range(2730):
+        r = bytearray(24)
+        pick = below(32)
+        if i % 300 < 16:  # every other bank opened, so that a drain has the most to close
+            r[0], r[1] = 0, 2 * (i % 300)
+        elif i % 300 == 16:
+            r[0], r[1], r[4], r[6] = 1, 30, below(4), below(256)
+        elif i % 300 == 17 or pick == 31:
+            r[0] = 4
+        elif pick < 28:
+            r[0], r[1], r[2], r[4] = pick % 2, below(33), below(32) // 15, below(33) // 8
+            if r[0]:
+                r[6:8] = b'\xff\xff' if below(4) == 0 else bytes((below(256), below(256)))
+                r[8:24] = bytes(below(256) for _ in range(16))
+        elif pick == 28:
+            r[0], r[8] = 3, below(256)
+        elif pick == 29:
+            r[0] = 2
+        else:
+            r[below(24)] = 5
+        out += bytes(r)
+    return out
+
+
+def test():
+    failed = 0
+    for name in sorted(glob.glob('crates/run_*/stdin')):
+        wanted = os.path.join(os.path.dirname(name), 'stdout')
+        with open(name, 'rb') as given, open(wanted) as text:
+            if listing(given.read()) != text.read():
+                failed += 1
+                print(wanted, 'differs')
+    sys.exit(failed != 0)
+
+
+if sys.argv[1:] == ['requests']:
+    sys.stdout.buffer.write(largest())
+elif sys.argv[1:] == ['test']:
+    test()
+else:
+    sys.stdout.write(listing(sys.stdin.buffer.read()))
