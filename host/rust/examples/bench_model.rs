@@ -197,6 +197,7 @@ fn compare_damaged(
 
 // ---- Times ----
 
+#[inline(never)] // so that instructions can be counted by call
 fn time_bytes(call: OnBytes, store: &mut [u8], list: &[Record]) -> f64 {
     let (settings, mut state, mut answer) = (SETTINGS.to_bytes(), fresh(), [0; 16]);
     timed(list.len(), || {

@@ -139,6 +139,7 @@ fn compare_damaged(x: &mut u64, settings: &[u8], state: &State, request: &Reques
 
 // ---- Times ----
 
+#[inline(never)] // so that instructions can be counted by call
 fn time_bytes(call: OnBytes, requests: &[Request]) -> f64 {
     let (settings, mut state, mut room) = (SETTINGS.to_bytes(), fresh(), [0; ROOM]);
     timed(requests.len(), || {

@@ -91,7 +91,7 @@ pub fn print_head() {
 
 pub fn print_row(call: &str, stream: &str, library: f64, plain: f64, tuned: Option<f64>) {
     let rival = |ns: f64| format!("{ns:.1} | {:.2}", library / ns);
-    let tuned = tuned.map_or("none | ".to_string(), rival);
+    let tuned = tuned.map_or("none |".to_string(), rival);
     println!(
         "| {call} | {stream} | {library:.1} | {} | {tuned} |",
         rival(plain)
