@@ -1,11 +1,14 @@
-//! Times `log_encode` and `log_decode` on 1,000,000 records, by the library and by plain Rust
-//! with the same checks: `bench [RECORDS [RUNS]]`.
+//! Times `log_encode` and `log_decode` on 1,000,000 records, and on a list that stays in the cache,
+//! by the library and by plain Rust with the same checks: `bench [RECORDS [RUNS]]`.
 
 mod common;
 
 use common::{below, best, print_head, print_row, timed, Size, SETTINGS};
 use rdram::{data_record, packet_record, word_encode, Kind, Packet, MASK_FULL};
 use std::hint::black_box;
+
+/// Records whose list and logs stay in the second-level cache.
+const IN_CACHE: usize = 3_000;
 
 /// The same calls in plain Rust, written for speed.
 mod plain {
@@ -224,16 +227,15 @@ fn plain_decode(settings: &[u8], log: &[u8], list: &mut [u8]) -> Option<usize> {
     plain::log_decode(settings, log, list).ok()
 }
 
-fn main() {
-    let size = Size::from_arguments(1_000_000, 21);
-    let (records, blocks) = (size.count, size.count.div_ceil(15));
+fn measure(records: usize, runs: usize) {
+    let (blocks, stream) = (records.div_ceil(15), format!("{records} records"));
     let settings = SETTINGS.to_bytes();
     let list = make_list(records);
     let (mut log, mut plain_log) = (vec![1; 512 * blocks], vec![1; 512 * blocks]);
     let (mut back, mut plain_back) = (vec![1; 32 * records], vec![1; 32 * records]);
 
     let [library, plain] = best(
-        size.runs,
+        runs,
         [
             &mut || {
                 timed(records, || {
@@ -248,11 +250,10 @@ fn main() {
         ],
     );
     assert!(log == plain_log, "other logs");
-    print_head();
-    print_row("`rdram_log_encode`", "visits of rows", library, plain, None);
+    print_row("`rdram_log_encode`", &stream, library, plain, None);
 
     let [library, plain] = best(
-        size.runs,
+        runs,
         [
             &mut || {
                 timed(records, || {
@@ -267,5 +268,14 @@ fn main() {
         ],
     );
     assert!(back == list && plain_back == list, "other records");
-    print_row("`rdram_log_decode`", "visits of rows", library, plain, None);
+    print_row("`rdram_log_decode`", &stream, library, plain, None);
+}
+
+fn main() {
+    let size = Size::from_arguments(1_000_000, 21);
+    print_head();
+    measure(size.count, size.runs);
+    if size.count > IN_CACHE {
+        measure(IN_CACHE, 100 * size.runs);
+    }
 }
