@@ -1,30 +1,14 @@
-//! Times `log_encode` and `log_decode` on 1,000,000 records, by the library and by plain Rust
-//! with the same checks. Run with `cargo run --release --offline --example bench`.
+//! Times `log_encode` and `log_decode` on 1,000,000 records, and on a list that stays in the cache,
+//! by the library and by plain Rust with the same checks: `bench [RECORDS [RUNS]]`.
 
-use rdram::{data_record, packet_record, word_encode, Kind, Packet, Settings, MASK_FULL};
+mod common;
+
+use common::{below, best, print_head, print_row, timed, Size, SETTINGS};
+use rdram::{data_record, packet_record, word_encode, Kind, Packet, MASK_FULL};
 use std::hint::black_box;
-use std::time::Instant;
 
-const RECORDS: usize = 1_000_000;
-const BLOCKS: usize = RECORDS.div_ceil(15);
-const RUNS: usize = 21;
-const SETTINGS: Settings = Settings {
-    t_rc: 28,
-    t_ras: 20,
-    t_rp: 8,
-    t_pp: 8,
-    t_rr: 8,
-    t_rcd: 9,
-    t_rtr: 8,
-    t_rdp: 4,
-    t_rtp: 4,
-    t_cc: 4,
-    t_cac: 8,
-    t_cwd: 6,
-    rows: 512,
-    columns: 128,
-    device: 5,
-};
+/// Records whose list and logs stay in the second-level cache.
+const IN_CACHE: usize = 3_000;
 
 /// The same calls in plain Rust, written for speed.
 mod plain {
@@ -181,20 +165,12 @@ mod plain {
     }
 }
 
-/// xorshift64, below `n`.
-fn below(state: &mut u64, n: u64) -> u64 {
-    *state ^= *state << 13;
-    *state ^= *state >> 7;
-    *state ^= *state << 17;
-    (*state >> 32) % n
-}
-
 /// Visits of rows: ACT, one to eight reads or writes with their data, NOCOP, PRER.
-fn make_list() -> Vec<u8> {
+fn make_list(records: usize) -> Vec<u8> {
     let mut list: Vec<u8> = Vec::new();
     let (mut x, mut instant) = (0x1234_5678_9ABC_DEF1, 4);
     let word = |packet| word_encode(&SETTINGS, packet).expect("a packet with a word");
-    while list.len() < 32 * RECORDS {
+    while list.len() < 32 * records {
         let (bank, row) = (below(&mut x, 32) as u8, below(&mut x, 512) as u16);
         list.extend(packet_record(
             instant,
@@ -237,84 +213,69 @@ fn make_list() -> Vec<u8> {
         ));
         instant += 20;
     }
-    list.truncate(32 * RECORDS);
+    list.truncate(32 * records);
     list
 }
 
-/// Nanoseconds a record of one call, whose answer must be `count`.
-fn time(count: usize, call: impl FnOnce() -> Option<usize>) -> f64 {
-    let start = Instant::now();
-    let answer = black_box(call());
-    let elapsed = start.elapsed();
-    assert_eq!(answer, Some(count));
-    elapsed.as_secs_f64() * 1e9 / RECORDS as f64
+#[inline(never)]
+fn plain_encode(settings: &[u8], list: &[u8], log: &mut [u8]) -> Option<usize> {
+    plain::log_encode(settings, list, log).ok()
 }
 
-/// Best times of the library and of plain Rust, in turns.
-fn compare(
-    count: usize,
-    mut library: impl FnMut() -> Option<usize>,
-    mut plain: impl FnMut() -> Option<usize>,
-) -> (f64, f64) {
-    let mut best = (f64::MAX, f64::MAX);
-    for _ in 0..RUNS {
-        best.0 = best.0.min(time(count, &mut library));
-        best.1 = best.1.min(time(count, &mut plain));
-    }
-    best
+#[inline(never)]
+fn plain_decode(settings: &[u8], log: &[u8], list: &mut [u8]) -> Option<usize> {
+    plain::log_decode(settings, log, list).ok()
 }
 
-fn print(name: &str, (library, plain): (f64, f64)) {
-    println!(
-        "{name:<12}{library:>20.2}{plain:>20.2}{:>20.2}",
-        library / plain
+fn measure(records: usize, runs: usize) {
+    let (blocks, stream) = (records.div_ceil(15), format!("{records} records"));
+    let settings = SETTINGS.to_bytes();
+    let list = make_list(records);
+    let (mut log, mut plain_log) = (vec![1; 512 * blocks], vec![1; 512 * blocks]);
+    let (mut back, mut plain_back) = (vec![1; 32 * records], vec![1; 32 * records]);
+
+    let [library, plain] = best(
+        runs,
+        [
+            &mut || {
+                timed(records, || {
+                    rdram::log_encode(&SETTINGS, black_box(&list), &mut log)
+                })
+            },
+            &mut || {
+                timed(records, || {
+                    plain_encode(&settings, black_box(&list), &mut plain_log)
+                })
+            },
+        ],
     );
+    assert!(log == plain_log, "other logs");
+    print_row("`rdram_log_encode`", &stream, library, plain, None);
+
+    let [library, plain] = best(
+        runs,
+        [
+            &mut || {
+                timed(records, || {
+                    rdram::log_decode(&SETTINGS, black_box(&log), &mut back)
+                })
+            },
+            &mut || {
+                timed(records, || {
+                    plain_decode(&settings, black_box(&log), &mut plain_back)
+                })
+            },
+        ],
+    );
+    assert!(back == list && plain_back == list, "other records");
+    print_row("`rdram_log_decode`", &stream, library, plain, None);
 }
 
 fn main() {
-    let settings = SETTINGS.to_bytes();
-    let list = make_list();
-    let (mut log, mut plain_log) = (vec![1; 512 * BLOCKS], vec![1; 512 * BLOCKS]);
-    let (mut back, mut plain_back) = (vec![1; 32 * RECORDS], vec![1; 32 * RECORDS]);
-
-    let encode = compare(
-        BLOCKS,
-        || rdram::log_encode(&SETTINGS, black_box(&list), black_box(&mut log)).ok(),
-        || {
-            plain::log_encode(
-                black_box(&settings),
-                black_box(&list),
-                black_box(&mut plain_log),
-            )
-            .ok()
-        },
-    );
-    assert!(
-        log == plain_log,
-        "library and plain Rust wrote different logs"
-    );
-    let decode = compare(
-        RECORDS,
-        || rdram::log_decode(&SETTINGS, black_box(&log), black_box(&mut back)).ok(),
-        || {
-            plain::log_decode(
-                black_box(&settings),
-                black_box(&log),
-                black_box(&mut plain_back),
-            )
-            .ok()
-        },
-    );
-    assert!(
-        back == list && plain_back == list,
-        "the records came back changed"
-    );
-
-    println!("{RECORDS} records, {BLOCKS} blocks, best of {RUNS} runs");
-    println!(
-        "{:<12}{:>20}{:>20}{:>20}",
-        "call", "library ns/record", "plain ns/record", "library / plain"
-    );
-    print("log_encode", encode);
-    print("log_decode", decode);
+    let size = Size::from_arguments(1_000_000, 21);
+    print_head();
+    measure(size.count, size.runs);
+    if size.count > IN_CACHE {
+        measure(IN_CACHE, 100 * size.runs);
+    }
 }

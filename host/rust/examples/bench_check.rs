@@ -1,30 +1,12 @@
 //! Times `check` on a legal list of 1,000,000 records, by the library and by plain Rust that makes
-//! the same tests. Run with `cargo run --release --offline --example bench_check`.
+//! the same tests: `bench_check [RECORDS [RUNS]]`.
 
+mod common;
+
+use common::{below, best, print_head, print_row, timed, Size, SETTINGS};
 use plain::Checker;
-use rdram::{data_record, packet_record, word_encode, Kind, Packet, Refusal, Settings, MASK_FULL};
+use rdram::{data_record, packet_record, word_encode, Kind, Packet, Refusal, MASK_FULL};
 use std::hint::black_box;
-use std::time::Instant;
-
-const RECORDS: usize = 1_000_000;
-const RUNS: usize = 21;
-const SETTINGS: Settings = Settings {
-    t_rc: 28,
-    t_ras: 20,
-    t_rp: 8,
-    t_pp: 8,
-    t_rr: 8,
-    t_rcd: 9,
-    t_rtr: 8,
-    t_rdp: 4,
-    t_rtp: 4,
-    t_cc: 4,
-    t_cac: 8,
-    t_cwd: 6,
-    rows: 512,
-    columns: 128,
-    device: 5,
-};
 
 /// The check in plain Rust, written for speed: one pass, with the first instant that each rule
 /// still allows.
@@ -395,14 +377,6 @@ mod plain {
     }
 }
 
-/// A number below n.
-fn below(x: &mut u64, n: u64) -> u64 {
-    *x ^= *x << 13;
-    *x ^= *x >> 7;
-    *x ^= *x << 17;
-    (*x >> 33) % n
-}
-
 fn random_packet(x: &mut u64) -> (Kind, Packet) {
     let (bank, row, column) = (
         below(x, 32) as u8,
@@ -425,10 +399,10 @@ fn random_packet(x: &mut u64) -> (Kind, Packet) {
 }
 
 /// A legal list: each packet at the least instant that the rules allow, banks interleaved.
-fn make_list() -> Vec<u8> {
+fn make_list(records: usize) -> Vec<u8> {
     let mut checker = Checker::new(&SETTINGS.to_bytes()).unwrap();
     let (mut list, mut now, mut x) = (Vec::new(), 4, 0x9E37_79B9_7F4A_7C15);
-    while list.len() < 32 * RECORDS {
+    while list.len() < 32 * records {
         let (kind, packet) = random_packet(&mut x);
         let word = word_encode(&SETTINGS, packet).unwrap();
         for at in now.. {
@@ -450,7 +424,7 @@ fn make_list() -> Vec<u8> {
             }
         }
     }
-    list.truncate(32 * RECORDS);
+    list.truncate(32 * records);
     list
 }
 
@@ -466,10 +440,10 @@ fn compare_answers(list: &[u8]) {
     let settings = SETTINGS.to_bytes();
     assert_eq!(rdram::check(&SETTINGS, list), Ok(()));
     assert_eq!(plain::check(&settings, list), Ok(()));
-    let mut x = 7;
-    for _ in 0..2_000 {
-        let mut part = list[..32 * 1_000].to_vec();
-        let record = 32 * below(&mut x, 1_000) as usize;
+    let (mut x, records) = (7, (list.len() / 32).min(1_000));
+    for _ in 0..2 * records {
+        let mut part = list[..32 * records].to_vec();
+        let record = 32 * below(&mut x, records as u64) as usize;
         let byte = [0, 0, 1, 4, 8, 9, 10, 12][below(&mut x, 8) as usize];
         part[record + byte] ^= 1 << below(&mut x, 8);
         let answer = plain::check(&settings, &part);
@@ -477,31 +451,23 @@ fn compare_answers(list: &[u8]) {
     }
 }
 
-/// Nanoseconds a record of one call that must pass.
-fn time(call: impl FnOnce() -> bool) -> f64 {
-    let start = Instant::now();
-    let passes = black_box(call());
-    let elapsed = start.elapsed();
-    assert!(passes);
-    elapsed.as_secs_f64() * 1e9 / RECORDS as f64
+#[inline(never)]
+fn plain_check(settings: &[u8], list: &[u8]) -> bool {
+    plain::check(settings, list).is_ok()
 }
 
 fn main() {
+    let size = Size::from_arguments(1_000_000, 21);
     let settings = SETTINGS.to_bytes();
-    let list = make_list();
+    let list = make_list(size.count);
     compare_answers(&list);
-    let (mut library, mut plain) = (f64::MAX, f64::MAX);
-    for _ in 0..RUNS {
-        library = library.min(time(|| rdram::check(&SETTINGS, black_box(&list)).is_ok()));
-        plain = plain.min(time(|| {
-            plain::check(black_box(&settings), black_box(&list)).is_ok()
-        }));
-    }
-    println!("{RECORDS} records, best of {RUNS} runs");
-    println!(
-        "{:<12}{:>20}{:>20}{:>20}",
-        "call", "library ns/record", "plain ns/record", "library / plain"
+    let [library, plain] = best(
+        size.runs,
+        [
+            &mut || timed(size.count, || rdram::check(&SETTINGS, black_box(&list))),
+            &mut || timed(size.count, || plain_check(&settings, black_box(&list))),
+        ],
     );
-    let ratio = library / plain;
-    println!("{:<12}{library:>20.2}{plain:>20.2}{ratio:>20.2}", "check");
+    print_head();
+    print_row("`rdram_check`", "legal list", library, plain, None);
 }

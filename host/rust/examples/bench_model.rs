@@ -1,44 +1,29 @@
-//! Times model calls by the library and by plain Rust, on the records of planned streams. Run with
-//! `cargo run --release --offline --example bench_model`.
+//! Times model calls on the records of planned streams, 100,000 each, by the library and by two
+//! rivals in plain Rust: `bench_model [RECORDS [RUNS [STREAM]]]`.
 //!
-//! Two rivals in plain Rust: one takes the same bytes as the C call and tests, decodes and encodes
-//! the model's 752 bytes each time; the other keeps its model in a struct between calls. The store
-//! is small enough to stay in the cache.
+//! The rivals take the same bytes as the C call, and test, decode and encode the model's 752 bytes
+//! each time. Further rows have the rivals without bytes: they keep their model between calls. The
+//! store is small enough to stay in the cache.
 
-#[path = "../tests/compare/plain_model.rs"]
-mod plain_model;
-#[path = "../tests/compare/plain_state.rs"]
-mod plain_state;
-mod streams;
+mod common;
+mod rivals;
 
-use plain_model::{Event, Model, MODEL_BYTES};
-use plain_state::Figures;
+use common::{below, best, print_head, print_row, streams, timed, Size};
 use rdram::{raw, Planner, Settings, RECORD_BYTES, REQUEST_BYTES, REQUEST_RECORDS};
+use rivals::plain::model as plain;
+use rivals::plain_model::{self as tuned, Event, Refused, MODEL_BYTES};
+use rivals::plain_state::Figures;
 use std::hint::black_box;
-use std::time::Instant;
 
-const RECORDS: usize = 100_000;
-const RUNS: usize = 15;
 const SETTINGS: Settings = Settings {
-    t_rc: 28,
-    t_ras: 20,
-    t_rp: 8,
-    t_pp: 8,
-    t_rr: 8,
-    t_rcd: 9,
-    t_rtr: 8,
-    t_rdp: 4,
-    t_rtp: 4,
-    t_cc: 4,
-    t_cac: 8,
-    t_cwd: 6,
     rows: 16,
     columns: 32,
-    device: 5,
+    ..common::SETTINGS
 };
 
 type Record = [u8; RECORD_BYTES];
-type Dualoct = [u8; 16];
+type State = [u8; MODEL_BYTES];
+type Answer = Result<Event, Refused>;
 
 /// The first records that a stream makes.
 fn records(requests: &[[u8; REQUEST_BYTES]]) -> Vec<Record> {
@@ -49,196 +34,223 @@ fn records(requests: &[[u8; REQUEST_BYTES]]) -> Vec<Record> {
         list.extend_from_slice(&room[..made.unwrap()]);
     }
     assert_eq!(rdram::check(&SETTINGS, list.as_flattened()), Ok(()));
-    list.truncate(RECORDS);
+    list.truncate(requests.len());
     list
 }
 
 // ---- Calls ----
 
-/// One way to run a model. A call answers its event as the C call does, with the bytes of a retire.
-trait Steps {
-    fn fresh(&mut self);
-    fn step(&mut self, store: &mut [u8], record: &Record, answer: &mut Dualoct) -> (u32, u32);
-}
-
-struct Library {
-    settings: [u8; 32],
-    state: [u8; MODEL_BYTES],
-}
-
-impl Steps for Library {
-    fn fresh(&mut self) {
-        // SAFETY: pointer and length are those of one array.
-        let number = unsafe { raw::rdram_model_fresh(self.state.as_mut_ptr(), self.state.len()) };
-        assert_eq!(number, 0);
-    }
-
-    fn step(&mut self, store: &mut [u8], record: &Record, answer: &mut Dualoct) -> (u32, u32) {
-        // SAFETY: each pointer and length are those of one slice, and the slices do not overlap.
-        let stepped = unsafe {
-            raw::rdram_model_step(
-                self.settings.as_ptr(),
-                self.settings.len(),
-                self.state.as_mut_ptr(),
-                self.state.len(),
-                store.as_mut_ptr(),
-                store.len(),
-                record.as_ptr(),
-                record.len(),
-                answer.as_mut_ptr(),
-                answer.len(),
-            )
-        };
-        assert_eq!(stepped.number, 0);
-        (stepped.event, stepped.bytes)
-    }
-}
-
-fn event(event: Option<Event>) -> (u32, u32) {
-    match event.unwrap() {
-        Event::Neither => (0, 0),
-        Event::Read => (1, 0),
-        Event::Retired(bytes) => (2, bytes),
-    }
-}
-
-struct PlainBytes {
-    settings: [u8; 32],
-    state: [u8; MODEL_BYTES],
-}
-
-/// Kept out of the timing loop, as the library's call is.
-#[inline(never)]
-fn plain_call(
+fn library(
     settings: &[u8],
     state: &mut [u8],
     store: &mut [u8],
     record: &[u8],
     answer: &mut [u8],
-) -> Option<Event> {
-    plain_model::step(settings, state, store, record, answer).ok()
-}
-
-impl Steps for PlainBytes {
-    fn fresh(&mut self) {
-        Model::fresh().encode(&mut self.state);
+) -> Answer {
+    // SAFETY: each pointer and length are those of one slice, and the slices do not overlap.
+    let stepped = unsafe {
+        raw::rdram_model_step(
+            settings.as_ptr(),
+            settings.len(),
+            state.as_mut_ptr(),
+            state.len(),
+            store.as_mut_ptr(),
+            store.len(),
+            record.as_ptr(),
+            record.len(),
+            answer.as_mut_ptr(),
+            answer.len(),
+        )
+    };
+    let raw::Stepped { number, rule, .. } = stepped;
+    match (number, stepped.event) {
+        (0, 0) => Ok(Event::Neither),
+        (0, 1) => Ok(Event::Read),
+        (0, _) => Ok(Event::Retired(stepped.bytes)),
+        _ => Err(Refused { number, rule }),
     }
-
-    fn step(&mut self, store: &mut [u8], record: &Record, answer: &mut Dualoct) -> (u32, u32) {
-        let state = &mut self.state;
-        event(plain_call(&self.settings, state, store, record, answer))
-    }
-}
-
-struct PlainStruct {
-    figures: Figures,
-    model: Model,
 }
 
 #[inline(never)]
-fn struct_call(
-    model: &mut Model,
+fn plain_bytes(
+    settings: &[u8],
+    state: &mut [u8],
+    store: &mut [u8],
+    record: &[u8],
+    answer: &mut [u8],
+) -> Answer {
+    plain::step(settings, state, store, record, answer)
+}
+
+#[inline(never)]
+fn tuned_bytes(
+    settings: &[u8],
+    state: &mut [u8],
+    store: &mut [u8],
+    record: &[u8],
+    answer: &mut [u8],
+) -> Answer {
+    tuned::step(settings, state, store, record, answer)
+}
+
+#[inline(never)]
+fn plain_kept(
+    model: &mut plain::Model,
     f: &Figures,
     store: &mut [u8],
     record: &[u8],
     answer: &mut [u8],
-) -> Option<Event> {
-    model.step(f, store, record, answer).ok()
+) -> Answer {
+    let (next, event) = model.step(f, store, record, answer)?;
+    *model = next;
+    Ok(event)
 }
 
-impl Steps for PlainStruct {
-    fn fresh(&mut self) {
-        self.model = Model::fresh();
-    }
-
-    fn step(&mut self, store: &mut [u8], record: &Record, answer: &mut Dualoct) -> (u32, u32) {
-        let (model, f) = (&mut self.model, &self.figures);
-        event(struct_call(model, f, store, record, answer))
-    }
+#[inline(never)]
+fn tuned_kept(
+    model: &mut tuned::Model,
+    f: &Figures,
+    store: &mut [u8],
+    record: &[u8],
+    answer: &mut [u8],
+) -> Answer {
+    model.step(f, store, record, answer)
 }
 
-// ---- Comparison and times ----
+type OnBytes = fn(&[u8], &mut [u8], &mut [u8], &[u8], &mut [u8]) -> Answer;
+type Kept<M> = fn(&mut M, &Figures, &mut [u8], &[u8], &mut [u8]) -> Answer;
 
-struct Three {
-    library: Library,
-    bytes: PlainBytes,
-    kept: PlainStruct,
+const ON_BYTES: [OnBytes; 3] = [library, plain_bytes, tuned_bytes];
+
+fn fresh() -> State {
+    let mut state = [0; MODEL_BYTES];
+    // SAFETY: pointer and length are those of one array.
+    let number = unsafe { raw::rdram_model_fresh(state.as_mut_ptr(), state.len()) };
+    assert_eq!(number, 0);
+    state
 }
 
-impl Three {
-    fn new() -> Three {
-        let settings = SETTINGS.to_bytes();
-        let state = [0; MODEL_BYTES];
-        Three {
-            library: Library { settings, state },
-            bytes: PlainBytes { settings, state },
-            kept: PlainStruct {
-                figures: Figures::of(&settings).unwrap(),
-                model: Model::fresh(),
-            },
-        }
-    }
+// ---- Comparison ----
 
-    /// All three answer the same to each record, and leave the same states and stores.
-    fn compare(&mut self, list: &[Record]) {
-        let first: Vec<u8> = (0..SETTINGS.store_bytes()).map(|i| (i * 7) as u8).collect();
-        let mut stores = [first.clone(), first.clone(), first];
-        self.library.fresh();
-        self.bytes.fresh();
-        self.kept.fresh();
-        for record in list {
-            let mut answers = [[1; 16]; 3];
-            let [a, b, c] = &mut answers;
-            let event = self.library.step(&mut stores[0], record, a);
-            assert_eq!(self.bytes.step(&mut stores[1], record, b), event);
-            assert_eq!(self.kept.step(&mut stores[2], record, c), event);
-            assert!(answers[0] == answers[1] && answers[0] == answers[2]);
-            assert!(self.library.state == self.bytes.state, "other states");
-        }
-        let mut state = [0; MODEL_BYTES];
-        self.kept.model.encode(&mut state);
-        assert!(self.library.state == state, "other states");
-        assert!(
-            stores[0] == stores[1] && stores[0] == stores[2],
-            "other stores"
-        );
-    }
-}
-
-/// Nanoseconds a record over one list from a fresh model.
-fn time(steps: &mut impl Steps, store: &mut [u8], list: &[Record]) -> f64 {
-    let mut answer = [0; 16];
-    steps.fresh();
-    let start = Instant::now();
+/// The library and the rivals answer the same to each record, and leave the same states and stores.
+fn compare(list: &[Record]) {
+    let (settings, mut x) = (SETTINGS.to_bytes(), 5);
+    let f = Figures::of(&settings).unwrap();
+    let first: Vec<u8> = (0..SETTINGS.store_bytes()).map(|i| (i * 7) as u8).collect();
+    let mut stores: [Vec<u8>; 5] = std::array::from_fn(|_| first.clone());
+    let mut damaged: [Vec<u8>; 3] = std::array::from_fn(|_| first.clone());
+    let mut states = [fresh(); 3];
+    let mut plain = plain::Model::fresh();
+    let mut tuned = tuned::Model::fresh();
     for record in list {
-        black_box(steps.step(store, black_box(record), &mut answer));
+        compare_damaged(&mut x, &settings, &states[0], &mut damaged, record);
+        let mut answers = [[1; 16]; 5];
+        let [rest @ .., a, b] = &mut answers;
+        let events = [0, 1, 2].map(|i| {
+            let store = &mut stores[i];
+            ON_BYTES[i](&settings, &mut states[i], store, record, &mut rest[i])
+        });
+        assert!(events[0].is_ok());
+        assert_eq!(events, [events[0]; 3]);
+        assert_eq!(
+            plain_kept(&mut plain, &f, &mut stores[3], record, a),
+            events[0]
+        );
+        assert_eq!(
+            tuned_kept(&mut tuned, &f, &mut stores[4], record, b),
+            events[0]
+        );
+        assert!(answers == [answers[0]; 5], "other answers");
+        let mut kept = [[0; MODEL_BYTES]; 2];
+        plain.encode(&mut kept[0]);
+        tuned.encode(&mut kept[1]);
+        assert!(states == [states[0]; 3], "other states");
+        assert!(kept == [states[0]; 2], "other states");
     }
-    start.elapsed().as_secs_f64() * 1e9 / list.len() as f64
+    assert!(stores.iter().all(|s| *s == stores[0]), "other stores");
+    assert!(damaged.iter().all(|s| *s == damaged[0]), "other stores");
+}
+
+/// A call with something changed, mostly refused, has the same answer and leaves the same bytes.
+fn compare_damaged(
+    x: &mut u64,
+    settings: &[u8],
+    state: &State,
+    stores: &mut [Vec<u8>; 3],
+    record: &Record,
+) {
+    let (mut state, mut record, mut room) = (*state, *record, 16);
+    let bit = 1 << below(x, 8);
+    match below(x, 8) {
+        0..4 => state[below(x, MODEL_BYTES as u64) as usize] ^= bit,
+        4..7 => record[below(x, RECORD_BYTES as u64) as usize] ^= bit,
+        _ => room = below(x, 16) as usize,
+    }
+    let results = [0, 1, 2].map(|i| {
+        let (mut state, mut answer, store) = (state, [1; 16], &mut stores[i]);
+        let event = ON_BYTES[i](settings, &mut state, store, &record, &mut answer[..room]);
+        (event, state, answer)
+    });
+    assert!(results[0] == results[1], "plain: another answer");
+    assert!(results[0] == results[2], "tuned: another answer");
+}
+
+// ---- Times ----
+
+#[inline(never)] // so that instructions can be counted by call
+fn time_bytes(call: OnBytes, store: &mut [u8], list: &[Record]) -> f64 {
+    let (settings, mut state, mut answer) = (SETTINGS.to_bytes(), fresh(), [0; 16]);
+    timed(list.len(), || {
+        for record in list {
+            let record = black_box(record);
+            _ = black_box(call(&settings, &mut state, store, record, &mut answer));
+        }
+    })
+}
+
+fn time_kept<M>(mut model: M, call: Kept<M>, store: &mut [u8], list: &[Record]) -> f64 {
+    let (f, mut answer) = (Figures::of(&SETTINGS.to_bytes()).unwrap(), [0; 16]);
+    timed(list.len(), || {
+        for record in list {
+            let record = black_box(record);
+            _ = black_box(call(&mut model, &f, store, record, &mut answer));
+        }
+    })
 }
 
 fn main() {
-    let mut three = Three::new();
-    let mut store = vec![0; SETTINGS.store_bytes()];
-    println!("{RECORDS} records a stream, best of {RUNS} runs, ns a record");
-    println!(
-        "{:<16}{:>10}{:>14}{:>10}{:>14}{:>10}",
-        "stream", "library", "plain, bytes", "ratio", "plain, struct", "ratio"
-    );
-    for (name, requests) in streams::all(&SETTINGS, RECORDS) {
-        let list = records(&requests);
-        assert_eq!(list.len(), RECORDS);
-        three.compare(&list);
-        let mut best = [f64::MAX; 3];
-        for _ in 0..RUNS {
-            best[0] = best[0].min(time(&mut three.library, &mut store, &list));
-            best[1] = best[1].min(time(&mut three.bytes, &mut store, &list));
-            best[2] = best[2].min(time(&mut three.kept, &mut store, &list));
-        }
-        let [library, bytes, kept] = best;
-        println!(
-            "{name:<16}{library:>10.1}{bytes:>14.1}{:>10.2}{kept:>14.1}{:>10.2}",
-            library / bytes,
-            library / kept
+    let size = Size::from_arguments(100_000, 15);
+    let all = streams::all(&SETTINGS, size.count);
+    let store = &std::cell::RefCell::new(vec![0; SETTINGS.store_bytes()]);
+    print_head();
+    for (name, requests) in all.iter().filter(|(name, _)| size.has(name)) {
+        let list = &records(requests);
+        assert_eq!(list.len(), size.count);
+        compare(list);
+        let bytes = |call| time_bytes(call, &mut store.borrow_mut(), list);
+        let [library, plain, tuned, plain_kept, tuned_kept] = best(
+            size.runs,
+            [
+                &mut || bytes(library),
+                &mut || bytes(plain_bytes),
+                &mut || bytes(tuned_bytes),
+                &mut || {
+                    let fresh = plain::Model::fresh();
+                    time_kept(fresh, plain_kept, &mut store.borrow_mut(), list)
+                },
+                &mut || {
+                    let fresh = tuned::Model::fresh();
+                    time_kept(fresh, tuned_kept, &mut store.borrow_mut(), list)
+                },
+            ],
+        );
+        print_row("`rdram_model_step`", name, library, plain, Some(tuned));
+        print_row(
+            "`rdram_model_step`, rivals without bytes",
+            name,
+            library,
+            plain_kept,
+            Some(tuned_kept),
         );
     }
 }

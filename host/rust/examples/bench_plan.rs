@@ -1,203 +1,186 @@
-//! Times plan calls by the library and by plain Rust, on streams of 100,000 requests. Run with
-//! `cargo run --release --offline --example bench_plan`.
+//! Times plan calls on streams of 100,000 requests, by the library and by two rivals in plain Rust:
+//! `bench_plan [REQUESTS [RUNS [STREAM]]]`.
 //!
-//! Two rivals in plain Rust: one takes the same bytes as the C call and tests, decodes and encodes
-//! the planner's 740 bytes each time; the other keeps its planner in a struct between calls.
+//! The rivals take the same bytes as the C call, and test, decode and encode the planner's 740 bytes
+//! each time. Further rows have the rivals without bytes: they keep their planner between calls.
 
-#[path = "../tests/compare/plain_plan.rs"]
-mod plain_plan;
-#[path = "../tests/compare/plain_state.rs"]
-mod plain_state;
-mod streams;
+mod common;
+mod rivals;
 
-use plain_plan::{Planner, STATE_BYTES};
-use plain_state::Figures;
-use rdram::{raw, Settings, RECORD_BYTES, REQUEST_BYTES, REQUEST_RECORDS};
+use common::{below, best, print_head, print_row, streams, timed, Size, SETTINGS};
+use rdram::{raw, RECORD_BYTES, REQUEST_BYTES, REQUEST_RECORDS};
+use rivals::plain::planner as plain;
+use rivals::plain_plan::{self as tuned, STATE_BYTES};
+use rivals::plain_state::{Figures, LAST};
 use std::hint::black_box;
-use std::time::Instant;
 
-const REQUESTS: usize = 100_000;
-const RUNS: usize = 15;
 const ROOM: usize = REQUEST_RECORDS * RECORD_BYTES;
-const SETTINGS: Settings = Settings {
-    t_rc: 28,
-    t_ras: 20,
-    t_rp: 8,
-    t_pp: 8,
-    t_rr: 8,
-    t_rcd: 9,
-    t_rtr: 8,
-    t_rdp: 4,
-    t_rtp: 4,
-    t_cc: 4,
-    t_cac: 8,
-    t_cwd: 6,
-    rows: 512,
-    columns: 128,
-    device: 5,
-};
 
-type Bytes = [u8; REQUEST_BYTES];
-type Room = [u8; ROOM];
+type Request = [u8; REQUEST_BYTES];
+type State = [u8; STATE_BYTES];
+/// The number of records, or that of a refusal.
+type Answer = Result<usize, u32>;
 
 // ---- Calls ----
 
-/// One way to plan a stream. A call answers the number of records.
-trait Plans {
-    fn fresh(&mut self);
-    fn plan(&mut self, request: &Bytes, room: &mut Room) -> usize;
-}
-
-struct Library {
-    settings: [u8; 32],
-    state: [u8; STATE_BYTES],
-}
-
-impl Plans for Library {
-    fn fresh(&mut self) {
-        // SAFETY: pointer and length are those of one array.
-        let number = unsafe { raw::rdram_planner_fresh(self.state.as_mut_ptr(), self.state.len()) };
-        assert_eq!(number, 0);
+fn library(settings: &[u8], state: &mut [u8], request: &[u8], room: &mut [u8]) -> Answer {
+    // SAFETY: each pointer and length are those of one slice, and the slices do not overlap.
+    let planned = unsafe {
+        raw::rdram_plan(
+            settings.as_ptr(),
+            settings.len(),
+            state.as_mut_ptr(),
+            state.len(),
+            request.as_ptr(),
+            request.len(),
+            room.as_mut_ptr(),
+            room.len(),
+        )
+    };
+    match planned.number {
+        0 => Ok(planned.records as usize),
+        number => Err(number),
     }
-
-    fn plan(&mut self, request: &Bytes, room: &mut Room) -> usize {
-        // SAFETY: each pointer and length are those of one array, and the arrays do not overlap.
-        let planned = unsafe {
-            raw::rdram_plan(
-                self.settings.as_ptr(),
-                self.settings.len(),
-                self.state.as_mut_ptr(),
-                self.state.len(),
-                request.as_ptr(),
-                request.len(),
-                room.as_mut_ptr(),
-                room.len(),
-            )
-        };
-        assert_eq!(planned.number, 0);
-        planned.records as usize
-    }
-}
-
-struct PlainBytes {
-    settings: [u8; 32],
-    state: [u8; STATE_BYTES],
-}
-
-/// Kept out of the timing loop, as the library's call is.
-#[inline(never)]
-fn plain_call(settings: &[u8], state: &mut [u8], request: &[u8], room: &mut [u8]) -> Option<usize> {
-    plain_plan::plan(settings, state, request, room).ok()
-}
-
-impl Plans for PlainBytes {
-    fn fresh(&mut self) {
-        Planner::fresh().encode(&mut self.state);
-    }
-
-    fn plan(&mut self, request: &Bytes, room: &mut Room) -> usize {
-        plain_call(&self.settings, &mut self.state, request, room).unwrap()
-    }
-}
-
-struct PlainStruct {
-    figures: Figures,
-    planner: Planner,
 }
 
 #[inline(never)]
-fn struct_call(p: &mut Planner, f: &Figures, request: &[u8], room: &mut [u8]) -> Option<usize> {
-    p.plan(f, request, room).ok()
+fn plain_bytes(settings: &[u8], state: &mut [u8], request: &[u8], room: &mut [u8]) -> Answer {
+    plain::plan(settings, state, request, room)
 }
 
-impl Plans for PlainStruct {
-    fn fresh(&mut self) {
-        self.planner = Planner::fresh();
-    }
-
-    fn plan(&mut self, request: &Bytes, room: &mut Room) -> usize {
-        struct_call(&mut self.planner, &self.figures, request, room).unwrap()
-    }
+#[inline(never)]
+fn tuned_bytes(settings: &[u8], state: &mut [u8], request: &[u8], room: &mut [u8]) -> Answer {
+    tuned::plan(settings, state, request, room)
 }
 
-// ---- Comparison and times ----
-
-struct Three {
-    library: Library,
-    bytes: PlainBytes,
-    kept: PlainStruct,
+#[inline(never)]
+fn plain_kept(
+    planner: &mut plain::Planner,
+    f: &Figures,
+    request: &[u8],
+    room: &mut [u8],
+) -> Answer {
+    let (next, records) = planner.plan(f, request, room)?;
+    *planner = next;
+    Ok(records)
 }
 
-impl Three {
-    fn new() -> Three {
-        let settings = SETTINGS.to_bytes();
-        let state = [0; STATE_BYTES];
-        Three {
-            library: Library { settings, state },
-            bytes: PlainBytes { settings, state },
-            kept: PlainStruct {
-                figures: Figures::of(&settings).unwrap(),
-                planner: Planner::fresh(),
-            },
-        }
-    }
-
-    /// All three make the same records, which pass the check, and the same states. Answers the
-    /// number of records.
-    fn compare(&mut self, requests: &[Bytes]) -> usize {
-        let mut list = Vec::new();
-        self.library.fresh();
-        self.bytes.fresh();
-        self.kept.fresh();
-        for request in requests {
-            let mut rooms = [[1; ROOM]; 3];
-            let used = self.library.plan(request, &mut rooms[0]);
-            assert_eq!(self.bytes.plan(request, &mut rooms[1]), used);
-            assert_eq!(self.kept.plan(request, &mut rooms[2]), used);
-            assert!(
-                rooms[0] == rooms[1] && rooms[0] == rooms[2],
-                "other records"
-            );
-            assert!(self.library.state == self.bytes.state, "other states");
-            list.extend_from_slice(&rooms[0][..RECORD_BYTES * used]);
-        }
-        assert_eq!(rdram::check(&SETTINGS, &list), Ok(()));
-        list.len() / RECORD_BYTES
-    }
+#[inline(never)]
+fn tuned_kept(
+    planner: &mut tuned::Planner,
+    f: &Figures,
+    request: &[u8],
+    room: &mut [u8],
+) -> Answer {
+    planner.plan(f, request, room)
 }
 
-/// Nanoseconds a request over one stream from a fresh planner.
-fn time(plans: &mut impl Plans, requests: &[Bytes]) -> f64 {
-    let mut room = [0; ROOM];
-    plans.fresh();
-    let start = Instant::now();
+type OnBytes = fn(&[u8], &mut [u8], &[u8], &mut [u8]) -> Answer;
+type Kept<P> = fn(&mut P, &Figures, &[u8], &mut [u8]) -> Answer;
+
+const ON_BYTES: [OnBytes; 3] = [library, plain_bytes, tuned_bytes];
+
+fn fresh() -> State {
+    let mut state = [0; STATE_BYTES];
+    // SAFETY: pointer and length are those of one array.
+    let number = unsafe { raw::rdram_planner_fresh(state.as_mut_ptr(), state.len()) };
+    assert_eq!(number, 0);
+    state
+}
+
+// ---- Comparison ----
+
+/// The library and the rivals make the same records, which pass the check, and the same states.
+fn compare(requests: &[Request]) {
+    let (settings, mut list, mut x) = (SETTINGS.to_bytes(), Vec::new(), 5);
+    let f = Figures::of(&settings).unwrap();
+    let mut states = [fresh(); 3];
+    let mut plain = plain::Planner::fresh();
+    let mut tuned = tuned::Planner::fresh();
     for request in requests {
-        black_box(plans.plan(black_box(request), &mut room));
+        compare_damaged(&mut x, &settings, &states[0], request);
+        let mut rooms = [[1; ROOM]; 5];
+        let [rest @ .., a, b] = &mut rooms;
+        let answers =
+            [0, 1, 2].map(|i| ON_BYTES[i](&settings, &mut states[i], request, &mut rest[i]));
+        let used = answers[0].unwrap();
+        assert_eq!(answers, [Ok(used); 3]);
+        assert_eq!(plain_kept(&mut plain, &f, request, a), Ok(used));
+        assert_eq!(tuned_kept(&mut tuned, &f, request, b), Ok(used));
+        assert!(rooms == [rooms[0]; 5], "other records");
+        let mut kept = [[0; STATE_BYTES]; 2];
+        plain.encode(&mut kept[0]);
+        tuned.encode(&mut kept[1]);
+        assert!(states == [states[0]; 3], "other states");
+        assert!(kept == [states[0]; 2], "other states");
+        list.extend_from_slice(&rooms[0][..RECORD_BYTES * used]);
     }
-    start.elapsed().as_secs_f64() * 1e9 / requests.len() as f64
+    assert_eq!(rdram::check(&SETTINGS, &list), Ok(()));
+}
+
+/// A call with something changed, mostly refused, has the same answer and leaves the same bytes.
+fn compare_damaged(x: &mut u64, settings: &[u8], state: &State, request: &Request) {
+    let (mut state, mut request, mut room) = (*state, *request, ROOM);
+    let bit = 1 << below(x, 8);
+    match below(x, 4) {
+        0 => state[below(x, STATE_BYTES as u64) as usize] ^= bit,
+        1 => request[below(x, REQUEST_BYTES as u64) as usize] ^= bit,
+        2 => room = below(x, 4 * RECORD_BYTES as u64) as usize,
+        _ => state[732..736].copy_from_slice(&(LAST - below(x, 99) as u32).to_le_bytes()),
+    }
+    let results = ON_BYTES.map(|call| {
+        let (mut state, mut records) = (state, [1; ROOM]);
+        let answer = call(settings, &mut state, &request, &mut records[..room]);
+        (answer, state, records)
+    });
+    assert!(results[0] == results[1], "plain: another answer");
+    assert!(results[0] == results[2], "tuned: another answer");
+}
+
+// ---- Times ----
+
+#[inline(never)] // so that instructions can be counted by call
+fn time_bytes(call: OnBytes, requests: &[Request]) -> f64 {
+    let (settings, mut state, mut room) = (SETTINGS.to_bytes(), fresh(), [0; ROOM]);
+    timed(requests.len(), || {
+        for request in requests {
+            _ = black_box(call(&settings, &mut state, black_box(request), &mut room));
+        }
+    })
+}
+
+fn time_kept<P>(mut planner: P, call: Kept<P>, requests: &[Request]) -> f64 {
+    let (f, mut room) = (Figures::of(&SETTINGS.to_bytes()).unwrap(), [0; ROOM]);
+    timed(requests.len(), || {
+        for request in requests {
+            _ = black_box(call(&mut planner, &f, black_box(request), &mut room));
+        }
+    })
 }
 
 fn main() {
-    let mut three = Three::new();
-    println!("{REQUESTS} requests a stream, best of {RUNS} runs, ns a request");
-    println!(
-        "{:<16}{:>10}{:>10}{:>14}{:>10}{:>14}{:>10}",
-        "stream", "records", "library", "plain, bytes", "ratio", "plain, struct", "ratio"
-    );
-    for (name, requests) in streams::all(&SETTINGS, REQUESTS) {
-        let records = three.compare(&requests);
-        let mut best = [f64::MAX; 3];
-        for _ in 0..RUNS {
-            best[0] = best[0].min(time(&mut three.library, &requests));
-            best[1] = best[1].min(time(&mut three.bytes, &requests));
-            best[2] = best[2].min(time(&mut three.kept, &requests));
-        }
-        let [library, bytes, kept] = best;
-        println!(
-            "{name:<16}{:>10.2}{library:>10.1}{bytes:>14.1}{:>10.2}{kept:>14.1}{:>10.2}",
-            records as f64 / REQUESTS as f64,
-            library / bytes,
-            library / kept
+    let size = Size::from_arguments(100_000, 15);
+    let all = streams::all(&SETTINGS, size.count);
+    print_head();
+    for (name, requests) in all.iter().filter(|(name, _)| size.has(name)) {
+        compare(requests);
+        let [library, plain, tuned, plain_kept, tuned_kept] = best(
+            size.runs,
+            [
+                &mut || time_bytes(library, requests),
+                &mut || time_bytes(plain_bytes, requests),
+                &mut || time_bytes(tuned_bytes, requests),
+                &mut || time_kept(plain::Planner::fresh(), plain_kept, requests),
+                &mut || time_kept(tuned::Planner::fresh(), tuned_kept, requests),
+            ],
+        );
+        print_row("`rdram_plan`", name, library, plain, Some(tuned));
+        print_row(
+            "`rdram_plan`, rivals without bytes",
+            name,
+            library,
+            plain_kept,
+            Some(tuned_kept),
         );
     }
 }

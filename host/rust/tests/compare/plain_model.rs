@@ -1,8 +1,8 @@
 //! The device model in plain Rust, written for speed from document 01: banks, write buffer and last
-//! instants in a struct of numbers, and no list. It goes on from any state that is not refused, also
-//! one that no run reaches.
+//! instants in a struct of numbers, and no list (the rival "tuned" of the benches). It goes on from
+//! any state that is not refused, also one that no run reaches.
 
-use crate::plain_state::{
+use super::plain_state::{
     beside, near, since, Channel, Figures, Write, ACT, FULL, LAST, NOCOP, PRER, RD, REFA, REFP,
     UNDER_REFRESH, WR,
 };
@@ -16,7 +16,7 @@ pub struct Refused {
     pub rule: u32,
 }
 
-fn refused<T>(number: u32) -> Result<T, Refused> {
+pub fn refused<T>(number: u32) -> Result<T, Refused> {
     Err(Refused { number, rule: 0 })
 }
 
@@ -29,11 +29,11 @@ pub enum Event {
 
 // ---- Records ----
 
-type Dualoct = [u8; 16];
+pub type Dualoct = [u8; 16];
 
 /// What a well formed record is.
 #[derive(Clone, Copy)]
-enum Record {
+pub enum Record {
     Act {
         bank: usize,
         row: u16,
@@ -99,7 +99,7 @@ fn col_record(f: &Figures, word: u64) -> Option<Record> {
     }
 }
 
-fn record_of(f: &Figures, bytes: &[u8; 32]) -> Option<Record> {
+pub fn record_of(f: &Figures, bytes: &[u8; 32]) -> Option<Record> {
     let number = |at: usize| u64::from_le_bytes(bytes[at..at + 8].try_into().unwrap());
     let (kind, word) = (number(0) >> 32, number(8));
     if kind == 2 {
@@ -282,7 +282,13 @@ impl Model {
             return Event::Neither;
         };
         ch.retire[w.bank & 31] = at;
-        let dualoct = dualoct(f, store, w.bank & 31, ch.tags[w.bank & 31], w.column);
+        let dualoct = dualoct(
+            f,
+            store,
+            w.bank & 31,
+            row_of(ch.tags[w.bank & 31]),
+            w.column,
+        );
         for (i, (byte, new)) in dualoct.iter_mut().zip(&self.data).enumerate() {
             *byte = if mask >> i & 1 == 1 { *new } else { *byte };
         }
@@ -356,7 +362,7 @@ impl Model {
                 let Some(answer) = answer.first_chunk_mut() else {
                     return refused(8);
                 };
-                *answer = *dualoct(f, store, bank, self.channel.tags[bank], column);
+                *answer = *dualoct(f, store, bank, row_of(self.channel.tags[bank]), column);
                 self.read(at, bank);
                 return Ok(Event::Read);
             }
@@ -396,15 +402,20 @@ impl Model {
     }
 }
 
-/// The dualoct of a column in the row that a bank's tag says.
-fn dualoct<'a>(
+/// The row that an open bank's tag says.
+fn row_of(tag: u16) -> u32 {
+    u32::from(tag) - 1
+}
+
+/// The dualoct of a column in a row of a bank.
+pub fn dualoct<'a>(
     f: &Figures,
     store: &'a mut [u8],
     bank: usize,
-    tag: u16,
+    row: u32,
     column: u32,
 ) -> &'a mut Dualoct {
-    let row = bank as u32 * f.rows + u32::from(tag) - 1;
+    let row = bank as u32 * f.rows + row;
     let at = 16 * (row * f.columns + column) as usize;
     (&mut store[at..at + 16]).try_into().unwrap()
 }

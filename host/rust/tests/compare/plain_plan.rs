@@ -1,7 +1,8 @@
 //! The planner in plain Rust, written for speed from document 01: last instants in a struct of
-//! numbers, and no list. It plans from any state that is not refused, also one that no run reaches.
+//! numbers, and no list (the rival "tuned" of the benches). It plans from any state that is not
+//! refused, also one that no run reaches.
 
-use crate::plain_state::{
+use super::plain_state::{
     beside, near, since, Channel, Figures, Write, ACT, FULL, LAST, NOCOP, PRER, RD, REFA, REFP, WR,
 };
 
@@ -9,15 +10,15 @@ use crate::plain_state::{
 /// after the latest instant before it, and data come at most 12 later.
 const SAFE: u32 = LAST - 4_096;
 pub const STATE_BYTES: usize = 740;
-const RECORDS: usize = 17;
+pub const RECORDS: usize = 17;
 
 /// A refusal number.
 pub type Refused = u32;
-type Records = [[u8; 32]; RECORDS];
+pub type Records = [[u8; 32]; RECORDS];
 
 // ---- Requests ----
 
-enum Request {
+pub enum Request {
     Read,
     Write,
     Refresh,
@@ -26,19 +27,19 @@ enum Request {
 }
 
 /// A request: its kind, its place, and its mask and data or cycles as they stand in the bytes.
-struct Asked {
-    kind: Request,
-    bank: usize,
-    row: u32,
-    column: u32,
-    mask: u16,
-    low: u64,
-    high: u64,
+pub struct Asked {
+    pub kind: Request,
+    pub bank: usize,
+    pub row: u32,
+    pub column: u32,
+    pub mask: u16,
+    pub low: u64,
+    pub high: u64,
 }
 
 impl Asked {
     #[inline(always)]
-    fn of(f: &Figures, request: &[u8]) -> Result<Asked, Refused> {
+    pub fn of(f: &Figures, request: &[u8]) -> Result<Asked, Refused> {
         let request: &[u8; 24] = request.try_into().map_err(|_| 13u32)?;
         let number = |at: usize| u64::from_le_bytes(request[at..at + 8].try_into().unwrap());
         let (head, low, high) = (number(0), number(8), number(16));
@@ -79,14 +80,14 @@ impl Asked {
 // ---- Words and records ----
 
 /// The records of a call.
-struct Out<'a> {
-    records: &'a mut Records,
-    used: usize,
+pub struct Out<'a> {
+    pub records: &'a mut Records,
+    pub used: usize,
 }
 
 impl Out<'_> {
     #[inline]
-    fn add(&mut self, at: u32, kind: u64, word: u64, low: u64, high: u64) {
+    pub fn add(&mut self, at: u32, kind: u64, word: u64, low: u64, high: u64) {
         let record = &mut self.records[self.used];
         record[..8].copy_from_slice(&(kind << 32 | u64::from(at)).to_le_bytes());
         record[8..16].copy_from_slice(&word.to_le_bytes());
@@ -95,12 +96,12 @@ impl Out<'_> {
         self.used += 1;
     }
 
-    fn row(&mut self, f: &Figures, at: u32, bank: usize, code: u64) {
+    pub fn row(&mut self, f: &Figures, at: u32, bank: usize, code: u64) {
         self.add(at, 0, f.row_device | (bank as u64) << 13 | code, 0, 0);
     }
 
     #[inline]
-    fn col(&mut self, f: &Figures, at: u32, cop: u64, bank: usize, column: u32, mask: u16) {
+    pub fn col(&mut self, f: &Figures, at: u32, cop: u64, bank: usize, column: u32, mask: u16) {
         let tail = match mask {
             FULL => f.second_device,
             mask => 0x10000 | u64::from(mask),

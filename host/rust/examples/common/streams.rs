@@ -1,16 +1,9 @@
 //! Streams of requests for the benchmarks.
 
+use super::below;
 use rdram::{Request, Settings, REQUEST_BYTES};
 
 type Bytes = [u8; REQUEST_BYTES];
-
-/// A number below n.
-fn below(x: &mut u64, n: u64) -> u64 {
-    *x ^= *x << 13;
-    *x ^= *x >> 7;
-    *x ^= *x << 17;
-    (*x >> 33) % n
-}
 
 struct Size {
     rows: usize,

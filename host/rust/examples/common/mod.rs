@@ -1,0 +1,99 @@
+//! What the benches have in common: size, settings, random numbers, times and the table.
+
+#![allow(dead_code)] // each bench uses a part
+
+pub mod streams;
+
+use rdram::Settings;
+use std::hint::black_box;
+use std::time::Instant;
+
+pub const SETTINGS: Settings = Settings {
+    t_rc: 28,
+    t_ras: 20,
+    t_rp: 8,
+    t_pp: 8,
+    t_rr: 8,
+    t_rcd: 9,
+    t_rtr: 8,
+    t_rdp: 4,
+    t_rtp: 4,
+    t_cc: 4,
+    t_cac: 8,
+    t_cwd: 6,
+    rows: 512,
+    columns: 128,
+    device: 5,
+};
+
+/// How much to run. The arguments of a bench are COUNT, RUNS and STREAM; each may be left out.
+pub struct Size {
+    /// Requests or records.
+    pub count: usize,
+    pub runs: usize,
+    stream: Option<String>,
+}
+
+impl Size {
+    pub fn from_arguments(count: usize, runs: usize) -> Size {
+        let mut arguments = std::env::args().skip(1);
+        let mut or = |usual| {
+            arguments
+                .next()
+                .map_or(usual, |n| n.parse().expect("a number"))
+        };
+        Size {
+            count: or(count),
+            runs: or(runs),
+            stream: arguments.next(),
+        }
+    }
+
+    /// Whether a stream is wanted.
+    pub fn has(&self, stream: &str) -> bool {
+        self.stream.as_ref().is_none_or(|wanted| wanted == stream)
+    }
+}
+
+/// A number below n (xorshift64).
+pub fn below(x: &mut u64, n: u64) -> u64 {
+    *x ^= *x << 13;
+    *x ^= *x >> 7;
+    *x ^= *x << 17;
+    (*x >> 33) % n
+}
+
+/// Nanoseconds for one of `count` that some work does. Instructions are counted in here only, so
+/// that they are those of the measured calls.
+#[inline(never)]
+pub fn timed<T>(count: usize, work: impl FnOnce() -> T) -> f64 {
+    let start = Instant::now();
+    black_box(work());
+    start.elapsed().as_secs_f64() * 1e9 / count as f64
+}
+
+/// The best time of each of some works, which run in turns.
+pub fn best<const N: usize>(runs: usize, mut works: [&mut dyn FnMut() -> f64; N]) -> [f64; N] {
+    let mut best = [f64::MAX; N];
+    for _ in 0..runs {
+        for (i, work) in works.iter_mut().enumerate() {
+            best[i] = best[i].min(work());
+        }
+    }
+    best
+}
+
+/// The head of the table. Times are nanoseconds a request or record.
+pub fn print_head() {
+    println!("| Call | Stream | Library, ns | Plain, ns | Ratio | Tuned, ns | Ratio |");
+    println!("|---|---|---|---|---|---|---|");
+}
+
+pub fn print_row(call: &str, stream: &str, library: f64, plain: f64, tuned: Option<f64>) {
+    let rival = |ns: f64| format!("{ns:.1} | {:.2}", library / ns);
+    let tuned = tuned.map_or("none |".to_string(), rival);
+    println!(
+        "| {call} | {stream} | {library:.1} | {} | {tuned} |",
+        rival(plain)
+    );
+}

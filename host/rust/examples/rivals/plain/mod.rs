@@ -1,0 +1,334 @@
+//! The rival "plain": planner and device model in the forms that document 01 names. A bank is an
+//! enum in a struct with its last instants, in an array of structs; planner and model are taken by
+//! value, and the next one is handed back. Settings, requests, words and records are those of the
+//! rival "tuned" (`tests/compare/plain_*.rs`), whose channel is a struct of arrays.
+
+pub mod model;
+pub mod planner;
+
+use crate::rivals::plain_state::{beside, since, Figures, Write, LAST, UNDER_REFRESH};
+
+pub const CHANNEL_BYTES: usize = 732;
+
+#[derive(Clone, Copy, PartialEq, Eq)]
+pub enum Bank {
+    Closed,
+    Open(u16),
+    Refresh,
+}
+
+/// A bank with the instants of its last packets; an instant is 0 for never.
+#[derive(Clone, Copy)]
+pub struct Track {
+    pub bank: Bank,
+    /// ACT or REFA.
+    pub opened: u32,
+    pub act: u32,
+    /// PRER or REFP to it, or that closed it.
+    pub pre: u32,
+    pub rd: u32,
+    pub retire: u32,
+}
+
+#[derive(Clone, Copy)]
+pub enum Buffer {
+    Empty,
+    Waiting(Write),
+    /// A write whose data have not come.
+    Due(Write),
+}
+
+/// Banks, last instants and write buffer.
+#[derive(Clone, Copy)]
+pub struct Channel {
+    pub banks: [Track; 32],
+    pub last: u32,
+    pub last_row: u32,
+    pub last_col: u32,
+    pub last_pre: u32,
+    pub last_rd: u32,
+    pub buffer: Buffer,
+}
+
+/// The latest that some last instants and a distance ask.
+fn latest(instants: impl Iterator<Item = u32>, gap: u32) -> u32 {
+    since(instants.max().unwrap_or(0), gap)
+}
+
+impl Channel {
+    pub fn fresh() -> Channel {
+        Channel {
+            banks: [Track::CLOSED; 32],
+            last: 0,
+            last_row: 0,
+            last_col: 0,
+            last_pre: 0,
+            last_rd: 0,
+            buffer: Buffer::Empty,
+        }
+    }
+
+    /// A bank and its neighbours.
+    pub fn near(&self, bank: usize) -> &[Track] {
+        let (below, above) = beside(bank);
+        &self.banks[below..=above]
+    }
+
+    pub fn waiting(&self) -> Option<Write> {
+        match self.buffer {
+            Buffer::Empty => None,
+            Buffer::Waiting(w) | Buffer::Due(w) => Some(w),
+        }
+    }
+
+    // ---- The least instants that the rules allow ----
+
+    pub fn rule_2(&self) -> u32 {
+        since(self.last_row, 4)
+    }
+
+    pub fn rule_3(&self, f: &Figures) -> u32 {
+        since(self.last_col, f.cc)
+    }
+
+    pub fn rule_5(&self, f: &Figures, bank: usize) -> u32 {
+        let (below, above) = beside(bank);
+        let near = latest(self.near(bank).iter().map(|t| t.opened), f.rc);
+        let others = self.banks[..below].iter().chain(&self.banks[above + 1..]);
+        near.max(latest(others.map(|t| t.opened), f.rr))
+    }
+
+    pub fn rule_6(&self, f: &Figures, bank: usize) -> u32 {
+        latest(self.near(bank).iter().map(|t| t.opened), f.ras)
+    }
+
+    pub fn rule_7(&self, f: &Figures, bank: usize) -> u32 {
+        latest(self.near(bank).iter().map(|t| t.pre), f.rp)
+    }
+
+    pub fn rule_8(&self, f: &Figures) -> u32 {
+        since(self.last_pre, f.pp)
+    }
+
+    pub fn rule_10_rd(&self, f: &Figures, bank: usize) -> u32 {
+        since(self.banks[bank].act, f.rcd)
+    }
+
+    pub fn rule_10_wr(&self, f: &Figures, bank: usize) -> u32 {
+        since(self.banks[bank].act, f.act_to_wr)
+    }
+
+    pub fn rule_10_retire(&self, f: &Figures) -> u32 {
+        self.waiting().map_or(0, |w| self.rule_10_rd(f, w.bank))
+    }
+
+    pub fn rule_11(&self, f: &Figures) -> u32 {
+        since(self.last_rd, f.rd_to_wr)
+    }
+
+    pub fn rule_12(&self, f: &Figures) -> u32 {
+        self.waiting().map_or(0, |w| w.at + f.rtr)
+    }
+
+    pub fn rule_13(&self, f: &Figures, bank: usize) -> u32 {
+        let near = self.near(bank).iter();
+        latest(near.clone().map(|t| t.rd), f.rdp).max(latest(near.map(|t| t.retire), f.rtp))
+    }
+
+    // ---- What a packet changes ----
+
+    /// ACT on a row, or REFA.
+    pub fn open(&mut self, at: u32, bank: usize, state: Bank) {
+        let t = &mut self.banks[bank];
+        (t.bank, t.opened) = (state, at);
+        if let Bank::Open(_) = state {
+            t.act = at;
+        }
+        (self.last, self.last_row) = (at, at);
+    }
+
+    /// PRER or REFP.
+    pub fn close(&mut self, at: u32, bank: usize) {
+        let (below, above) = beside(bank);
+        for x in below..=above {
+            let t = &mut self.banks[x];
+            if x == bank || t.bank != Bank::Closed {
+                (t.bank, t.pre) = (Bank::Closed, at);
+            }
+        }
+        (self.last, self.last_row, self.last_pre) = (at, at, at);
+    }
+
+    pub fn read(&mut self, at: u32, bank: usize) {
+        self.banks[bank].rd = at;
+        (self.last, self.last_col, self.last_rd) = (at, at, at);
+    }
+
+    /// A COL packet other than RD; answers the write that it retires.
+    pub fn retire(&mut self, at: u32) -> Option<Write> {
+        let retired = self.waiting();
+        if let Some(w) = retired {
+            self.banks[w.bank].retire = at;
+        }
+        self.buffer = Buffer::Empty;
+        (self.last, self.last_col) = (at, at);
+        retired
+    }
+
+    // ---- Bytes ----
+
+    /// None where the buffer's bytes are of no kind.
+    pub fn decode(bytes: &[u8; CHANNEL_BYTES]) -> Option<Channel> {
+        let mut banks = [Track::CLOSED; 32];
+        for (x, t) in banks.iter_mut().enumerate() {
+            *t = Track {
+                bank: Bank::of(half(bytes, 640 + 2 * x)),
+                opened: word(bytes, 4 * x),
+                act: word(bytes, 128 + 4 * x),
+                pre: word(bytes, 256 + 4 * x),
+                rd: word(bytes, 384 + 4 * x),
+                retire: word(bytes, 512 + 4 * x),
+            };
+        }
+        Some(Channel {
+            banks,
+            last: word(bytes, 704),
+            last_row: word(bytes, 708),
+            last_col: word(bytes, 712),
+            last_pre: word(bytes, 716),
+            last_rd: word(bytes, 720),
+            buffer: Buffer::of(bytes[724..732].try_into().unwrap())?,
+        })
+    }
+
+    /// Whether refusal 1 has nothing against the channel.
+    pub fn valid(&self, f: &Figures) -> bool {
+        let closed = |t: &Track| t.bank == Bank::Closed;
+        let apart = |pair: &[Track]| pair.iter().any(closed);
+        is_last(self.last)
+            && is_last(self.last_row)
+            && is_last(self.last_col)
+            && is_last(self.last_pre)
+            && is_last(self.last_rd)
+            && self.banks.iter().all(|t| t.valid(f))
+            && self.banks.chunks(16).all(|half| half.windows(2).all(apart))
+            && self.waiting().is_none_or(|w| self.write_valid(f, w))
+    }
+
+    fn write_valid(&self, f: &Figures, w: Write) -> bool {
+        w.bank < 32
+            && w.column < f.columns
+            && is_instant(w.at)
+            && matches!(self.banks[w.bank].bank, Bank::Open(_))
+    }
+
+    pub fn encode(&self, bytes: &mut [u8; CHANNEL_BYTES]) {
+        for (x, t) in self.banks.iter().enumerate() {
+            put_word(bytes, 4 * x, t.opened);
+            put_word(bytes, 128 + 4 * x, t.act);
+            put_word(bytes, 256 + 4 * x, t.pre);
+            put_word(bytes, 384 + 4 * x, t.rd);
+            put_word(bytes, 512 + 4 * x, t.retire);
+            put_half(bytes, 640 + 2 * x, t.bank.tag());
+        }
+        put_word(bytes, 704, self.last);
+        put_word(bytes, 708, self.last_row);
+        put_word(bytes, 712, self.last_col);
+        put_word(bytes, 716, self.last_pre);
+        put_word(bytes, 720, self.last_rd);
+        bytes[724..].copy_from_slice(&self.buffer.bytes());
+    }
+}
+
+impl Bank {
+    fn of(tag: u16) -> Bank {
+        match tag {
+            0 => Bank::Closed,
+            UNDER_REFRESH => Bank::Refresh,
+            tag => Bank::Open(tag - 1),
+        }
+    }
+
+    fn tag(self) -> u16 {
+        match self {
+            Bank::Closed => 0,
+            Bank::Open(row) => row + 1,
+            Bank::Refresh => UNDER_REFRESH,
+        }
+    }
+}
+
+impl Track {
+    const CLOSED: Track = Track {
+        bank: Bank::Closed,
+        opened: 0,
+        act: 0,
+        pre: 0,
+        rd: 0,
+        retire: 0,
+    };
+
+    fn valid(&self, f: &Figures) -> bool {
+        let row_fits = match self.bank {
+            Bank::Open(row) => u32::from(row) < f.rows,
+            Bank::Closed | Bank::Refresh => true,
+        };
+        row_fits
+            && is_last(self.opened)
+            && is_last(self.act)
+            && is_last(self.pre)
+            && is_last(self.rd)
+            && is_last(self.retire)
+    }
+}
+
+impl Buffer {
+    fn of(bytes: [u8; 8]) -> Option<Buffer> {
+        let [kind, bank, column, zero, at @ ..] = bytes;
+        let w = Write {
+            bank: bank.into(),
+            column: column.into(),
+            at: u32::from_le_bytes(at),
+        };
+        match kind {
+            0 => (bytes == [0; 8]).then_some(Buffer::Empty),
+            1 => (zero == 0).then_some(Buffer::Waiting(w)),
+            2 => (zero == 0).then_some(Buffer::Due(w)),
+            _ => None,
+        }
+    }
+
+    fn bytes(self) -> [u8; 8] {
+        let (kind, w) = match self {
+            Buffer::Empty => return [0; 8],
+            Buffer::Waiting(w) => (1, w),
+            Buffer::Due(w) => (2, w),
+        };
+        let [a, b, c, d] = w.at.to_le_bytes();
+        [kind, w.bank as u8, w.column as u8, 0, a, b, c, d]
+    }
+}
+
+pub fn is_instant(at: u32) -> bool {
+    (4..=LAST).contains(&at)
+}
+
+fn is_last(at: u32) -> bool {
+    at == 0 || is_instant(at)
+}
+
+pub fn word(bytes: &[u8], at: usize) -> u32 {
+    u32::from_le_bytes(bytes[at..at + 4].try_into().unwrap())
+}
+
+pub fn half(bytes: &[u8], at: usize) -> u16 {
+    u16::from_le_bytes(bytes[at..at + 2].try_into().unwrap())
+}
+
+pub fn put_word(bytes: &mut [u8], at: usize, number: u32) {
+    bytes[at..at + 4].copy_from_slice(&number.to_le_bytes());
+}
+
+pub fn put_half(bytes: &mut [u8], at: usize, number: u16) {
+    bytes[at..at + 2].copy_from_slice(&number.to_le_bytes());
+}

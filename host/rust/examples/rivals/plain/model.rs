@@ -1,0 +1,244 @@
+//! The device model of the rival "plain".
+
+use super::{half, put_half, Bank, Buffer, Channel};
+use crate::rivals::plain_model::{
+    dualoct, record_of, refused, Event, Record, Refused, MODEL_BYTES,
+};
+use crate::rivals::plain_state::{beside, Figures, Write, FULL, LAST};
+
+#[derive(Clone, Copy)]
+pub struct Model {
+    channel: Channel,
+    refr: u16,
+    data: [u8; 16],
+}
+
+fn rule(number: u32, holds: bool) -> Result<(), u32> {
+    if holds {
+        Ok(())
+    } else {
+        Err(number)
+    }
+}
+
+impl Model {
+    pub fn fresh() -> Model {
+        Model {
+            channel: Channel::fresh(),
+            refr: 0,
+            data: [0; 16],
+        }
+    }
+
+    /// The next model, and what the record did. A refused call leaves store and answer.
+    pub fn step(
+        mut self,
+        f: &Figures,
+        store: &mut [u8],
+        record: &[u8],
+        answer: &mut [u8],
+    ) -> Result<(Model, Event), Refused> {
+        if store.len() != 512 * (f.rows * f.columns) as usize {
+            return refused(9);
+        }
+        let Ok(bytes) = <&[u8; 32]>::try_from(record) else {
+            return refused(13);
+        };
+        let Some(record) = record_of(f, bytes) else {
+            return refused(10);
+        };
+        let at = u32::from_le_bytes(bytes[..4].try_into().unwrap());
+        if let Err(rule) = self.judge(f, at, &record) {
+            return Err(Refused { number: 11, rule });
+        }
+        let event = self.take(f, at, record, store, answer)?;
+        Ok((self, event))
+    }
+
+    // ---- Rules: each answers the lowest that is broken ----
+
+    fn judge(&self, f: &Figures, at: u32, record: &Record) -> Result<(), u32> {
+        let last = self.channel.last;
+        let (from, delay) = match record {
+            Record::Rd { .. } => (last, f.cac),
+            Record::Wr { .. } => (last, f.cwd),
+            Record::D { .. } => (0, 0),
+            _ => (last, 0),
+        };
+        rule(1, at >= from.max(4) && at <= LAST - delay)?;
+        match *record {
+            Record::Act { bank, .. } | Record::Refa { bank } => self.judge_opening(f, at, bank),
+            Record::Prer { bank } => self.judge_prer(f, at, bank),
+            Record::Rd { bank, mask, .. } => self.judge_rd(f, at, bank, mask),
+            Record::Wr { bank, mask, .. } => self.judge_other(f, at, Some(bank), mask),
+            Record::Nocop { mask } => self.judge_other(f, at, None, mask),
+            Record::D { .. } => match self.channel.buffer {
+                Buffer::Due(w) => rule(15, at == w.at + f.cwd),
+                _ => Err(15),
+            },
+        }
+    }
+
+    fn judge_opening(&self, f: &Figures, at: u32, bank: usize) -> Result<(), u32> {
+        let ch = &self.channel;
+        rule(2, at >= ch.rule_2())?;
+        rule(4, ch.near(bank).iter().all(|t| t.bank == Bank::Closed))?;
+        rule(5, at >= ch.rule_5(f, bank))?;
+        rule(7, at >= ch.rule_7(f, bank))?;
+        rule(15, !self.due())
+    }
+
+    fn judge_prer(&self, f: &Figures, at: u32, bank: usize) -> Result<(), u32> {
+        let (ch, (below, above)) = (&self.channel, beside(bank));
+        let near = |w: Write| (below..=above).contains(&w.bank);
+        rule(2, at >= ch.rule_2())?;
+        rule(6, at >= ch.rule_6(f, bank))?;
+        rule(8, at >= ch.rule_8(f))?;
+        rule(13, at >= ch.rule_13(f, bank))?;
+        rule(14, !ch.waiting().is_some_and(near))?;
+        rule(15, !self.due())
+    }
+
+    fn judge_rd(&self, f: &Figures, at: u32, bank: usize, mask: u16) -> Result<(), u32> {
+        let ch = &self.channel;
+        rule(3, at >= ch.rule_3(f))?;
+        rule(9, self.row(bank).is_some())?;
+        rule(10, at >= ch.rule_10_rd(f, bank))?;
+        rule(15, !self.due())?;
+        rule(16, mask == FULL)
+    }
+
+    /// WR of a bank, or NOCOP where there is none.
+    fn judge_other(&self, f: &Figures, at: u32, wr: Option<usize>, mask: u16) -> Result<(), u32> {
+        let ch = &self.channel;
+        rule(3, at >= ch.rule_3(f))?;
+        if let Some(bank) = wr {
+            rule(9, self.row(bank).is_some())?;
+            rule(10, at >= ch.rule_10_wr(f, bank))?;
+        }
+        rule(10, at >= ch.rule_10_retire(f))?;
+        rule(11, wr.is_none() || at >= ch.rule_11(f))?;
+        rule(12, at >= ch.rule_12(f))?;
+        rule(15, !self.due())?;
+        rule(16, mask == FULL || ch.waiting().is_some())
+    }
+
+    fn due(&self) -> bool {
+        matches!(self.channel.buffer, Buffer::Due(_))
+    }
+
+    /// The row that a bank is open on.
+    fn row(&self, bank: usize) -> Option<u32> {
+        match self.channel.banks[bank].bank {
+            Bank::Open(row) => Some(row.into()),
+            Bank::Closed | Bank::Refresh => None,
+        }
+    }
+
+    // ---- What a record does that breaks no rule ----
+
+    fn retire(&mut self, f: &Figures, at: u32, mask: u16, store: &mut [u8]) -> Event {
+        let Some(w) = self.channel.retire(at) else {
+            return Event::Neither;
+        };
+        let row = self.row(w.bank).unwrap(); // rule 9
+        let dualoct = dualoct(f, store, w.bank, row, w.column);
+        for (i, (byte, new)) in dualoct.iter_mut().zip(&self.data).enumerate() {
+            if mask >> i & 1 == 1 {
+                *byte = *new;
+            }
+        }
+        Event::Retired(mask.count_ones())
+    }
+
+    fn take(
+        &mut self,
+        f: &Figures,
+        at: u32,
+        record: Record,
+        store: &mut [u8],
+        answer: &mut [u8],
+    ) -> Result<Event, Refused> {
+        match record {
+            Record::Act { bank, row } => self.channel.open(at, bank, Bank::Open(row)),
+            Record::Refa { bank } => {
+                self.channel.open(at, bank, Bank::Refresh);
+                if bank == 31 {
+                    self.refr = (self.refr + 1) % f.rows as u16;
+                }
+            }
+            Record::Prer { bank } => self.channel.close(at, bank),
+            Record::Nocop { mask } => return Ok(self.retire(f, at, mask, store)),
+            Record::Wr { bank, column, mask } => {
+                let event = self.retire(f, at, mask, store);
+                self.channel.buffer = Buffer::Due(Write { bank, column, at });
+                return Ok(event);
+            }
+            Record::Rd { bank, column, .. } => {
+                let Some(answer) = answer.first_chunk_mut() else {
+                    return refused(8);
+                };
+                let row = self.row(bank).unwrap(); // rule 9
+                *answer = *dualoct(f, store, bank, row, column);
+                self.channel.read(at, bank);
+                return Ok(Event::Read);
+            }
+            Record::D { data } => {
+                self.data = data;
+                if let Buffer::Due(w) = self.channel.buffer {
+                    self.channel.buffer = Buffer::Waiting(w);
+                }
+            }
+        }
+        Ok(Event::Neither)
+    }
+
+    // ---- State bytes ----
+
+    /// None where the buffer's bytes are of no kind, or spare bytes are not 0.
+    fn decode(state: &[u8; MODEL_BYTES]) -> Option<Model> {
+        let model = Model {
+            channel: Channel::decode(state.first_chunk().unwrap())?,
+            refr: half(state, 732),
+            data: state[736..].try_into().unwrap(),
+        };
+        (half(state, 734) == 0).then_some(model)
+    }
+
+    /// Whether refusal 1 has nothing against the model.
+    fn valid(&self, f: &Figures) -> bool {
+        self.channel.valid(f) && u32::from(self.refr) < f.rows
+    }
+
+    pub fn encode(&self, state: &mut [u8; MODEL_BYTES]) {
+        self.channel.encode(state.first_chunk_mut().unwrap());
+        put_half(state, 732, self.refr);
+        put_half(state, 734, 0);
+        state[736..].copy_from_slice(&self.data);
+    }
+}
+
+/// The call on bytes: settings and model are tested, and the next model is written.
+pub fn step(
+    settings: &[u8],
+    state: &mut [u8],
+    store: &mut [u8],
+    record: &[u8],
+    answer: &mut [u8],
+) -> Result<Event, Refused> {
+    let Some(f) = Figures::of(settings) else {
+        return refused(1);
+    };
+    let Ok(state) = <&mut [u8; MODEL_BYTES]>::try_from(state) else {
+        return refused(1);
+    };
+    let Some(model) = Model::decode(state) else {
+        return refused(1);
+    };
+    if !model.valid(&f) {
+        return refused(1);
+    }
+    let (next, event) = model.step(&f, store, record, answer)?;
+    next.encode(state);
+    Ok(event)
+}

@@ -1,0 +1,243 @@
+//! The planner of the rival "plain".
+
+use super::{half, is_instant, put_half, put_word, word, Bank, Buffer, Channel};
+use crate::rivals::plain_plan::{Asked, Out, Refused, Request, RECORDS, STATE_BYTES};
+use crate::rivals::plain_state::{
+    beside, Figures, Write, ACT, FULL, LAST, NOCOP, PRER, RD, REFA, REFP, WR,
+};
+
+#[derive(Clone, Copy)]
+pub struct Planner {
+    channel: Channel,
+    now: u32,
+    refresh: u16,
+    mask: u16,
+}
+
+impl Planner {
+    pub fn fresh() -> Planner {
+        Planner {
+            channel: Channel::fresh(),
+            now: 4,
+            refresh: 0,
+            mask: 0,
+        }
+    }
+
+    /// The next planner and the number of records that a request makes, at the start of `room`.
+    /// They are made in a list of their own, since a refused call changes nothing.
+    pub fn plan(
+        mut self,
+        f: &Figures,
+        request: &[u8],
+        room: &mut [u8],
+    ) -> Result<(Planner, usize), Refused> {
+        let asked = Asked::of(f, request)?;
+        let mut records = [[0; 32]; RECORDS];
+        let mut out = Out {
+            records: &mut records,
+            used: 0,
+        };
+        // Instants never fall, so this is the latest.
+        let last = match asked.kind {
+            Request::Read => self.read(f, &mut out, &asked) + f.cac,
+            Request::Write => self.write(f, &mut out, &asked) + f.cwd,
+            Request::Refresh => self.refresh(f, &mut out),
+            Request::Drain => self.drain(f, &mut out),
+            Request::Wait => self.wait(asked.low).ok_or(7u32)?,
+        };
+        let used = out.used;
+        if last > LAST {
+            return Err(7);
+        }
+        if room.len() / 32 < used {
+            return Err(8);
+        }
+        room[..32 * used].copy_from_slice(records[..used].as_flattened());
+        Ok((self, used))
+    }
+
+    // ---- Packets, each at the least instant that the rules allow; each answers it ----
+
+    fn from(&self) -> u32 {
+        self.now.max(self.channel.last)
+    }
+
+    /// ACT or REFA.
+    fn open(&mut self, f: &Figures, bank: usize, state: Bank) -> u32 {
+        let ch = &self.channel;
+        let at = self
+            .from()
+            .max(ch.rule_2())
+            .max(ch.rule_5(f, bank))
+            .max(ch.rule_7(f, bank));
+        self.channel.open(at, bank, state);
+        self.now = at;
+        at
+    }
+
+    /// PRER or REFP.
+    fn precharge(&mut self, f: &Figures, out: &mut Out, bank: usize, code: u64) {
+        let ch = &self.channel;
+        let at = self
+            .from()
+            .max(ch.rule_2())
+            .max(ch.rule_6(f, bank))
+            .max(ch.rule_8(f))
+            .max(ch.rule_13(f, bank));
+        self.channel.close(at, bank);
+        self.now = at;
+        out.row(f, at, bank, code);
+    }
+
+    /// The mask of the waiting write, which a packet other than RD carries.
+    fn carried(&self) -> u16 {
+        match self.channel.waiting() {
+            Some(_) => self.mask,
+            None => FULL,
+        }
+    }
+
+    fn nocop(&mut self, f: &Figures, out: &mut Out) {
+        let (ch, mask) = (&self.channel, self.carried());
+        let at = self
+            .from()
+            .max(ch.rule_3(f))
+            .max(ch.rule_10_retire(f))
+            .max(ch.rule_12(f));
+        self.channel.retire(at);
+        self.now = at;
+        out.col(f, at, NOCOP, 0, 0, mask);
+    }
+
+    // ---- Requests: each answers now ----
+
+    /// Closes the open ones of some banks.
+    fn close(&mut self, f: &Figures, out: &mut Out, banks: std::ops::RangeInclusive<usize>) {
+        for bank in banks {
+            if self.channel.banks[bank].bank != Bank::Closed {
+                if self.channel.waiting().is_some_and(|w| w.bank == bank) {
+                    self.nocop(f, out);
+                }
+                self.precharge(f, out, bank, PRER);
+            }
+        }
+    }
+
+    fn close_near(&mut self, f: &Figures, out: &mut Out, bank: usize) {
+        let (below, above) = beside(bank);
+        self.close(f, out, below..=above);
+    }
+
+    fn reach(&mut self, f: &Figures, out: &mut Out, asked: &Asked) {
+        let open = Bank::Open(asked.row as u16);
+        if self.channel.banks[asked.bank].bank != open {
+            self.close_near(f, out, asked.bank);
+            let at = self.open(f, asked.bank, open);
+            out.row(f, at, asked.bank, ACT | u64::from(asked.row));
+        }
+    }
+
+    fn read(&mut self, f: &Figures, out: &mut Out, asked: &Asked) -> u32 {
+        let (bank, column) = (asked.bank, asked.column);
+        self.reach(f, out, asked);
+        let own = |w: Write| (w.bank, w.column) == (bank, column);
+        if self.channel.waiting().is_some_and(own) {
+            self.nocop(f, out);
+        }
+        let ch = &self.channel;
+        let at = self.from().max(ch.rule_3(f)).max(ch.rule_10_rd(f, bank));
+        self.channel.read(at, bank);
+        self.now = at;
+        out.col(f, at, RD, bank, column, FULL);
+        at
+    }
+
+    fn write(&mut self, f: &Figures, out: &mut Out, asked: &Asked) -> u32 {
+        let (bank, column) = (asked.bank, asked.column);
+        self.reach(f, out, asked);
+        let (ch, mask) = (&self.channel, self.carried());
+        let at = self
+            .from()
+            .max(ch.rule_3(f))
+            .max(ch.rule_10_wr(f, bank))
+            .max(ch.rule_10_retire(f))
+            .max(ch.rule_11(f))
+            .max(ch.rule_12(f));
+        self.channel.retire(at);
+        self.channel.buffer = Buffer::Waiting(Write { bank, column, at });
+        (self.now, self.mask) = (at, asked.mask);
+        out.col(f, at, WR, bank, column, mask);
+        out.add(at + f.cwd, 2, 0, asked.low, asked.high);
+        at
+    }
+
+    fn refresh(&mut self, f: &Figures, out: &mut Out) -> u32 {
+        let bank = usize::from(self.refresh);
+        self.close_near(f, out, bank);
+        let at = self.open(f, bank, Bank::Refresh);
+        out.row(f, at, bank, REFA);
+        self.precharge(f, out, bank, REFP);
+        self.refresh = (self.refresh + 1) % 32;
+        self.now
+    }
+
+    fn drain(&mut self, f: &Figures, out: &mut Out) -> u32 {
+        if self.channel.waiting().is_some() {
+            self.nocop(f, out);
+        }
+        self.close(f, out, 0..=31);
+        self.now
+    }
+
+    fn wait(&mut self, cycles: u64) -> Option<u32> {
+        self.now = u32::try_from(u64::from(self.now) + cycles).ok()?;
+        Some(self.now)
+    }
+
+    // ---- State bytes ----
+
+    fn decode(state: &[u8; STATE_BYTES]) -> Option<Planner> {
+        Some(Planner {
+            channel: Channel::decode(state.first_chunk().unwrap())?,
+            now: word(state, 732),
+            refresh: half(state, 736),
+            mask: half(state, 738),
+        })
+    }
+
+    /// Whether refusal 1 has nothing against the planner.
+    fn valid(&self, f: &Figures) -> bool {
+        let ch = &self.channel;
+        ch.valid(f)
+            && ch.banks.iter().all(|t| t.bank != Bank::Refresh)
+            && !matches!(ch.buffer, Buffer::Due(_))
+            && is_instant(self.now)
+            && self.refresh < 32
+    }
+
+    pub fn encode(&self, state: &mut [u8; STATE_BYTES]) {
+        self.channel.encode(state.first_chunk_mut().unwrap());
+        put_word(state, 732, self.now);
+        put_half(state, 736, self.refresh);
+        put_half(state, 738, self.mask);
+    }
+}
+
+/// The call on bytes: settings, planner and request are tested, and the next planner is written.
+pub fn plan(
+    settings: &[u8],
+    state: &mut [u8],
+    request: &[u8],
+    room: &mut [u8],
+) -> Result<usize, Refused> {
+    let f = Figures::of(settings).ok_or(1u32)?;
+    let state: &mut [u8; STATE_BYTES] = state.try_into().map_err(|_| 1u32)?;
+    let planner = Planner::decode(state).ok_or(1u32)?;
+    if !planner.valid(&f) {
+        return Err(1);
+    }
+    let (next, records) = planner.plan(&f, request, room)?;
+    next.encode(state);
+    Ok(records)
+}
