@@ -13,7 +13,6 @@ ghost use Rattle.rules.specs.Neighbour.{split};
 ghost use Rattle.model.specs.Store.{storeLength};
 ghost use Rattle.model.specs.Model.{freshModel, modelValid};
 ghost use Rattle.model.specs.Step.{isTaken, recordAnswer, stepAnswer, stepModel, stepStore, stepRoom};
-ghost use Rattle.model.specs.ModelBytes.{modelRight};
 ghost use Rattle.device.specs.Take.{takeModel, takeStore, takeRoom};
 use crate::after::model_next;
 use crate::touching::touch_of;
@@ -143,16 +142,4 @@ impl Model {
             RecordRead::Known(r) => self.take(s, store, r, room),
         }
     }
-}
-
-// Whether bytes are a state of a model that is not refused: their length, the zeros, the form of the buffer, and the state.
-pub fn model_right(s: Settings, b: &[u8]) -> bool
-    ensures { λ r. ⌜ r ≡ modelRight s split (now (b .entry)) ⌝ }
-{
-    if b.len() != 752 {
-        return false;
-    }
-    let zeros = num::u16_at(b, 734) == 0;
-    let state = Model::read(b).valid(s);
-    num::both(zeros, num::both(state::bytes::buffer_right(b), state))
 }

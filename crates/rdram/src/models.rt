@@ -46,7 +46,7 @@ fn step_answer(a: Stepped) -> StepAnswer
     }
 }
 
-// A model call under settings that are accepted.
+// A model call under settings that are accepted. The state of a refused call is the one that was given, and its bytes the same.
 fn step_by(
     s: Settings,
     model: &mut [u8],
@@ -57,10 +57,18 @@ fn step_by(
     requires { ⌜ valid s ≡ true ⌝ }
     ensures { λ r. ⌜ (r ≡ stepUnder (Accepted s) (now (model .entry)) (length (now (store .entry))) (now (given .entry)) (length (now (room .entry)))) × (now (model .exit) ≡ modelUnder (Accepted s) (now (model .entry)) (length (now (store .entry))) (now (given .entry)) (length (now (room .entry)))) × (now (store .exit) ≡ storeUnder (Accepted s) (now (model .entry)) (now (store .entry)) (now (given .entry)) (length (now (room .entry)))) × (now (room .exit) ≡ answerUnder (Accepted s) (now (model .entry)) (now (store .entry)) (now (given .entry)) (now (room .entry))) ⌝ }
 {
-    if !device::model_right(s, model) {
+    let long = model.len();
+    if long != 752 {
         return step_answer(Stepped::Refused(Refusal::Settings));
     }
     let m = Model::read(model);
+    let zeros = num::u16_at(model, 734) == 0;
+    let formed = state::bytes::buffer_right(model);
+    let allowed = m.valid(s);
+    let right = num::both(zeros, num::both(formed, allowed));
+    if !right {
+        return step_answer(Stepped::Refused(Refusal::Settings));
+    }
     let done = m.step(s, store, given, room);
     let answer = done.answer;
     let next = done.model;

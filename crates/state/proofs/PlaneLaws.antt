@@ -1,4 +1,4 @@
--- Laws of planes: their lengths, their numbers one by one, and the five planes of instants as one.
+-- Laws of planes: their lengths, their numbers one by one, and the five planes of instants.
 -- Assumes nothing.
 use Prim.Native.Nat.{ℕ, zero, suc, _+_, _*_, _/_, _%_, _<_, _≤_}
 use mathlib.Core.Path.{_≡_, refl, sym, ap, ap₂, _∙_}
@@ -19,7 +19,7 @@ use Rattle.rules.specs.declared.Channel.{Channel}
 use Rattle.rules.specs.Rules.{bankCount}
 use Rattle.rules.specs.Channel.{idle}
 use Rattle.state.specs.ChannelBytes.{plane, lastsBytes, bufferBytes, channelBytes, trackIn, tracksIn}
-use Rattle.state.specs.Planes.{figure, figures, tags, lastsOf}
+use Rattle.state.specs.Planes.{figure, figures, fivePlanes, tags, lastsOf}
 
 -- ---- one plane
 
@@ -90,46 +90,25 @@ plane-part b w at f (suc n) h l e =
 
 -- ---- the five planes of instants
 
-plane-block : (banks : List BankTrack) (j n : ℕ)
-    → plane 4 (λ i. figures banks (32 * j + i)) (32 + n) ≡ plane 4 (λ x. figure (getD banks x idle) j) 32 ++ plane 4 (λ i. figures banks (32 * suc j + i)) n
-plane-block banks j n = plane-join 4 (λ i. figures banks (32 * j + i)) 32 n ∙ ap₂ _++_ here next
-  where
-    here : plane 4 (λ i. figures banks (32 * j + i)) 32 ≡ plane 4 (λ x. figure (getD banks x idle) j) 32
-    here =
-        plane-ext 4 _ _ 32
-        (λ i l.
-        let m : (32 * j + i) % 32 ≡ i = omega arith in
-        let d : (32 * j + i) / 32 ≡ j = omega arith in
-        rw (m, d))
-
-    next : plane 4 (λ i. figures banks (32 * j + (32 + i))) n ≡ plane 4 (λ i. figures banks (32 * suc j + i)) n
-    next = plane-ext 4 _ _ n (λ i l. let e : 32 * j + (32 + i) ≡ 32 * suc j + i = omega arith in rw e)
-
--- a further plane in front
-plane-more : (banks : List BankTrack) (rest tail : List ℕ) (j n : ℕ) → plane 4 (λ i. figures banks (32 * suc j + i)) n ++ rest ≡ tail
-    → plane 4 (λ i. figures banks (32 * j + i)) (32 + n) ++ rest ≡ plane 4 (λ x. figure (getD banks x idle) j) 32 ++ tail
-plane-more banks rest tail j n h =
-    let p : List ℕ = plane 4 (λ x. figure (getD banks x idle) j) 32 in
-    let q : List ℕ = plane 4 (λ i. figures banks (32 * suc j + i)) n in
-    ap (λ (t : List ℕ). t ++ rest) (plane-block banks j n) ∙ append-assoc p q rest ∙ ap (λ (t : List ℕ). p ++ t) h
+pub length-planes : (banks : List BankTrack) → length (fivePlanes banks) ≡ 640
+unfolding fivePlanes
+length-planes banks = simp (length-append, length-plane)
 
 pub five-planes : (banks : List BankTrack) (rest : List ℕ)
-    → plane 4 (figures banks) 160 ++ rest
+    → fivePlanes banks ++ rest
     ≡ plane 4 (λ x. getD banks x idle .opened .0) 32
     ++ (plane 4 (λ x. getD banks x idle .act .0) 32
     ++ (plane 4 (λ x. getD banks x idle .pre .0) 32
     ++ (plane 4 (λ x. getD banks x idle .rd .0) 32 ++ (plane 4 (λ x. getD banks x idle .retire .0) 32 ++ rest))))
-unfolding figure plane
-five-planes banks rest =
-    ap (λ (t : List ℕ). t ++ rest) (plane-ext 4 (figures banks) (λ i. figures banks (32 * 0 + i)) 160 (λ i l. rw zero-add))
-    ∙ plane-more banks rest _ 0 128 (plane-more banks rest _ 1 96 (plane-more banks rest _ 2 64 (plane-more banks rest _ 3 32 (plane-more banks rest rest 4 0 refl))))
+unfolding fivePlanes figure
+five-planes banks rest = simp append-assoc
 
 pub length-lasts : (last row col pre rd : PacketAt) → length (lastsOf last row col pre rd) ≡ 20
 length-lasts last row col pre rd = simp (length-append, length-bytes)
 
 -- the bytes of a state as the code writes them
 pub channel-parts : (ch : Channel)
-    → plane 4 (figures (ch .banks)) 160 ++ (plane 2 (tags (ch .banks)) 32 ++ (lastsOf (ch .last) (ch .row) (ch .col) (ch .pre) (ch .rd) ++ bufferBytes (ch .buffer)))
+    → fivePlanes (ch .banks) ++ (plane 2 (tags (ch .banks)) 32 ++ (lastsOf (ch .last) (ch .row) (ch .col) (ch .pre) (ch .rd) ++ bufferBytes (ch .buffer)))
     ≡ channelBytes ch
 unfolding channelBytes lastsBytes bankCount
 channel-parts ch = five-planes (ch .banks) _

@@ -1,7 +1,7 @@
--- The bytes of a state as the code writes them: the five planes of instants as one of 160. The laws in proofs/ say that these are
--- the bytes of ChannelBytes.
+-- The bytes of a state as the code writes them: the five planes of instants by their number. The laws in proofs/ say that these
+-- are the bytes of ChannelBytes.
 -- Assumes nothing.
-use Prim.Native.Nat.{ℕ, _/_, _%_}
+use Prim.Native.Nat.{ℕ}
 use mathlib.Core.Bool.{cond}
 use mathlib.Core.List.{List, _++_}
 use lib.Dec.{eqb}
@@ -10,16 +10,21 @@ use Rattle.num.specs.Bytes.{bytes}
 use Rattle.settings.specs.declared.PacketAt.{PacketAt}
 use Rattle.rules.specs.declared.BankTrack.{BankTrack}
 use Rattle.rules.specs.Channel.{idle}
-use Rattle.state.specs.ChannelBytes.{bankTag}
+use Rattle.state.specs.ChannelBytes.{bankTag, plane}
 
 -- the instant of a bank in plane i
 unfoldable pub figure : BankTrack → ℕ → ℕ
 figure t i =
     cond (eqb i 0) (t .opened .0) (cond (eqb i 1) (t .act .0) (cond (eqb i 2) (t .pre .0) (cond (eqb i 3) (t .rd .0) (t .retire .0))))
 
--- number i of the five planes
-abbrev pub figures : List BankTrack → ℕ → ℕ
-figures banks i = figure (getD banks (i % 32) idle) (i / 32)
+-- the numbers of plane k
+abbrev pub figures : List BankTrack → ℕ → ℕ → ℕ
+figures banks k x = figure (getD banks x idle) k
+
+unfoldable pub fivePlanes : List BankTrack → List ℕ
+fivePlanes banks =
+    plane 4 (figures banks 0) 32
+    ++ (plane 4 (figures banks 1) 32 ++ (plane 4 (figures banks 2) 32 ++ (plane 4 (figures banks 3) 32 ++ plane 4 (figures banks 4) 32)))
 
 abbrev pub tags : List BankTrack → ℕ → ℕ
 tags banks x = bankTag (getD banks x idle .bank)

@@ -1,10 +1,10 @@
 // The state of the channel as 732 bytes, in planes: a number of all 32 banks, then the next.
 ghost use mathlib.Core.Path.{_≡_};
-ghost use Prim.Native.Nat.{_+_, _<_, _≤_};
+ghost use Prim.Native.Nat.{_+_, _*_, _<_, _≤_};
 ghost use lib.ListN.{length};
 ghost use Rattle.num.specs.Bytes.{bytes, splice};
 ghost use Rattle.state.specs.ChannelBytes.{bankTag, plane, writeBytes, bufferBytes, channelBytes, bankIn, atIn, trackIn, tracksIn, writeIn, bufferIn, channelIn, bufferRight};
-ghost use Rattle.state.specs.Planes.{figure, figures, tags, lastsOf};
+ghost use Rattle.state.specs.Planes.{figure, figures, fivePlanes, tags, lastsOf};
 use rules::Bank;
 use rules::BankTrack;
 use rules::Buffer;
@@ -150,16 +150,29 @@ fn figure(t: BankTrack, i: usize) -> u32
     t.retire.0
 }
 
-fn put_figures(out: &mut [u8], banks: [BankTrack; 32])
+// A plane: one instant of each bank.
+fn put_plane(out: &mut [u8], ch: Channel, k: usize)
     requires { ⌜ 732 ≤ length (now out) ⌝ }
-    ensures { λ _. ⌜ now (out .exit) ≡ splice (now (out .entry)) 0 (plane 4 (figures banks) 160) ⌝ }
+    requires { ⌜ k < 5 ⌝ }
+    ensures { λ _. ⌜ now (out .exit) ≡ splice (now (out .entry)) (128 * k) (plane 4 (figures (ch .banks) k) 32) ⌝ }
 {
-    let mut i = 0;
-    while i < 160 {
-        let t = banks[i % 32];
-        num::put_u32(out, 4 * i, num::wide32(figure(t, i / 32)));
-        i += 1;
+    let mut x = 0;
+    while x < 32 {
+        let t = ch.banks[x];
+        num::put_u32(out, 128 * k + 4 * x, num::wide32(figure(t, k)));
+        x += 1;
     }
+}
+
+fn put_figures(out: &mut [u8], ch: Channel)
+    requires { ⌜ 732 ≤ length (now out) ⌝ }
+    ensures { λ _. ⌜ now (out .exit) ≡ splice (now (out .entry)) 0 (fivePlanes (ch .banks)) ⌝ }
+{
+    put_plane(out, ch, 0);
+    put_plane(out, ch, 1);
+    put_plane(out, ch, 2);
+    put_plane(out, ch, 3);
+    put_plane(out, ch, 4);
 }
 
 fn bank_tag(t: BankTrack) -> u64
@@ -173,13 +186,13 @@ fn bank_tag(t: BankTrack) -> u64
     }
 }
 
-fn put_tags(out: &mut [u8], banks: [BankTrack; 32])
+fn put_tags(out: &mut [u8], ch: Channel)
     requires { ⌜ 732 ≤ length (now out) ⌝ }
-    ensures { λ _. ⌜ now (out .exit) ≡ splice (now (out .entry)) 640 (plane 2 (tags banks) 32) ⌝ }
+    ensures { λ _. ⌜ now (out .exit) ≡ splice (now (out .entry)) 640 (plane 2 (tags (ch .banks)) 32) ⌝ }
 {
     let mut x = 0;
     while x < 32 {
-        let t = banks[x];
+        let t = ch.banks[x];
         num::put_u16(out, 640 + 2 * x, bank_tag(t));
         x += 1;
     }
@@ -230,10 +243,9 @@ pub fn put_channel(out: &mut [u8], ch: Channel)
     requires { ⌜ 732 ≤ length (now out) ⌝ }
     ensures { λ _. ⌜ now (out .exit) ≡ splice (now (out .entry)) 0 (channelBytes ch) ⌝ }
 {
-    let banks = ch.banks;
     let buffer = ch.buffer;
-    put_figures(out, banks);
-    put_tags(out, banks);
+    put_figures(out, ch);
+    put_tags(out, ch);
     put_lasts(out, ch.last, ch.row, ch.col, ch.pre, ch.rd);
     put_buffer(out, buffer);
 }

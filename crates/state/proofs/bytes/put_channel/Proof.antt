@@ -5,8 +5,8 @@ use Prim.Native.Nat.{ℕ}
 use native.Mathlib.Omega.{arith}
 use Rattle.num.specs.Bytes.{splice}
 use Rattle.state.specs.ChannelBytes.{plane, bufferBytes}
-use Rattle.state.specs.Planes.{figures, tags, lastsOf}
-use Rattle.state.proofs.PlaneLaws.{length-plane, length-lasts, splice-four, channel-parts}
+use Rattle.state.specs.Planes.{fivePlanes, tags, lastsOf}
+use Rattle.state.proofs.PlaneLaws.{length-plane, length-planes, length-lasts, splice-four, channel-parts}
 use borrow.Author.Needs.{needs}
 use Rattle.state.proofs.bytes.put_channel.Statement.{statement}
 use Rattle.state.proofs.bytes.put_channel.Tie as tie
@@ -28,13 +28,13 @@ same-length c = search needs
 
 returns : tie.Need-returns
 returns c =
-    let l = c .before .before .before .before .before .before .before .before .before .before .before .before .before .before .before .before .before .before .args .out .now in
-    let ch = c .before .before .before .before .before .before .before .before .before .before .before .before .before .before .before .before .before .before .args .ch in
-    let p = plane 4 (figures (ch .banks)) 160 in
+    let l = c .before .before .before .before .before .before .before .before .before .before .before .before .before .before .before .before .before .args .out .now in
+    let ch = c .before .before .before .before .before .before .before .before .before .before .before .before .before .before .before .before .before .args .ch in
+    let p = fivePlanes (ch .banks) in
     let q = plane 2 (tags (ch .banks)) 32 in
     let r = lastsOf (ch .last) (ch .row) (ch .col) (ch .pre) (ch .rd) in
     rw (c .before .before .put-buffer .ensures, c .before .before .before .before .before .before .put-lasts .ensures, c .before .before .before .before .before .before .before .before .before .before .put-tags .ensures, c .before .before .before .before .before .before .before .before .before .before .before .before .before .before .put-figures .ensures)
-    (splice-four l 0 640 64 20 p q r (bufferBytes (ch .buffer)) (length-plane 4 (figures (ch .banks)) 160) (length-plane 2 (tags (ch .banks)) 32) (length-lasts (ch .last) (ch .row) (ch .col) (ch .pre) (ch .rd)) (omega arith)
+    (splice-four l 0 640 64 20 p q r (bufferBytes (ch .buffer)) (length-planes (ch .banks)) (length-plane 2 (tags (ch .banks)) 32) (length-lasts (ch .last) (ch .row) (ch .col) (ch .pre) (ch .rd)) (omega arith)
     ∙ ap (λ (x : List ℕ). splice l 0 x) (channel-parts ch))
 
 pub put-channel-spec : {M : Type 1} → statement M

@@ -1,86 +1,51 @@
--- `state::bytes::put_figures` meets its contract: after i turns the first i instants are put.
-use mathlib.Core.Path.{_≡_, _∙_, ap}
-use Prim.Native.Nat.{_*_, _-_, _≤_}
+-- `state::bytes::put_figures` meets its contract: five planes side by side.
+use mathlib.Core.Path.{_≡_}
+use mathlib.Core.List.{List}
+use Prim.Native.Nat.{ℕ}
 use native.Mathlib.Omega.{arith}
 use lib.ListN.{length}
-use Rattle.num.specs.Bytes.{splice, bytes}
-use Rattle.num.proofs.SpliceLaws.{splice-none, splice-next, length-splice}
 use Rattle.state.specs.ChannelBytes.{plane}
-use Rattle.state.specs.Planes.{figures}
-use Rattle.state.proofs.PlaneLaws.{length-plane, plane-next}
+use Rattle.state.specs.Planes.{figures, fivePlanes}
+use Rattle.state.proofs.PlaneLaws.{length-plane, splice-five}
 use borrow.Author.Needs.{needs}
 use Rattle.state.proofs.bytes.put_figures.Statement.{statement}
 use Rattle.state.proofs.bytes.put_figures.Tie as tie
 
-abbrev Inv-loop : tie.InvT-loop
-Inv-loop out₀ banks i₀ out i = (i ≤ 160) × (out ≡ splice out₀ 0 (plane 4 (figures banks) i))
+put-plane-requires : tie.Need-put-plane-requires
+put-plane-requires c κs = search needs
 
-abbrev μ-loop : tie.MeasureT-loop
-μ-loop out₀ banks i₀ out i = 160 - i
+put-plane-requires-2 : tie.Need-put-plane-requires-2
+put-plane-requires-2 c κs = search needs
 
--- the lent slice keeps its length
-held : (c : tie.At-loop Inv-loop μ-loop) → length (c .loop .out) ≡ length (c .before .before .args .out .now)
-held c =
-    let a = c .before .before .args in
-    let n = length-plane 4 (figures (a .t2)) (c .loop .i) in
-    ap length (c .loop .inv .1) ∙ length-splice (a .out .now) 0 (plane 4 (figures (a .t2)) (c .loop .i)) (omega arith)
+put-plane-requires-3 : tie.Need-put-plane-requires-3
+put-plane-requires-3 c κs = search needs
 
-loop-holds : tie.Need-loop-holds Inv-loop μ-loop
-unfolding plane
-loop-holds c = (omega arith, splice-none (c .before .args .out .now) 0)
+put-plane-requires-4 : tie.Need-put-plane-requires-4
+put-plane-requires-4 c κs = search needs
 
-mul-t : tie.Need-mul-t Inv-loop μ-loop
-mul-t c = search needs
+put-plane-requires-5 : tie.Need-put-plane-requires-5
+put-plane-requires-5 c κs = search needs
 
-array-copy-out-t : tie.Need-array-copy-out-t Inv-loop μ-loop
-array-copy-out-t c = search needs
+same-length : tie.Need-same-length
+same-length c = search needs
 
-mul-put-u32 : tie.Need-mul-put-u32 Inv-loop μ-loop
-mul-put-u32 c = search needs
-
-figure-requires : tie.Need-figure-requires Inv-loop μ-loop
-figure-requires c κs = search needs
-
-wide32-requires : tie.Need-wide32-requires Inv-loop μ-loop
-wide32-requires c κs = search needs
-
-put-u32-requires : tie.Need-put-u32-requires Inv-loop μ-loop
-put-u32-requires c κs = let h = held (c .before .before .before .before .before) in omega arith
-
-add-i : tie.Need-add-i Inv-loop μ-loop
-add-i c = search needs
-
-loop-less : tie.Need-loop-less Inv-loop μ-loop
-loop-less c = search needs
-
-loop-again : tie.Need-loop-again Inv-loop μ-loop
-loop-again c =
-    let a = c .before .before .before .before .before .before .before .before .before .before .args in
-    let k = c .before .before .before .before .before .before .before .before .loop in
-    let n = length-plane 4 (figures (a .t2)) (k .i) in
-    (search needs, c .before .before .put-u32 .ensures ∙ rw (k .inv .1, c .before .before .before .wide32 .ensures .0, c .before .before .before .before .figure .ensures, plane-next 4 (figures (a .t2)) (k .i)) (splice-next (a .out .now) (plane 4 (figures (a .t2)) (k .i)) (bytes 4 (figures (a .t2) (k .i))) (4 * k .i) n (omega arith)))
-
-same-length : tie.Need-same-length Inv-loop μ-loop
-same-length c = held (c .before)
-
-returns : tie.Need-returns Inv-loop μ-loop
-returns c = let e : c .before .loop .i ≡ 160 = omega arith in rw e at (c .before .loop .inv .1)
+returns : tie.Need-returns
+unfolding fivePlanes
+returns c =
+    let a = c .before .before .before .before .before .before .before .before .before .before .before .before .before .before .before .before .before .before .before .before .before .args in
+    let p : ℕ → List ℕ = λ k. plane 4 (figures (a .ch .banks) k) 32 in
+    let n : (k : ℕ) → length (p k) ≡ 128 = λ k. length-plane 4 (figures (a .ch .banks) k) 32 in
+    rw (c .before .before .put-plane5 .ensures, c .before .before .before .before .before .before .put-plane4 .ensures, c .before .before .before .before .before .before .before .before .before .before .put-plane3 .ensures, c .before .before .before .before .before .before .before .before .before .before .before .before .before .before .put-plane2 .ensures, c .before .before .before .before .before .before .before .before .before .before .before .before .before .before .before .before .before .before .put-plane .ensures)
+    (splice-five (a .out .now) 0 128 128 128 128 (p 0) (p 1) (p 2) (p 3) (p 4) (n 0) (n 1) (n 2) (n 3) (omega arith))
 
 pub put-figures-spec : {M : Type 1} → statement M
 put-figures-spec =
     tie.close
     (tie.spec
-    Inv-loop
-    μ-loop
-    loop-holds
-    mul-t
-    array-copy-out-t
-    mul-put-u32
-    figure-requires
-    wide32-requires
-    put-u32-requires
-    add-i
-    loop-less
-    loop-again
+    put-plane-requires
+    put-plane-requires-2
+    put-plane-requires-3
+    put-plane-requires-4
+    put-plane-requires-5
     same-length
     returns)

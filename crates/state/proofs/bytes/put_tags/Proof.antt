@@ -13,17 +13,17 @@ use Rattle.state.proofs.bytes.put_tags.Statement.{statement}
 use Rattle.state.proofs.bytes.put_tags.Tie as tie
 
 abbrev Inv-loop : tie.InvT-loop
-Inv-loop out₀ banks x₀ out x = (x ≤ 32) × (out ≡ splice out₀ 640 (plane 2 (tags banks) x))
+Inv-loop out₀ ch x₀ out x = (x ≤ 32) × (out ≡ splice out₀ 640 (plane 2 (tags (ch .banks)) x))
 
 abbrev μ-loop : tie.MeasureT-loop
-μ-loop out₀ banks x₀ out x = 32 - x
+μ-loop out₀ ch x₀ out x = 32 - x
 
 -- the lent slice keeps its length
 held : (c : tie.At-loop Inv-loop μ-loop) → length (c .loop .out) ≡ length (c .before .before .args .out .now)
 held c =
     let a = c .before .before .args in
-    let n = length-plane 2 (tags (a .t2)) (c .loop .x) in
-    ap length (c .loop .inv .1) ∙ length-splice (a .out .now) 640 (plane 2 (tags (a .t2)) (c .loop .x)) (omega arith)
+    let n = length-plane 2 (tags (a .t2 .banks)) (c .loop .x) in
+    ap length (c .loop .inv .1) ∙ length-splice (a .out .now) 640 (plane 2 (tags (a .t2 .banks)) (c .loop .x)) (omega arith)
 
 loop-holds : tie.Need-loop-holds Inv-loop μ-loop
 unfolding plane
@@ -32,8 +32,8 @@ loop-holds c = (omega arith, splice-none (c .before .args .out .now) 640)
 mul-t : tie.Need-mul-t Inv-loop μ-loop
 mul-t c = search needs
 
-array-copy-out-t : tie.Need-array-copy-out-t Inv-loop μ-loop
-array-copy-out-t c = search needs
+element-copy-out-t : tie.Need-element-copy-out-t Inv-loop μ-loop
+element-copy-out-t c = search needs
 
 mul-put-u16 : tie.Need-mul-put-u16 Inv-loop μ-loop
 mul-put-u16 c = search needs
@@ -57,8 +57,8 @@ loop-again : tie.Need-loop-again Inv-loop μ-loop
 loop-again c =
     let a = c .before .before .before .before .before .before .before .before .before .args in
     let k = c .before .before .before .before .before .before .before .loop in
-    let n = length-plane 2 (tags (a .t2)) (k .x) in
-    (search needs, c .before .before .put-u16 .ensures ∙ rw (k .inv .1, c .before .before .before .bank-tag .ensures, plane-next 2 (tags (a .t2)) (k .x)) (splice-more (a .out .now) 640 (plane 2 (tags (a .t2)) (k .x)) (bytes 2 (tags (a .t2) (k .x))) (2 * k .x) n (omega arith)))
+    let n = length-plane 2 (tags (a .t2 .banks)) (k .x) in
+    (search needs, c .before .before .put-u16 .ensures ∙ rw (k .inv .1, c .before .before .before .bank-tag .ensures, plane-next 2 (tags (a .t2 .banks)) (k .x)) (splice-more (a .out .now) 640 (plane 2 (tags (a .t2 .banks)) (k .x)) (bytes 2 (tags (a .t2 .banks) (k .x))) (2 * k .x) n (omega arith)))
 
 same-length : tie.Need-same-length Inv-loop μ-loop
 same-length c = held (c .before)
@@ -74,7 +74,7 @@ put-tags-spec =
     μ-loop
     loop-holds
     mul-t
-    array-copy-out-t
+    element-copy-out-t
     mul-put-u16
     add-put-u16
     bank-tag-requires
