@@ -1,8 +1,9 @@
 #!/usr/bin/env python3
-"""The listing of document 01 ("Bench runs"), written from that document alone: requests on standard input, lines on standard output.
+"""The listing of document 01 ("Bench runs") a second time, written from that document alone, so that what the runs are held to
+does not come from the program that they test. Nothing of it is proved, and no build needs it.
 
   listing.py            the listing of standard input
-  listing.py requests   the largest input, 2,730 requests of every kind, refused ones among them
+  listing.py requests   the largest input, 2,730 requests of every kind, refused ones among them: crates/run_largest/stdin
   listing.py test       compares the listing of each crates/run_*/stdin with the stdout beside it
 """
 import glob
@@ -192,14 +193,18 @@ def largest():
 
 
 def test():
-    failed = 0
-    for name in sorted(glob.glob('crates/run_*/stdin')):
+    root = os.path.join(os.path.dirname(os.path.abspath(__file__)), '..', '..')
+    passed = failed = 0
+    for name in sorted(glob.glob(os.path.join(root, 'crates', 'run_*', 'stdin'))):
         wanted = os.path.join(os.path.dirname(name), 'stdout')
         with open(name, 'rb') as given, open(wanted) as text:
-            if listing(given.read()) != text.read():
+            if listing(given.read()) == text.read():
+                passed += 1
+            else:
                 failed += 1
-                print(wanted, 'differs')
-    sys.exit(failed != 0)
+                print(os.path.relpath(wanted), 'differs')
+    print('%d passed, %d failed' % (passed, failed))
+    sys.exit(failed != 0 or passed == 0)
 
 
 if sys.argv[1:] == ['requests']:
