@@ -462,10 +462,11 @@ fn main() {
     let list = make_list(size.count);
     compare_answers(&list);
     let [library, plain] = best(
+        size.count,
         size.runs,
         [
-            &mut || timed(size.count, || rdram::check(&SETTINGS, black_box(&list))),
-            &mut || timed(size.count, || plain_check(&settings, black_box(&list))),
+            &mut || vec![timed(|| rdram::check(&SETTINGS, black_box(&list)))],
+            &mut || vec![timed(|| plain_check(&settings, black_box(&list)))],
         ],
     );
     print_head();
