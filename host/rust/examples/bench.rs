@@ -235,17 +235,18 @@ fn measure(records: usize, runs: usize) {
     let (mut back, mut plain_back) = (vec![1; 32 * records], vec![1; 32 * records]);
 
     let [library, plain] = best(
+        records,
         runs,
         [
             &mut || {
-                timed(records, || {
+                vec![timed(|| {
                     rdram::log_encode(&SETTINGS, black_box(&list), &mut log)
-                })
+                })]
             },
             &mut || {
-                timed(records, || {
+                vec![timed(|| {
                     plain_encode(&settings, black_box(&list), &mut plain_log)
-                })
+                })]
             },
         ],
     );
@@ -253,17 +254,18 @@ fn measure(records: usize, runs: usize) {
     print_row("`rdram_log_encode`", &stream, library, plain, None);
 
     let [library, plain] = best(
+        records,
         runs,
         [
             &mut || {
-                timed(records, || {
+                vec![timed(|| {
                     rdram::log_decode(&SETTINGS, black_box(&log), &mut back)
-                })
+                })]
             },
             &mut || {
-                timed(records, || {
+                vec![timed(|| {
                     plain_decode(&settings, black_box(&log), &mut plain_back)
-                })
+                })]
             },
         ],
     );

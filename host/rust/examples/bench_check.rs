@@ -1,5 +1,5 @@
-//! Times `check` on a legal list of 1,000,000 records, by the library and by plain Rust that makes
-//! the same tests: `bench_check [RECORDS [RUNS]]`.
+//! Times `check` on a legal list of 1,000,000 records, and on a short one, by the library and by
+//! plain Rust that makes the same tests: `bench_check [RECORDS [RUNS]]`.
 
 mod common;
 
@@ -7,6 +7,9 @@ use common::{below, best, print_head, print_row, timed, Size, SETTINGS};
 use plain::Checker;
 use rdram::{data_record, packet_record, word_encode, Kind, Packet, Refusal, MASK_FULL};
 use std::hint::black_box;
+
+/// Records that are checked in so short a time that mostly no other program runs meanwhile.
+const SHORT: usize = 15_000;
 
 /// The check in plain Rust, written for speed: one pass, with the first instant that each rule
 /// still allows.
@@ -456,18 +459,27 @@ fn plain_check(settings: &[u8], list: &[u8]) -> bool {
     plain::check(settings, list).is_ok()
 }
 
-fn main() {
-    let size = Size::from_arguments(1_000_000, 21);
+fn measure(records: usize, runs: usize) {
     let settings = SETTINGS.to_bytes();
-    let list = make_list(size.count);
+    let list = make_list(records);
     compare_answers(&list);
     let [library, plain] = best(
-        size.runs,
+        records,
+        runs,
         [
-            &mut || timed(size.count, || rdram::check(&SETTINGS, black_box(&list))),
-            &mut || timed(size.count, || plain_check(&settings, black_box(&list))),
+            &mut || vec![timed(|| rdram::check(&SETTINGS, black_box(&list)))],
+            &mut || vec![timed(|| plain_check(&settings, black_box(&list)))],
         ],
     );
+    let stream = format!("{records} records");
+    print_row("`rdram_check`", &stream, library, plain, None);
+}
+
+fn main() {
+    let size = Size::from_arguments(1_000_000, 21);
     print_head();
-    print_row("`rdram_check`", "legal list", library, plain, None);
+    measure(size.count, size.runs);
+    if size.count > SHORT {
+        measure(SHORT, 50 * size.runs);
+    }
 }

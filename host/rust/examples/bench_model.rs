@@ -8,12 +8,11 @@
 mod common;
 mod rivals;
 
-use common::{below, best, print_head, print_row, streams, timed, Size};
+use common::{below, best, print_head, print_row, streams, time, Size};
 use rdram::{raw, Planner, Settings, RECORD_BYTES, REQUEST_BYTES, REQUEST_RECORDS};
 use rivals::plain::model as plain;
 use rivals::plain_model::{self as tuned, Event, Refused, MODEL_BYTES};
 use rivals::plain_state::Figures;
-use std::hint::black_box;
 
 const SETTINGS: Settings = Settings {
     rows: 16,
@@ -198,23 +197,17 @@ fn compare_damaged(
 // ---- Times ----
 
 #[inline(never)] // so that instructions can be counted by call
-fn time_bytes(call: OnBytes, store: &mut [u8], list: &[Record]) -> f64 {
+fn time_bytes(call: OnBytes, store: &mut [u8], list: &[Record]) -> Vec<f64> {
     let (settings, mut state, mut answer) = (SETTINGS.to_bytes(), fresh(), [0; 16]);
-    timed(list.len(), || {
-        for record in list {
-            let record = black_box(record);
-            _ = black_box(call(&settings, &mut state, store, record, &mut answer));
-        }
+    time(list, |record| {
+        call(&settings, &mut state, store, record, &mut answer)
     })
 }
 
-fn time_kept<M>(mut model: M, call: Kept<M>, store: &mut [u8], list: &[Record]) -> f64 {
+fn time_kept<M>(mut model: M, call: Kept<M>, store: &mut [u8], list: &[Record]) -> Vec<f64> {
     let (f, mut answer) = (Figures::of(&SETTINGS.to_bytes()).unwrap(), [0; 16]);
-    timed(list.len(), || {
-        for record in list {
-            let record = black_box(record);
-            _ = black_box(call(&mut model, &f, store, record, &mut answer));
-        }
+    time(list, |record| {
+        call(&mut model, &f, store, record, &mut answer)
     })
 }
 
@@ -229,6 +222,7 @@ fn main() {
         compare(list);
         let bytes = |call| time_bytes(call, &mut store.borrow_mut(), list);
         let [library, plain, tuned, plain_kept, tuned_kept] = best(
+            size.count,
             size.runs,
             [
                 &mut || bytes(library),

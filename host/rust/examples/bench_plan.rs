@@ -7,12 +7,11 @@
 mod common;
 mod rivals;
 
-use common::{below, best, print_head, print_row, streams, timed, Size, SETTINGS};
+use common::{below, best, print_head, print_row, streams, time, Size, SETTINGS};
 use rdram::{raw, RECORD_BYTES, REQUEST_BYTES, REQUEST_RECORDS};
 use rivals::plain::planner as plain;
 use rivals::plain_plan::{self as tuned, STATE_BYTES};
 use rivals::plain_state::{Figures, LAST};
-use std::hint::black_box;
 
 const ROOM: usize = REQUEST_RECORDS * RECORD_BYTES;
 
@@ -140,21 +139,17 @@ fn compare_damaged(x: &mut u64, settings: &[u8], state: &State, request: &Reques
 // ---- Times ----
 
 #[inline(never)] // so that instructions can be counted by call
-fn time_bytes(call: OnBytes, requests: &[Request]) -> f64 {
+fn time_bytes(call: OnBytes, requests: &[Request]) -> Vec<f64> {
     let (settings, mut state, mut room) = (SETTINGS.to_bytes(), fresh(), [0; ROOM]);
-    timed(requests.len(), || {
-        for request in requests {
-            _ = black_box(call(&settings, &mut state, black_box(request), &mut room));
-        }
+    time(requests, |request| {
+        call(&settings, &mut state, request, &mut room)
     })
 }
 
-fn time_kept<P>(mut planner: P, call: Kept<P>, requests: &[Request]) -> f64 {
+fn time_kept<P>(mut planner: P, call: Kept<P>, requests: &[Request]) -> Vec<f64> {
     let (f, mut room) = (Figures::of(&SETTINGS.to_bytes()).unwrap(), [0; ROOM]);
-    timed(requests.len(), || {
-        for request in requests {
-            _ = black_box(call(&mut planner, &f, black_box(request), &mut room));
-        }
+    time(requests, |request| {
+        call(&mut planner, &f, request, &mut room)
     })
 }
 
@@ -165,6 +160,7 @@ fn main() {
     for (name, requests) in all.iter().filter(|(name, _)| size.has(name)) {
         compare(requests);
         let [library, plain, tuned, plain_kept, tuned_kept] = best(
+            size.count,
             size.runs,
             [
                 &mut || time_bytes(library, requests),

@@ -63,24 +63,47 @@ pub fn below(x: &mut u64, n: u64) -> u64 {
     (*x >> 33) % n
 }
 
-/// Nanoseconds for one of `count` that some work does. Instructions are counted in here only, so
-/// that they are those of the measured calls.
+/// How many calls are timed together: few, so that most times have no other program in them.
+const SLICE: usize = 500;
+
+/// Nanoseconds that some work takes. Instructions are counted in here only, so that they are those
+/// of the measured calls.
 #[inline(never)]
-pub fn timed<T>(count: usize, work: impl FnOnce() -> T) -> f64 {
+pub fn timed<T>(work: impl FnOnce() -> T) -> f64 {
     let start = Instant::now();
     black_box(work());
-    start.elapsed().as_secs_f64() * 1e9 / count as f64
+    start.elapsed().as_secs_f64() * 1e9
 }
 
-/// The best time of each of some works, which run in turns.
-pub fn best<const N: usize>(runs: usize, mut works: [&mut dyn FnMut() -> f64; N]) -> [f64; N] {
-    let mut best = [f64::MAX; N];
-    for _ in 0..runs {
-        for (i, work) in works.iter_mut().enumerate() {
-            best[i] = best[i].min(work());
+/// The times of a call on each of some inputs, in slices.
+pub fn time<A, B>(inputs: &[A], mut call: impl FnMut(&A) -> B) -> Vec<f64> {
+    let slices = inputs.chunks(SLICE);
+    let slice_time = |slice: &[A]| {
+        timed(|| {
+            for input in slice {
+                black_box(call(black_box(input)));
+            }
+        })
+    };
+    slices.map(slice_time).collect()
+}
+
+/// Nanoseconds for one of `count` that each work does, by the best time of each of its slices. The
+/// works run in turns.
+pub fn best<const N: usize>(
+    count: usize,
+    runs: usize,
+    mut works: [&mut dyn FnMut() -> Vec<f64>; N],
+) -> [f64; N] {
+    let mut least = works.each_mut().map(|work| work());
+    for _ in 1..runs {
+        for (least, work) in least.iter_mut().zip(&mut works) {
+            for (least, time) in least.iter_mut().zip(work()) {
+                *least = least.min(time);
+            }
         }
     }
-    best
+    least.map(|slices| slices.iter().sum::<f64>() / count as f64)
 }
 
 /// The head of the table. Times are nanoseconds a request or record.
