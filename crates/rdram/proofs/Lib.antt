@@ -1,7 +1,3 @@
 pub mod WordRoundTrip
-pub mod ListOf
 pub mod PlanCalls
-pub mod BenchRun
 pub mod ModelCall
-pub mod DeviceRun
-pub mod CallsRun

@@ -3,4 +3,3 @@ pub mod Logs
 pub mod Checks
 pub mod Plans
 pub mod Models
-pub mod Runs

@@ -26,10 +26,10 @@ use Rattle.runs.specs.Drive.{Drive, started, driven}
 use Rattle.runs.specs.WholeRun.{EndsInDrain, WholeRun}
 use Rattle.runs.proofs.DriveLaws.{kept, driven-ran}
 use Rattle.runs.proofs.Demand.{fresh-passing, run-fits, run-data, run-coded, whole-run-split}
-use Rattle.rdram.specs.Runs.{PlanCall, Device, freshBench, benchAfter, freshDevice, deviceAfter, BytesIn, DrainsLast, CallsRun}
-use Rattle.rdram.proofs.ListOf.{length-list, list-count, list-checked}
-use Rattle.rdram.proofs.BenchRun.{callOf, callsOf, calls-bytes, calls-append, bench-list, bench-fed, answers-accepted}
-use Rattle.rdram.proofs.DeviceRun.{lengths, like, Ready, device-is}
+use Rattle.calls.specs.Runs.{PlanCall, Device, freshBench, benchAfter, freshDevice, deviceAfter, BytesIn, DrainsLast, CallsRun}
+use Rattle.calls.proofs.ListOf.{length-list, list-count, list-checked}
+use Rattle.calls.proofs.BenchRun.{callOf, callsOf, calls-bytes, calls-append, bench-list, bench-fed, answers-accepted}
+use Rattle.calls.proofs.DeviceRun.{lengths, like, Ready, device-is}
 
 nil-of : (l : List Record) → length l ≡ 0 → l ≡ []
 nil-of [] e = refl

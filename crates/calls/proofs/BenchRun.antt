@@ -33,9 +33,9 @@ use Rattle.plan.specs.Runs.{Call, OfBytes, plannerAfter, listed}
 use Rattle.plan.proofs.Valid.{fresh-valid, next-valid}
 use Rattle.plan.proofs.PlannerRoundTrip.{planner-decode-encode, planner-right}
 use Rattle.runs.specs.WholeRun.{fed}
 use Rattle.rdram.specs.Plans.{planAnswer, planBy, planUnder, planAnswered, plannerBy, plannerUnder, planPlanner, roomBy, roomUnder, planPlaced}
-use Rattle.rdram.specs.Runs.{PlanCall, Bench, freshBench, benchNext, benchAfter, benchFed, BytesIn}
-use Rattle.rdram.proofs.ListOf.{length-list, list-append}
+use Rattle.calls.specs.Runs.{PlanCall, Bench, freshBench, benchNext, benchAfter, benchFed, BytesIn}
+use Rattle.calls.proofs.ListOf.{length-list, list-append}
 
 -- a call by the length of its room
 abbrev pub callOf : PlanCall → Call
