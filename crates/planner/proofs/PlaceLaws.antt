@@ -235,7 +235,7 @@ module _ (s : Settings) (p : PlannerState) (c : Course) (long : length (c .entri
   -- ---- the end
 
   pub going-end : (banks : List BankTrack) (l : Lasts) (buffer : Buffer) (now : ℕ) (entries : List Entry) → Going s p c banks l buffer now entries (c .count)
-      → Drafted s (drawn p banks l buffer now entries (c .count)) (sentFrom s split p (listed c))
+      → Drafted s (drawn p banks l buffer now entries (c .count) false) (sentFrom s split p (listed c))
   unfolding timely
   going-end banks l buffer now entries g =
       let whole : take (c .count) (listed c) ≡ listed c = rw length-listed at (take-length (listed c)) in

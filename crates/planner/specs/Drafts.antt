@@ -37,12 +37,12 @@ abbrev pub lastsFrom : PacketAt → PacketAt → PacketAt → PacketAt → Packe
 lastsFrom last row col pre rd = record { last = last .0; row = row .0; col = col .0; pre = pre .0; rd = rd .0 }
 
 -- a draft from the parts of a state, with the first n entries
-abbrev pub drawn : PlannerState → List BankTrack → Lasts → Buffer → ℕ → List Entry → ℕ → Drawn
-drawn p banks l buffer now entries n =
+abbrev pub drawn : PlannerState → List BankTrack → Lasts → Buffer → ℕ → List Entry → ℕ → Bool → Drawn
+drawn p banks l buffer now entries n late =
     record {
       state = record { channel = channelOf banks l buffer; now = record { 0 = now }; refresh = p .refresh; mask = p .mask };
       course = record { entries = entries; count = n };
-      late = false;
+      late = late;
     }
 
 -- a planner before its first packet of a call

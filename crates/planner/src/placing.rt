@@ -94,8 +94,9 @@ fn draft_of(
     now: u32,
     entries: [Entry; 17],
     n: usize,
+    late: bool,
 ) -> Draft
-    ensures { λ r. ⌜ r ≡ drawn p banks l buffer now entries n ⌝ }
+    ensures { λ r. ⌜ r ≡ drawn p banks l buffer now entries n late ⌝ }
 {
     let channel = Channel {
         banks: banks,
@@ -118,18 +119,7 @@ fn draft_of(
     Draft {
         state: state,
         course: course,
-        late: false,
-    }
-}
-
-// A draft that is late.
-fn late_draft(p: PlannerState, c: Course) -> Draft
-    ensures { λ r. ⌜ r .late ≡ true ⌝ }
-{
-    Draft {
-        state: p,
-        course: c,
-        late: true,
+        late: late,
     }
 }
 
@@ -147,7 +137,7 @@ fn lasts_of(last: PacketAt, row: PacketAt, col: PacketAt, pre: PacketAt, rd: Pac
 
 // Places the packets of a course one after the other. The state of the channel is kept in locals: no function takes the array
 // of banks, except where rule 5 walks them.
-pub fn place(s: Settings, p: PlannerState, c: Course) -> Draft
+pub(crate) fn place(s: Settings, p: PlannerState, c: Course) -> Draft
     requires { ⌜ c .count ≤ 17 ⌝ }
     requires { ⌜ allPackets (listed c) ≡ true ⌝ }
     requires { ⌜ p .now .0 ≤ horizon ⌝ }
@@ -174,7 +164,7 @@ pub fn place(s: Settings, p: PlannerState, c: Course) -> Draft
         }
         let slot = slot_for(s, now, v, h, k, act, l);
         if is_late(s, v, slot) {
-            return late_draft(p, c);
+            return draft_of(p, banks, l, buffer, now, entries, i, true);
         }
         now = slot as u32;
         entries[i] = at_instant(e, now);
@@ -191,5 +181,5 @@ pub fn place(s: Settings, p: PlannerState, c: Course) -> Draft
         l = lasts_after(u, l);
         buffer = buffer_after(u, buffer);
     }
-    draft_of(p, banks, l, buffer, now, entries, c.count)
+    draft_of(p, banks, l, buffer, now, entries, c.count, false)
 }

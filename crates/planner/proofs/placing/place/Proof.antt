@@ -109,15 +109,15 @@ slot-for-requires c κs = search needs
 is-late-requires : tie.Need-is-late-requires Inv-loop μ-loop
 is-late-requires c κs = search needs
 
-late-draft-requires : tie.Need-late-draft-requires Inv-loop μ-loop
-late-draft-requires c κs = search needs
+draft-of-requires : tie.Need-draft-of-requires Inv-loop μ-loop
+draft-of-requires c κs = search needs
 
 returns : tie.Need-returns Inv-loop μ-loop
 returns c =
     let z = c .before .before .before .before .before .before .before .before .before .before .before .before .before .before .before .before .before .before .before .before .before .before .before .before .before in
     let k = c .before .before .before .before .before .before .before .before .before .before .before .before .before .before .before .before .before .before .before .before .loop in
     let l = c .before .before in
-    going-late (z .args .s) (z .args .p) (z .args .c) (long z) (z .pre .0) (k .banks) (k .l) (k .buffer) (k .now) (k .entries) (k .i) (k .inv) (c .before .before .before .before .before .before .before .before .before .before .before .before .before .before .before .before .before .before .before .loop-test .taken) _ (slot-found l) _ (c .before .before .before .before .before .before .before .before .before .before .before .before .before .before .before .before .before .view-in .ensures) _ (c .before .before .is-late .ensures) (c .before .if2 .taken) _ (c .late-draft .ensures)
+    going-late (z .args .s) (z .args .p) (z .args .c) (long z) (z .pre .0) (k .banks) (k .l) (k .buffer) (k .now) (k .entries) (k .i) (k .inv) (c .before .before .before .before .before .before .before .before .before .before .before .before .before .before .before .before .before .before .before .loop-test .taken) _ (slot-found l) _ (c .before .before .before .before .before .before .before .before .before .before .before .before .before .before .before .before .before .view-in .ensures) _ (c .before .before .is-late .ensures) (c .before .if2 .taken) _ (rw (c .draft-of .ensures))
 
 cast-now : tie.Need-cast-now Inv-loop μ-loop
 cast-now c =
@@ -231,15 +231,15 @@ loop-again c =
     in
     going-next (z .args .s) (z .args .p) (z .args .c) (long z) (z .pre .0) (k .banks) (k .l) (k .buffer) (k .now) (k .entries) (k .i) (k .inv) (c .before .before .before .before .before .before .before .before .before .before .before .before .before .before .before .before .before .before .before .before .before .before .before .before .before .before .before .before .before .before .before .before .before .before .before .loop-test .taken) _ (slot-found l) _ (c .before .before .before .before .before .before .before .before .before .before .before .before .before .before .before .before .before .before .before .before .before .before .before .before .before .before .before .before .before .before .before .before .before .view-in .ensures) _ (c .before .before .before .before .before .before .before .before .before .before .before .before .before .before .before .before .before .before .before .before .before .before .before .before .before .before .before .before .before .before .before .before .held-of .ensures) _ (c .before .before .before .before .before .before .before .before .before .before .before .before .before .before .before .before .before .before .is-late .ensures) (c .before .before .before .before .before .before .before .before .before .before .before .before .before .before .before .before .before .if2 .left) _ (c .before .before .before .before .before .before .before .before .before .before .before .before .before .before .before .before .at-instant .ensures) _ _ _ stored (c .before .lasts-after .ensures) (c .buffer-after .ensures)
 
-draft-of-requires : tie.Need-draft-of-requires Inv-loop μ-loop
-draft-of-requires c κs = search needs
+draft-of-requires-2 : tie.Need-draft-of-requires-2 Inv-loop μ-loop
+draft-of-requires-2 c κs = search needs
 
 returns-2 : tie.Need-returns-2 Inv-loop μ-loop
 returns-2 c =
     let z = c .before .before .before .before .before .before .before in
     let k = c .before .before .loop in
     let e : k .i ≡ z .args .c .count = omega (arith, k .inv .within, c .before .loop-test .left) in
-    rw (c .draft-of .ensures) (going-end (z .args .s) (z .args .p) (z .args .c) (long z) (z .pre .0) (k .banks) (k .l) (k .buffer) (k .now) (k .entries) (rw e at (k .inv)))
+    rw (c .draft-of2 .ensures) (going-end (z .args .s) (z .args .p) (z .args .c) (long z) (z .pre .0) (k .banks) (k .l) (k .buffer) (k .now) (k .entries) (rw e at (k .inv)))
 
 pub place-spec : {M : Type 1} → statement M
 place-spec =
@@ -271,7 +271,7 @@ place-spec =
     act-bound-requires
     slot-for-requires
     is-late-requires
-    late-draft-requires
+    draft-of-requires
     returns
     cast-now
     at-instant-requires
@@ -305,5 +305,5 @@ place-spec =
     add-i
     loop-less
     loop-again
-    draft-of-requires
+    draft-of-requires-2
     returns-2)
