@@ -3,7 +3,7 @@ ghost use mathlib.Core.Path.{_≡_};
 ghost use Prim.Native.Nat.{_+_, _*_, _<_, _≤_};
 ghost use lib.ListN.{length};
 ghost use Rattle.num.specs.Bytes.{bytes, splice};
-ghost use Rattle.state.specs.ChannelBytes.{bankTag, plane, writeBytes, bufferBytes, channelBytes, bankIn, atIn, trackIn, tracksIn, writeIn, bufferIn, channelIn, bufferRight};
+ghost use Rattle.state.specs.ChannelBytes.{bankTag, plane, writeBytes, bufferBytes, channelBytes, bankIn, atIn, trackIn, writeIn, bufferIn, channelIn, bufferRight};
 ghost use Rattle.state.specs.Planes.{figure, figures, fivePlanes, tags, lastsOf};
 use rules::Bank;
 use rules::BankTrack;
@@ -49,19 +49,6 @@ fn track_in(b: &[u8], x: usize) -> BankTrack
     }
 }
 
-fn tracks_in(b: &[u8]) -> [BankTrack; 32]
-    requires { ⌜ 732 ≤ length (now b) ⌝ }
-    ensures { λ r. ⌜ r ≡ tracksIn (now (b .entry)) 32 ⌝ }
-{
-    let mut banks = [track_in(b, 0); 32];
-    let mut x = 1;
-    while x < 32 {
-        banks[x] = track_in(b, x);
-        x += 1;
-    }
-    banks
-}
-
 fn write_in(b: &[u8]) -> Write
     requires { ⌜ 732 ≤ length (now b) ⌝ }
     ensures { λ r. ⌜ r ≡ writeIn (now (b .entry)) ⌝ }
@@ -92,15 +79,21 @@ pub fn read_channel(b: &[u8]) -> Channel
     requires { ⌜ 732 ≤ length (now b) ⌝ }
     ensures { λ r. ⌜ r ≡ channelIn (now (b .entry)) ⌝ }
 {
-    Channel {
-        banks: tracks_in(b),
+    let mut ch = Channel {
+        banks: [track_in(b, 0); 32],
         last: at_in(b, 704),
         row: at_in(b, 708),
         col: at_in(b, 712),
         pre: at_in(b, 716),
         rd: at_in(b, 720),
         buffer: buffer_in(b),
+    };
+    let mut x = 1;
+    while x < 32 {
+        ch.banks[x] = track_in(b, x);
+        x += 1;
     }
+    ch
 }
 
 // Whether the buffer's bytes are of one of its three kinds, with every byte that the kind does not use 0.
