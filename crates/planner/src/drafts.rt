@@ -106,7 +106,7 @@ fn wait(s: Settings, p: PlannerState, cycles: u32) -> Draft
 }
 
 // What a request makes.
-pub fn make(s: Settings, p: PlannerState, q: Request) -> Draft
+pub(crate) fn make(s: Settings, p: PlannerState, q: Request) -> Draft
     requires { ⌜ plannerValid s split p ≡ true ⌝ }
     requires { ⌜ bankIn q ≡ true ⌝ }
     ensures { λ r. ⌜ Drafted s r (planned s split q p) ⌝ }

@@ -1,9 +1,9 @@
 // The planner: a request to its records, each packet at the least instant that the rules allow.
 pub mod bytes;
-pub mod drafts;
-pub mod packets;
-pub mod placing;
-pub mod records;
+mod drafts;
+mod packets;
+mod placing;
+mod records;
 
 ghost use mathlib.Core.Path.{_≡_};
 ghost use mathlib.Core.Bool.{true};

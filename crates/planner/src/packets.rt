@@ -175,7 +175,7 @@ fn opening(p: PlannerState, at: Place) -> Course
 }
 
 // A read.
-pub fn read_course(p: PlannerState, at: Place) -> Course
+pub(crate) fn read_course(p: PlannerState, at: Place) -> Course
     requires { ⌜ at .bank < 32 ⌝ }
     ensures { λ r. ⌜ Holds r (readCourse split p at) ⌝ }
 {
@@ -208,7 +208,7 @@ fn write_packet(at: Place, mask: u32) -> Entry
 }
 
 // The mask that the WR of a write carries: that of the write that still waits once the row is reached.
-pub fn write_mask(p: PlannerState, at: Place) -> u32
+pub(crate) fn write_mask(p: PlannerState, at: Place) -> u32
     requires { ⌜ at .bank < 32 ⌝ }
     ensures { λ r. ⌜ r ≡ writeMask split p at ⌝ }
 {
@@ -223,7 +223,7 @@ pub fn write_mask(p: PlannerState, at: Place) -> u32
 }
 
 // A write without its data; its WR carries this mask.
-pub fn write_course(p: PlannerState, at: Place, mask: u32) -> Course
+pub(crate) fn write_course(p: PlannerState, at: Place, mask: u32) -> Course
     requires { ⌜ at .bank < 32 ⌝ }
     ensures { λ r. ⌜ Holds r (writeCourse split p at mask) ⌝ }
 {
@@ -237,7 +237,7 @@ pub fn write_course(p: PlannerState, at: Place, mask: u32) -> Course
 }
 
 // A refresh.
-pub fn refresh_course(p: PlannerState) -> Course
+pub(crate) fn refresh_course(p: PlannerState) -> Course
     requires { ⌜ p .refresh < 32 ⌝ }
     ensures { λ r. ⌜ Holds r (refreshCourse split p) ⌝ }
 {
@@ -247,7 +247,7 @@ pub fn refresh_course(p: PlannerState) -> Course
 }
 
 // A drain.
-pub fn drain_course(p: PlannerState) -> Course
+pub(crate) fn drain_course(p: PlannerState) -> Course
     requires { ⌜ apart split (stateOf (p .channel)) ≡ true ⌝ }
     ensures { λ r. ⌜ Holds r (drainCourse p) ⌝ }
 {

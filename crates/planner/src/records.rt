@@ -9,7 +9,7 @@ use crate::Course;
 use settings::Settings;
 
 // Puts the records of a course from the start of a buffer on.
-pub fn put_all(s: Settings, room: &mut [u8], c: Course)
+pub(crate) fn put_all(s: Settings, room: &mut [u8], c: Course)
     requires { ⌜ (c .count ≤ 17) × (32 * c .count ≤ length (now room)) × (s .device < 32) ⌝ }
     ensures { λ _. ⌜ now (room .exit) ≡ splice (now (room .entry)) 0 (listBytes s (listed c)) ⌝ }
 {
