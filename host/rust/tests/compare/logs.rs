@@ -1,7 +1,7 @@
 //! Logs both ways.
 
 use crate::calls::{log_decode, log_encode, Seen};
-use crate::random::{bytes, set_h, Random};
+use crate::random::{bytes, rounds, set_h, Random};
 use crate::reference::{block, blocks, seal};
 
 /// Room for a call that needs `need` pieces of `size` bytes: none, less, just enough, more.
@@ -86,7 +86,7 @@ fn damage_record(random: &mut Random, record: &mut [u8]) {
 #[test]
 fn damaged_lists() {
     let (mut seen, mut random) = (Seen::default(), Random::new(24));
-    for _ in 0..20_000 {
+    for _ in 0..rounds(20_000) {
         let numbers = random.numbers();
         let records = 1 + random.below(40);
         let mut list = random.list(&numbers, records);
@@ -108,7 +108,7 @@ fn damaged_lists() {
 #[test]
 fn lists_of_other_settings() {
     let (mut seen, mut random) = (Seen::default(), Random::new(25));
-    for _ in 0..20_000 {
+    for _ in 0..rounds(20_000) {
         let numbers = random.numbers();
         let mut other = numbers;
         let at = random.pick(&[13, 14, 15]);
@@ -148,7 +148,7 @@ fn damaged_bytes() {
 #[test]
 fn moved_blocks() {
     let (mut seen, mut random) = (Seen::default(), Random::new(27));
-    for _ in 0..3_000 {
+    for _ in 0..rounds(3_000) {
         let numbers = random.numbers();
         let records = 1 + random.below(90);
         let list = random.list(&numbers, records);
@@ -169,7 +169,7 @@ fn moved_blocks() {
 #[test]
 fn block_counts() {
     let (mut seen, mut random) = (Seen::default(), Random::new(28));
-    for _ in 0..20_000 {
+    for _ in 0..rounds(20_000) {
         let numbers = random.numbers();
         let count = 1 + random.below(4);
         let mut log = Vec::new();
@@ -191,7 +191,7 @@ fn block_counts() {
 #[test]
 fn block_fields() {
     let (mut seen, mut random) = (Seen::default(), Random::new(29));
-    for _ in 0..20_000 {
+    for _ in 0..rounds(20_000) {
         let numbers = random.numbers();
         let mut log = blocks(&random.list(&numbers, 31));
         let start = 512 * random.below(3);
@@ -212,7 +212,7 @@ fn block_fields() {
 #[test]
 fn several_faults() {
     let (mut seen, mut random) = (Seen::default(), Random::new(30));
-    for _ in 0..30_000 {
+    for _ in 0..rounds(30_000) {
         let mut numbers = random.numbers();
         let records = 1 + random.below(45);
         let mut list = random.list(&numbers, records);
@@ -238,7 +238,7 @@ fn several_faults() {
 #[test]
 fn random_bytes() {
     let (mut seen, mut random) = (Seen::default(), Random::new(31));
-    for _ in 0..5_000 {
+    for _ in 0..rounds(5_000) {
         let settings = bytes(&random.numbers());
         let other = random.below(2000);
         let length = random.pick(&[0, 32, 512, 1024, other]);

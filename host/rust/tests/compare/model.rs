@@ -4,7 +4,7 @@ use crate::calls::Seen as Numbers;
 use crate::hand_lists::item;
 use crate::lists::{any_items, change, half_legal, legal, list_bytes, Item, SettingsSeen, LAST};
 use crate::model_calls::{any_store, compare, fresh, small_numbers, Case, Run, Seen};
-use crate::random::{bytes, set_h, Random};
+use crate::random::{bytes, rounds, set_h, Random};
 use crate::reference::{number, COLUMNS, NOCOP, ROWS, T_CWD};
 use crate::reference_state::{put, DUE};
 
@@ -108,7 +108,7 @@ fn random_lists() {
     let name = "model, random lists";
     let (mut seen, mut random) = (Seen::default(), Random::new(81));
     let mut settings_seen = SettingsSeen::default();
-    for _ in 0..12_000 {
+    for _ in 0..rounds(12_000) {
         let numbers = small_numbers(&mut random);
         settings_seen.add(&numbers);
         let store = any_store(&mut random, &numbers);
@@ -141,7 +141,7 @@ fn long_lists() {
 #[test]
 fn far_instants() {
     let (mut seen, mut random) = (Seen::default(), Random::new(83));
-    for _ in 0..6_000 {
+    for _ in 0..rounds(6_000) {
         let numbers = small_numbers(&mut random);
         let store = any_store(&mut random, &numbers);
         let mut run = Run::new(&numbers, store);

@@ -6,7 +6,7 @@ use crate::lists::{legal, list_bytes, Item, LAST};
 use crate::model_calls::{
     any_store, compare, fresh, fresh_refused, small_numbers, wanted, Case, Run, Seen,
 };
-use crate::random::{bytes, set_h, Random};
+use crate::random::{bytes, rounds, set_h, Random};
 use crate::reference::{Fields, ACT, COLUMNS, NOCOP, PRER, REFA, ROWS, T_CWD, WR};
 use crate::reference_model::{state_fits, STATE_BYTES};
 use crate::reference_rules::near;
@@ -124,7 +124,7 @@ fn damaged_field_by_field() {
 #[test]
 fn damaged_bytes() {
     let (mut seen, mut random) = (Numbers::default(), Random::new(92));
-    for _ in 0..1_500 {
+    for _ in 0..rounds(1_500) {
         let numbers = small_numbers(&mut random);
         let run = reached(&mut random, &numbers);
         for _ in 0..40 {
@@ -298,7 +298,7 @@ fn any_record(random: &mut Random, numbers: &[u16; 16], state: &[u8]) -> Vec<u8>
 fn any_states() {
     let (mut seen, mut random) = (Numbers::default(), Random::new(93));
     let mut rules = [0; 17];
-    for _ in 0..80_000 {
+    for _ in 0..rounds(80_000) {
         let numbers = small_numbers(&mut random);
         let (state, store) = (
             any_state(&mut random, &numbers),

@@ -5,7 +5,7 @@ use crate::plan_calls::{Run, Seen, ENOUGH};
 use crate::plan_streams::{
     bare, read, sixteen_banks, wait, write, Maker, DRAIN, READ, REFRESH, WAIT, WRITE,
 };
-use crate::random::{set_h, Random};
+use crate::random::{rounds, set_h, Random};
 use crate::reference::{COLUMNS, ROWS};
 use crate::reference_state::{put, LAST};
 
@@ -27,7 +27,7 @@ fn random_streams() {
     let name = "plan, random streams";
     let (mut seen, mut random) = (Seen::default(), Random::new(61));
     let mut settings_seen = SettingsSeen::default();
-    for _ in 0..20_000 {
+    for _ in 0..rounds(20_000) {
         let numbers = rule_numbers(&mut random);
         settings_seen.add(&numbers);
         let maker = Maker::new(&mut random, &numbers);
@@ -116,7 +116,7 @@ fn seventeen_records() {
 #[test]
 fn near_the_horizon() {
     let (mut seen, mut random) = (Seen::default(), Random::new(64));
-    for _ in 0..20_000 {
+    for _ in 0..rounds(20_000) {
         let numbers = rule_numbers(&mut random);
         let maker = Maker::new(&mut random, &numbers);
         let mut run = Run::new(&numbers);

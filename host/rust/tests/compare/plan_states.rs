@@ -6,7 +6,7 @@ use crate::lists::rule_numbers;
 use crate::plain_plan;
 use crate::plan_calls::{compare, fresh, fresh_refused, Case, Run, Seen, Want, ENOUGH};
 use crate::plan_streams::{bare, read, wait, write, Maker, DRAIN};
-use crate::random::{bytes, set_h, Random};
+use crate::random::{bytes, rounds, set_h, Random};
 use crate::reference::{COLUMNS, ROWS};
 use crate::reference_plan::{state_fits, STATE_BYTES};
 use crate::reference_state::{put, LAST};
@@ -106,7 +106,7 @@ fn damaged_field_by_field() {
 #[test]
 fn damaged_bytes() {
     let (mut seen, mut random) = (Numbers::default(), Random::new(72));
-    for _ in 0..3_000 {
+    for _ in 0..rounds(3_000) {
         let numbers = rule_numbers(&mut random);
         let (state, maker) = (
             reached(&mut random, &numbers),
@@ -250,7 +250,7 @@ fn any_state(random: &mut Random, numbers: &[u16; 16]) -> Vec<u8> {
 #[test]
 fn any_states() {
     let (mut seen, mut random) = (Numbers::default(), Random::new(73));
-    for _ in 0..120_000 {
+    for _ in 0..rounds(120_000) {
         let numbers = rule_numbers(&mut random);
         let (state, maker) = (
             any_state(&mut random, &numbers),

@@ -4,6 +4,12 @@ use crate::reference::{
     self, Fields, BOUNDS, COLUMNS, DEVICE, NOCOP, RESERVED, ROWS, T_CAC, T_CWD,
 };
 
+/// So many rounds of a test, times `RDRAM_ROUNDS` where the environment has it: a longer run.
+pub fn rounds(once: usize) -> usize {
+    let times = std::env::var("RDRAM_ROUNDS").map_or(1, |times| times.parse().unwrap());
+    once * times
+}
+
 /// xorshift64.
 pub struct Random(u64);
 

@@ -3,7 +3,7 @@
 use crate::lists::{
     any_items, change, half_legal, legal, list_bytes, rule_numbers, SettingsSeen, LAST,
 };
-use crate::random::{bytes, Random};
+use crate::random::{bytes, rounds, Random};
 use crate::reference::{blocks, seal};
 use crate::rule_calls::{check, check_both, check_log, Verdicts};
 
@@ -13,7 +13,7 @@ fn legal_lists() {
     let name = "rules, legal lists";
     let (mut seen, mut random) = (Verdicts::default(), Random::new(41));
     let mut settings_seen = SettingsSeen::default();
-    for _ in 0..20_000 {
+    for _ in 0..rounds(20_000) {
         let numbers = rule_numbers(&mut random);
         settings_seen.add(&numbers);
         let packets = random.below(40);
@@ -33,7 +33,7 @@ fn changed_lists() {
     let name = "rules, changed lists";
     let (mut seen, mut random) = (Verdicts::default(), Random::new(42));
     let mut settings_seen = SettingsSeen::default();
-    for _ in 0..12_000 {
+    for _ in 0..rounds(12_000) {
         let numbers = rule_numbers(&mut random);
         settings_seen.add(&numbers);
         let packets = 1 + random.below(30);
@@ -96,7 +96,7 @@ fn short_lists() {
 fn far_instants() {
     let name = "rules, far instants";
     let (mut seen, mut random) = (Verdicts::default(), Random::new(44));
-    for _ in 0..40_000 {
+    for _ in 0..rounds(40_000) {
         let numbers = rule_numbers(&mut random);
         let records = 1 + random.below(12);
         let settings = bytes(&numbers);
@@ -150,7 +150,7 @@ fn spoil_record(random: &mut Random, list: &mut [u8]) {
 fn spoiled_lists() {
     let name = "rules, spoiled lists";
     let (mut seen, mut random) = (Verdicts::default(), Random::new(45));
-    for _ in 0..40_000 {
+    for _ in 0..rounds(40_000) {
         let mut numbers = rule_numbers(&mut random);
         let records = 1 + random.below(24);
         let mut list = any_list(&mut random, &numbers, records);
@@ -200,7 +200,7 @@ fn spoil_log(random: &mut Random, log: &mut Vec<u8>) {
 fn logs() {
     let name = "rules, logs";
     let (mut seen, mut random) = (Verdicts::default(), Random::new(46));
-    for _ in 0..12_000 {
+    for _ in 0..rounds(12_000) {
         let mut numbers = rule_numbers(&mut random);
         let records = random.below(70);
         let list = any_list(&mut random, &numbers, records);

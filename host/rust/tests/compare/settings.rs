@@ -1,7 +1,7 @@
 //! Settings at and beyond the ends of every range, through all four calls.
 
 use crate::calls::{log_decode, log_encode, word_decode, word_encode, Seen};
-use crate::random::{bytes, Random};
+use crate::random::{bytes, rounds, Random};
 use crate::reference::{blocks, Fields, ACT, BOUNDS, RESERVED, T_CAC, T_CWD};
 
 /// ACT of bank 0, row 0, device 0: a packet, its word, a list and a log.
@@ -86,7 +86,7 @@ fn lengths() {
 #[test]
 fn random_bytes() {
     let (mut seen, mut random) = (Seen::default(), Random::new(5));
-    for _ in 0..20_000 {
+    for _ in 0..rounds(20_000) {
         let any = random.bytes(32);
         all_calls(&mut seen, &any);
         let mut numbers = random.numbers();

@@ -7,7 +7,7 @@ use crate::flat_memory::FlatMemory;
 use crate::lists::{rule_numbers, SettingsSeen};
 use crate::model_calls::{any_store, small_numbers};
 use crate::plan_streams::{bare, read, wait, write, Maker, DRAIN, READ, REFRESH, WRITE};
-use crate::random::{bytes, set_h, Random};
+use crate::random::{bytes, rounds, set_h, Random};
 use crate::reference::{COLUMNS, ROWS};
 use rdram::{Event, Model, Planner, Refusal, Settings};
 use std::collections::VecDeque;
@@ -234,7 +234,7 @@ fn short_runs() {
     let name = "whole runs, short";
     let (mut seen, mut random) = (Seen::default(), Random::new(101));
     let mut settings_seen = SettingsSeen::default();
-    for _ in 0..12_000 {
+    for _ in 0..rounds(12_000) {
         let numbers = small_numbers(&mut random);
         settings_seen.add(&numbers);
         let store = any_store(&mut random, &numbers);
@@ -300,7 +300,7 @@ fn large_stores() {
 #[test]
 fn near_the_horizon() {
     let (mut seen, mut random) = (Seen::default(), Random::new(104));
-    for _ in 0..3_000 {
+    for _ in 0..rounds(3_000) {
         let numbers = small_numbers(&mut random);
         let store = any_store(&mut random, &numbers);
         let (mut run, maker) = (Run::new(&numbers, store), Maker::new(&mut random, &numbers));

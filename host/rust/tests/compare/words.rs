@@ -1,7 +1,7 @@
 //! Words both ways.
 
 use crate::calls::{word_decode, word_encode, Seen};
-use crate::random::{bytes, set_h, Random};
+use crate::random::{bytes, rounds, set_h, Random};
 use crate::reference::{Fields, ACT, COLUMNS, NOCOP, PRER, RD, REFP, ROWS, WR};
 
 const MASKS: [u32; 8] = [0, 1, 3, 0x8000, 0xFFFE, 0xFFFF, 0x10000, u32::MAX];
@@ -153,7 +153,7 @@ fn every_mask() {
 #[test]
 fn flipped_bits() {
     let (mut seen, mut random) = (Seen::default(), Random::new(14));
-    for _ in 0..20_000 {
+    for _ in 0..rounds(20_000) {
         let numbers = random.numbers();
         let settings = bytes(&numbers);
         let p = random.packet(&numbers);
@@ -170,7 +170,7 @@ fn flipped_bits() {
 #[test]
 fn random_words() {
     let (mut seen, mut random) = (Seen::default(), Random::new(15));
-    for _ in 0..300_000 {
+    for _ in 0..rounds(300_000) {
         let numbers = random.numbers();
         let settings = bytes(&numbers);
         let any = random.word();

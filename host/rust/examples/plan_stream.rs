@@ -1,0 +1,63 @@
+//! Plans a stream of requests under set H and prints the packets: instant, then the packet. The
+//! stream is run 1 of document 01. Run with
+//! `cargo run --release --offline --manifest-path host/rust/Cargo.toml --example plan_stream`.
+
+use rdram::{word_decode, Kind, Planner, Refusal, Request, Settings, RECORD_BYTES};
+
+const SET_H: Settings = Settings {
+    t_rc: 28,
+    t_ras: 20,
+    t_rp: 8,
+    t_pp: 8,
+    t_rr: 8,
+    t_rcd: 9,
+    t_rtr: 8,
+    t_rdp: 4,
+    t_rtp: 4,
+    t_cc: 4,
+    t_cac: 8,
+    t_cwd: 6,
+    rows: 2,
+    columns: 4,
+    device: 0,
+};
+
+/// Instant, and the packet or D, of a record: instant 4, kind 1, zeros 3, word 8, data 16.
+fn text(record: &[u8]) -> Result<String, Refusal> {
+    let instant = u32::from_le_bytes(record[..4].try_into().unwrap());
+    let word = u64::from_le_bytes(record[8..16].try_into().unwrap());
+    let packet = match record[4] {
+        0 => word_decode(&SET_H, Kind::Row, word)?,
+        1 => word_decode(&SET_H, Kind::Col, word)?,
+        _ => return Ok(format!("{instant} D")),
+    };
+    Ok(format!("{instant} {packet:?}"))
+}
+
+fn main() -> Result<(), Refusal> {
+    let read = |bank, column| Request::Read {
+        bank,
+        row: 0,
+        column,
+    };
+    let write = Request::Write {
+        bank: 0,
+        row: 0,
+        column: 1,
+        mask: 3,
+        data: [0xAA; 16],
+    };
+    let stream = [read(0, 1), write, read(0, 1), read(1, 0), Request::Drain];
+    let (mut planner, mut records) = (Planner::fresh(), 0);
+    for request in &stream {
+        let mut room = [0; rdram::REQUEST_RECORDS * RECORD_BYTES];
+        let made = planner.plan(&SET_H, request, &mut room)?;
+        for record in room.chunks(RECORD_BYTES).take(made) {
+            println!("{}", text(record)?);
+        }
+        records += made;
+    }
+    println!("records {records}");
+    assert_eq!(records, 10, "run 1 has ten records");
+    Ok(())
+}
