@@ -42,7 +42,7 @@ pub fn slot_of(b: u32) -> usize
 }
 
 // One of two tracks.
-pub(crate) fn choose(first: bool, a: BankTrack, b: BankTrack) -> BankTrack
+pub fn choose(first: bool, a: BankTrack, b: BankTrack) -> BankTrack
     ensures { λ r. ⌜ r ≡ cond first a b ⌝ }
 {
     if first { a } else { b }
@@ -64,7 +64,7 @@ pub fn unused() -> BankTrack
 }
 
 // The track at the index of bank b where there is such a bank, or else idle.
-pub(crate) fn track_of(b: u32, t: BankTrack) -> BankTrack
+pub fn track_of(b: u32, t: BankTrack) -> BankTrack
     ensures { λ r. ⌜ r ≡ heldAt b t ⌝ }
 {
     if b < 32 { t } else { unused() }

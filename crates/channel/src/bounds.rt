@@ -13,7 +13,7 @@ pub fn later(a: u64, b: u64) -> u64
 }
 
 // The instant a distance after an earlier one; no earlier one asks nothing.
-pub(crate) fn since_wide(last: u32, gap: u64) -> u64
+pub fn since_wide(last: u32, gap: u64) -> u64
     requires { ⌜ gap < 2 ^ 34 ⌝ }
     ensures { λ r. ⌜ r ≡ since last gap ⌝ }
 {
@@ -23,14 +23,14 @@ pub(crate) fn since_wide(last: u32, gap: u64) -> u64
     num::wide32(last) + gap
 }
 
-pub(crate) fn after_gap(last: u32, gap: u32) -> u64
+pub fn after_gap(last: u32, gap: u32) -> u64
     ensures { λ r. ⌜ r ≡ since last gap ⌝ }
 {
     since_wide(last, num::wide32(gap))
 }
 
 // The latest that three earlier instants ask.
-pub(crate) fn after_three(a: u32, b: u32, c: u32, gap: u32) -> u64
+pub fn after_three(a: u32, b: u32, c: u32, gap: u32) -> u64
     ensures { λ r. ⌜ r ≡ three a b c gap ⌝ }
 {
     later(
@@ -40,7 +40,7 @@ pub(crate) fn after_three(a: u32, b: u32, c: u32, gap: u32) -> u64
 }
 
 // Whether an instant keeps a bound, where the bound applies.
-pub(crate) fn keeps(applies: bool, bound: u64, at: u32) -> bool
+pub fn keeps(applies: bool, bound: u64, at: u32) -> bool
     ensures { λ r. ⌜ r ≡ leb (boundIf applies bound) at ⌝ }
 {
     if applies {
@@ -51,7 +51,7 @@ pub(crate) fn keeps(applies: bool, bound: u64, at: u32) -> bool
 }
 
 // The difference, or 0 where it would be negative.
-pub(crate) fn minus(a: u64, b: u64) -> u64
+pub fn minus(a: u64, b: u64) -> u64
     ensures { λ r. ⌜ r ≡ a - b ⌝ }
 {
     if a < b { 0 } else { a - b }

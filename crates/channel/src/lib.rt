@@ -1,10 +1,6 @@
 // The state of the channel in code: the lowest rule that a record breaks in it, and the state after the record.
 pub mod beside;
 pub mod bounds;
-pub mod earliest;
-pub mod judging;
-pub mod steps;
-pub mod tests;
 pub mod views;
 
 use rules::Bank;

@@ -163,7 +163,7 @@ pub fn is_open(t: BankTrack) -> bool
 }
 
 // Whether the second holds where the first does.
-pub(crate) fn implies(a: bool, b: bool) -> bool
+pub fn implies(a: bool, b: bool) -> bool
     ensures { λ r. ⌜ r ≡ (not a || b) ⌝ }
 {
     if a { b } else { true }

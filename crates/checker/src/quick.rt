@@ -10,13 +10,13 @@ use channel::Lasts;
 use channel::Tracks;
 use channel::View;
 use channel::beside::is_near;
-use channel::steps::pick;
 use channel::views::is_closed;
 use channel::views::is_open;
 use rules::Bank;
 use rules::BankTrack;
 use settings::PacketAt;
 use settings::Settings;
+use steps::pick;
 
 // The index of the neighbour below a bank, or the bank's own.
 pub(crate) fn low_slot(x: usize) -> usize
@@ -169,7 +169,7 @@ fn col_well(s: Settings, v: View, h: Held, k: Tracks, rd: u32) -> bool
 fn in_range(s: Settings, v: View) -> bool
     ensures { λ r. ⌜ r ≡ inRange s v ⌝ }
 {
-    let end = num::wide32(v.at) + num::wide32(channel::tests::delay_of(s, v));
+    let end = num::wide32(v.at) + num::wide32(judging::tests::delay_of(s, v));
     num::both(4 <= v.at, end <= 1000000000)
 }
 

@@ -20,14 +20,9 @@ use crate::quick::tracks_of;
 use channel::Lasts;
 use channel::beside::slot_of;
 use channel::beside::unused;
-use channel::judging::judge;
-use channel::steps::buffer_after;
-use channel::steps::lasts_after;
-use channel::steps::no_lasts;
-use channel::steps::pick;
-use channel::steps::side_next;
 use channel::views::held_of;
 use channel::views::view_of;
+use judging::judge;
 use record::RecordRead;
 use record::Refusal;
 use record::records::read_record;
@@ -36,6 +31,11 @@ use rules::Buffer;
 use rules::Channel;
 use settings::PacketAt;
 use settings::Settings;
+use steps::buffer_after;
+use steps::lasts_after;
+use steps::no_lasts;
+use steps::pick;
+use steps::side_next;
 
 // Where record i stands, in a log or in a list.
 fn place_of(blocks: bool, i: usize) -> usize

@@ -67,7 +67,7 @@ pub(crate) fn model_next(s: Settings, m: ModelState, r: Record) -> ModelState
     let ch = m.channel;
     let bytes = m.bytes;
     ModelState {
-        channel: channel::steps::next(ch, r),
+        channel: steps::next(ch, r),
         refr: refr_next(s, r, m.refr),
         bytes: bytes_next(r, bytes),
     }

@@ -65,7 +65,7 @@ impl Model {
     {
         Model {
             state: ModelState {
-                channel: channel::steps::fresh(),
+                channel: steps::fresh(),
                 refr: 0,
                 bytes: Dualoct { dqa: 0, dqb: 0 },
             },
@@ -95,7 +95,7 @@ impl Model {
     {
         let m = self.state;
         let ch = m.channel;
-        let rule = channel::judging::judge(s, ch, r);
+        let rule = judging::judge(s, ch, r);
         if rule != 0 {
             return self.refuse(Refusal::Rule(rule, 0));
         }

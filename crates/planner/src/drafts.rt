@@ -14,7 +14,6 @@ use crate::Draft;
 use crate::Entry;
 use crate::packets;
 use crate::placing::place;
-use channel::steps::settle;
 use plan::PlannerState;
 use record::Dualoct;
 use record::Record;
@@ -24,6 +23,7 @@ use settings::Arrival;
 use settings::DataAt;
 use settings::PacketAt;
 use settings::Settings;
+use steps::settle;
 
 // D after a WR, which now waits with its own mask.
 fn load(s: Settings, d: Draft, mask: u32, bytes: Dualoct) -> Draft

@@ -62,7 +62,7 @@ impl Planner {
     {
         Planner {
             state: PlannerState {
-                channel: channel::steps::fresh(),
+                channel: steps::fresh(),
                 now: PacketAt(4),
                 refresh: 0,
                 mask: 0,

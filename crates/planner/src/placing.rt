@@ -23,18 +23,12 @@ use channel::beside::high_of;
 use channel::beside::low_of;
 use channel::beside::slot_of;
 use channel::bounds::later;
-use channel::earliest::earliest;
-use channel::judging::act_bound;
-use channel::judging::around;
-use channel::steps::buffer_after;
-use channel::steps::lasts_after;
-use channel::steps::own_after;
-use channel::steps::side_after;
-use channel::steps::side_of;
-use channel::steps::spot_of;
-use channel::tests::delay_of;
 use channel::views::held_of;
 use channel::views::view_of;
+use earliest::earliest;
+use judging::act_bound;
+use judging::around;
+use judging::tests::delay_of;
 use plan::PlannerState;
 use record::Record;
 use rules::BankTrack;
@@ -42,6 +36,12 @@ use rules::Buffer;
 use rules::Channel;
 use settings::PacketAt;
 use settings::Settings;
+use steps::buffer_after;
+use steps::lasts_after;
+use steps::own_after;
+use steps::side_after;
+use steps::side_of;
+use steps::spot_of;
 
 // The view of a record.
 fn view_in(e: Entry) -> View
