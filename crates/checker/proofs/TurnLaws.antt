@@ -29,11 +29,11 @@ use Rattle.channel.specs.Steps.{sideNext, banksNext, bufferStep, lastsNext, cha
 use Rattle.channel.proofs.StepLaws.{apart-after, apart-length}
 use Rattle.checker.specs.Check.{known}
 use Rattle.checker.specs.Walk.{placeOf, recordsVia, formedVia, foundVia}
-use Rattle.checker.specs.Quick.{lowSlot, highSlot, passing, openedTrack, closedTrack, tracksWith, latestNext}
+use Rattle.quick.specs.Quick.{lowSlot, highSlot, passing, openedTrack, closedTrack, tracksWith, latestNext}
 use Rattle.checker.proofs.WalkLaws.{via-at, channel-next}
-use Rattle.checker.proofs.Picks.{picked, passed-over}
-use Rattle.checker.proofs.QuickLaws.{passing-none}
-use Rattle.checker.proofs.StoreLaws.{Opened, withRd, withRetire, openStores, threeStores, closeStores, allStores, fits-bank, within-next, opened-next, stored-next}
+use Rattle.quick.proofs.Picks.{picked, passed-over}
+use Rattle.quick.proofs.QuickLaws.{passing-none}
+use Rattle.quick.proofs.StoreLaws.{Opened, withRd, withRetire, openStores, threeStores, closeStores, allStores, fits-bank, within-next, opened-next, stored-next}
 use Rattle.checker.proofs.StopLaws.{holds}
 
 -- ---- the record that is read

@@ -18,7 +18,7 @@ use Rattle.channel.specs.Steps.{banksNext, channelOf}
 use Rattle.channel.proofs.StepLaws.{apart-fresh}
 use Rattle.checker.specs.Walk.{recordsVia}
 use Rattle.rules.proofs.Bools.{not-both}
-use Rattle.checker.proofs.StoreLaws.{Opened, opened-fresh, opened-same}
+use Rattle.quick.proofs.StoreLaws.{Opened, opened-fresh, opened-same}
 use Rattle.checker.proofs.StopLaws.{holds, stop-end, stop-bad, stop-broken}
 use Rattle.checker.proofs.TurnLaws.{formed-here, bank-here, found-here, after-here, holds-here, unformed, quick-here, open-here, unopened-here, close-here, unclosed-here, banks-here, length-here, opened-here, within-here, state-here}
 use borrow.Author.Needs.{needs}

@@ -1,0 +1,3 @@
+pub mod Picks
+pub mod QuickLaws
+pub mod StoreLaws
