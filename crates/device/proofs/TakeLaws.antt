@@ -19,10 +19,10 @@ use Rattle.model.specs.declared.Stepped.{Stepped}
 use Rattle.model.specs.declared.Stepped.the-variants.{Refused}
 use Rattle.model.specs.Model.{modelNext, storeNext, readOf}
 use Rattle.model.specs.Step.{recordAnswer, isTaken, bytesRead}
-use Rattle.device.specs.declared.Touch.{Touch}
-use Rattle.device.specs.Touch.{touchAnswer, touchStore, touchBytes}
+use Rattle.store.specs.declared.Touch.{Touch}
+use Rattle.store.specs.Touch.{touchAnswer, touchStore, touchBytes}
 use Rattle.device.specs.Take.{takeModel, takeStore, takeRoom}
-use Rattle.device.proofs.TouchLaws.{Sound, touchFor, touch-answer, touch-store, touch-bytes, refused-store}
+use Rattle.store.proofs.TouchLaws.{Sound, touchFor, touch-answer, touch-store, touch-bytes, refused-store}
 
 module _ (s : Settings) (nbr : Relation) (m : ModelState) (r : Record) where
   -- a broken rule

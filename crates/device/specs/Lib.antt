@@ -1,2 +1,1 @@
-pub mod Touch
 pub mod Take

@@ -1,8 +1,6 @@
 // The device model: one record a call, with the store and a buffer for the answer lent.
 pub mod after;
 pub mod bytes;
-pub mod store;
-pub mod touching;
 
 ghost use mathlib.Core.Path.{_≡_};
 ghost use mathlib.Core.Bool.{true};
@@ -15,7 +13,6 @@ ghost use Rattle.model.specs.Model.{freshModel, modelValid};
 ghost use Rattle.model.specs.Step.{isTaken, recordAnswer, stepAnswer, stepModel, stepStore, stepRoom};
 ghost use Rattle.device.specs.Take.{takeModel, takeStore, takeRoom};
 use crate::after::model_next;
-use crate::touching::touch_of;
 use channel::beside::slot_of;
 use channel::views::held_of;
 use channel::views::view_of;
@@ -27,6 +24,7 @@ use record::Record;
 use record::RecordRead;
 use record::Refusal;
 use settings::Settings;
+use store::touching::touch_of;
 
 // A model between two records.
 pub struct Model {
@@ -37,13 +35,6 @@ pub struct Model {
 pub struct ModelStep {
     pub model: Model,
     pub answer: Stepped,
-}
-
-// What a record that breaks no rule asks of the store: nothing, a dualoct, or a write under a mask.
-pub enum Touch {
-    Nothing,
-    Reads(Place),
-    Retires(Place, u32),
 }
 
 // Whether an answer is no refusal.
@@ -107,7 +98,7 @@ impl Model {
         let j = slot_of(h.bank);
         let held = ch.banks[j];
         let bytes = m.bytes;
-        let answer = store::touch(s, touch_of(r, buffer, own, held), bytes, store, room);
+        let answer = store::access(s, touch_of(r, buffer, own, held), bytes, store, room);
         if is_taken(answer) {
             return ModelStep {
                 model: Model {

@@ -8,9 +8,9 @@ use Rattle.rules.specs.Neighbour.{split}
 use Rattle.model.specs.declared.Stepped.the-variants.{Refused}
 use Rattle.model.specs.declared.Stepped.{Stepped}
 use Rattle.model.specs.Step.{recordAnswer, isTaken}
-use Rattle.device.specs.Touch.{TouchIn}
+use Rattle.store.specs.Touch.{TouchIn}
 use Rattle.device.proofs.TakeLaws.{broken, passed, left-model, left-store, left-room, taken-model, took-store, took-room}
-use Rattle.device.proofs.TouchLaws.{touchFor, touch-in, model-sound, refr-in}
+use Rattle.store.proofs.TouchLaws.{touchFor, touch-in, model-sound, refr-in}
 use borrow.Author.Needs.{needs}
 use Rattle.device.proofs.Model.take.Statement.{statement}
 use Rattle.device.proofs.Model.take.Tie as tie
@@ -30,10 +30,10 @@ asked c =
 none-broken : (c : tie.After-touch-of) → (let a = c .before .before .before .before .before .before .before .before .before .before .before .before .before .before .args in judged (a .s) split (a .self .state .channel) (a .r) ≡ 0)
 none-broken c = sym (c .before .before .before .before .before .before .before .before .before .judge .ensures) ∙ c .before .before .before .before .before .before .before .before .if1 .left
 
-answered : (c : tie.After-touch) → (let a = c .before .before .before .before .before .before .before .before .before .before .before .before .before .before .before .before .before .args in c .touch .result ≡ recordAnswer (a .s) split (a .self .state) (a .r) (length (a .room .now)))
+answered : (c : tie.After-access) → (let a = c .before .before .before .before .before .before .before .before .before .before .before .before .before .before .before .before .before .args in c .access .result ≡ recordAnswer (a .s) split (a .self .state) (a .r) (length (a .room .now)))
 answered c =
     let a = c .before .before .before .before .before .before .before .before .before .before .before .before .before .before .before .before .before .args in
-    c .touch .ensures .0 ∙ rw (asked (c .before .before .before)) (passed (a .s) split (a .self .state) (a .r) (length (a .room .now)) (none-broken (c .before .before .before)))
+    c .access .ensures .0 ∙ rw (asked (c .before .before .before)) (passed (a .s) split (a .self .state) (a .r) (length (a .room .now)) (none-broken (c .before .before .before)))
 
 judge-requires : tie.Need-judge-requires
 judge-requires c κs = search needs
@@ -87,8 +87,8 @@ element-copy-out-held c = search needs
 touch-of-requires : tie.Need-touch-of-requires
 touch-of-requires c κs = search needs
 
-touch-requires : tie.Need-touch-requires
-touch-requires c κs =
+access-requires : tie.Need-access-requires
+access-requires c κs =
     let z = c .before .before .before .before .before .before .before .before .before .before .before .before .before .before .before .before in
     let a = z .args in
     let h : TouchIn (a .s) (c .before .before .touch-of .result) =
@@ -115,14 +115,14 @@ returns-2 c =
     let z = c .before .before .before .before .before .before .before .before .before .before .before .before .before .before .before .before .before .before .before .before .before .before .before .before in
     let a = z .args in
     let e = answered (c .before .before .before .before .before .before .before) in
-    let taken : isTaken (c .before .before .before .before .before .before .before .touch .result) ≡ true = sym (c .before .before .is-taken .ensures) ∙ c .before .if2 .taken in
+    let taken : isTaken (c .before .before .before .before .before .before .before .access .result) ≡ true = sym (c .before .before .is-taken .ensures) ∙ c .before .if2 .taken in
     let k = model-sound (a .s) split (a .self .state) (z .pre .0) (z .pre .1 .0) in (
       e,
       (
-        c .model-next .ensures ∙ taken-model (a .s) split (a .self .state) (a .r) (c .before .before .before .before .before .before .before .touch .result) (length (a .room .now)) e taken,
+        c .model-next .ensures ∙ taken-model (a .s) split (a .self .state) (a .r) (c .before .before .before .before .before .before .before .access .result) (length (a .room .now)) e taken,
         (
-          c .before .before .before .before .before .before .before .touch .ensures .1 .0 ∙ rw (asked (c .before .before .before .before .before .before .before .before .before .before)) (took-store (a .s) split (a .self .state) (a .r) (a .store .now) (length (a .room .now)) k (none-broken (c .before .before .before .before .before .before .before .before .before .before))),
-          c .before .before .before .before .before .before .before .touch .ensures .1 .1 ∙ rw (asked (c .before .before .before .before .before .before .before .before .before .before)) (took-room (a .s) split (a .self .state) (a .r) (a .store .now) (a .room .now) (z .pre .1 .1 .1) (none-broken (c .before .before .before .before .before .before .before .before .before .before))),
+          c .before .before .before .before .before .before .before .access .ensures .1 .0 ∙ rw (asked (c .before .before .before .before .before .before .before .before .before .before)) (took-store (a .s) split (a .self .state) (a .r) (a .store .now) (length (a .room .now)) k (none-broken (c .before .before .before .before .before .before .before .before .before .before))),
+          c .before .before .before .before .before .before .before .access .ensures .1 .1 ∙ rw (asked (c .before .before .before .before .before .before .before .before .before .before)) (took-room (a .s) split (a .self .state) (a .r) (a .store .now) (a .room .now) (z .pre .1 .1 .1) (none-broken (c .before .before .before .before .before .before .before .before .before .before))),
         ),
       ),
     )
@@ -138,14 +138,14 @@ returns-3 c =
     let z = c .before .before .before .before .before .before .before .before .before .before .before .before .before .before .before .before .before .before .before .before .before .before .before in
     let a = z .args in
     let e = answered (c .before .before .before .before .before .before) in
-    let refused : isTaken (c .before .before .before .before .before .before .touch .result) ≡ false = sym (c .before .is-taken .ensures) ∙ c .if2 .left in
+    let refused : isTaken (c .before .before .before .before .before .before .access .result) ≡ false = sym (c .before .is-taken .ensures) ∙ c .if2 .left in
     let k = model-sound (a .s) split (a .self .state) (z .pre .0) (z .pre .1 .0) in (
       e,
       (
-        left-model (a .s) split (a .self .state) (a .r) (c .before .before .before .before .before .before .touch .result) (length (a .room .now)) e refused,
+        left-model (a .s) split (a .self .state) (a .r) (c .before .before .before .before .before .before .access .result) (length (a .room .now)) e refused,
         (
-          c .before .before .before .before .before .before .touch .ensures .1 .0 ∙ rw (asked (c .before .before .before .before .before .before .before .before .before)) (took-store (a .s) split (a .self .state) (a .r) (a .store .now) (length (a .room .now)) k (none-broken (c .before .before .before .before .before .before .before .before .before))),
-          c .before .before .before .before .before .before .touch .ensures .1 .1 ∙ rw (asked (c .before .before .before .before .before .before .before .before .before)) (took-room (a .s) split (a .self .state) (a .r) (a .store .now) (a .room .now) (z .pre .1 .1 .1) (none-broken (c .before .before .before .before .before .before .before .before .before))),
+          c .before .before .before .before .before .before .access .ensures .1 .0 ∙ rw (asked (c .before .before .before .before .before .before .before .before .before)) (took-store (a .s) split (a .self .state) (a .r) (a .store .now) (length (a .room .now)) k (none-broken (c .before .before .before .before .before .before .before .before .before))),
+          c .before .before .before .before .before .before .access .ensures .1 .1 ∙ rw (asked (c .before .before .before .before .before .before .before .before .before)) (took-room (a .s) split (a .self .state) (a .r) (a .store .now) (a .room .now) (z .pre .1 .1 .1) (none-broken (c .before .before .before .before .before .before .before .before .before))),
         ),
       ),
     )
@@ -166,7 +166,7 @@ take-spec =
     mul-held
     element-copy-out-held
     touch-of-requires
-    touch-requires
+    access-requires
     is-taken-requires
     model-next-requires
     same-length

@@ -1,0 +1,4 @@
+pub mod MaskLaws
+pub mod PlaceLaws
+pub mod CopyLaws
+pub mod TouchLaws
