@@ -33,7 +33,7 @@ use Rattle.plan.specs.Runs.{Call, OfBytes, plannerAfter, listed}
 use Rattle.plan.proofs.Valid.{fresh-valid, next-valid}
 use Rattle.plan.proofs.PlannerRoundTrip.{planner-decode-encode, planner-right}
 use Rattle.runs.specs.WholeRun.{fed}
-use Rattle.rdram.specs.Plans.{planAnswer, planBy, planUnder, planAnswered, plannerBy, plannerUnder, planPlanner, roomBy, roomUnder, planPlaced}
+use Rattle.by_bytes.specs.Plans.{planAnswer, planBy, planUnder, planAnswered, plannerBy, plannerUnder, planPlanner, roomBy, roomUnder, planPlaced}
 use Rattle.calls.specs.Runs.{PlanCall, Bench, freshBench, benchNext, benchAfter, benchFed, BytesIn}
 use Rattle.calls.proofs.ListOf.{length-list, list-append}
 

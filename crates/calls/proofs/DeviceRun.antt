@@ -54,7 +54,7 @@ use Rattle.runs.specs.Drive.{Drive, returned, leftBy, isFull, fails, calledOn, 
 use Rattle.runs.proofs.PlainRun.{answerOf as answersOf, Passing, length-next}
 use Rattle.runs.proofs.DriveLaws.{Every, Coded, length-record, roomy, kept, gone, call-is, driven-none, next-none, next-one}
 use Rattle.runs.proofs.Sim.{DataIn}
-use Rattle.rdram.specs.Models.{steppedAnswer, stepBy, stepUnder, stepAnswered, modelAfterBy, modelUnder, steppedModel, storeUnder, steppedStore, answerUnder, steppedRoom}
+use Rattle.by_bytes.specs.Models.{steppedAnswer, stepBy, stepUnder, stepAnswered, modelAfterBy, modelUnder, steppedModel, storeUnder, steppedStore, answerUnder, steppedRoom}
 use Rattle.calls.specs.Runs.{Device, deviceBy, deviceNext, deviceAfter}
 use Rattle.calls.proofs.ListOf.{list-next}
 use Rattle.calls.proofs.BenchRun.{refusal-number}

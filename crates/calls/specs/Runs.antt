@@ -16,11 +16,11 @@ use Rattle.plan.specs.PlannerBytes.{plannerBytes}
 use Rattle.model.specs.Model.{freshModel}
 use Rattle.model.specs.ModelBytes.{modelBytes}
 use Rattle.runs.specs.Flat.{Fed, flatAfter, flatAnswers}
-use Rattle.rdram.specs.declared.PlanAnswer.{PlanAnswer}
-use Rattle.rdram.specs.declared.StepAnswer.{StepAnswer}
+use Rattle.by_bytes.specs.declared.PlanAnswer.{PlanAnswer}
+use Rattle.by_bytes.specs.declared.StepAnswer.{StepAnswer}
 use Rattle.rdram.specs.Checks.{listChecked}
-use Rattle.rdram.specs.Plans.{planAnswered, planPlanner, planPlaced}
-use Rattle.rdram.specs.Models.{stepAnswered, steppedModel, steppedStore, steppedRoom}
+use Rattle.by_bytes.specs.Plans.{planAnswered, planPlanner, planPlaced}
+use Rattle.by_bytes.specs.Models.{stepAnswered, steppedModel, steppedStore, steppedRoom}
 
 -- ---- plan calls
 

@@ -5,23 +5,6 @@ pub mod models;
 pub mod plans;
 pub mod words;
 
-// The word of a packet: number is 0, or the refusal's and word 0.
-#[repr(C)]
-pub struct WordAnswer {
-    pub number: u32,
-    pub word: u64,
-}
-
-// The packet of a word: number is 0, or the refusal's and the rest 0.
-#[repr(C)]
-pub struct PacketAnswer {
-    pub number: u32,
-    pub command: u32,
-    pub bank: u32,
-    pub place: u32,
-    pub mask: u32,
-}
-
 // What a copying call answers: number is 0 and count what it made, or the refusal's number and place.
 #[repr(C)]
 pub struct CopyAnswer {
@@ -36,21 +19,4 @@ pub struct CheckAnswer {
     pub number: u32,
     pub rule: u32,
     pub place: u64,
-}
-
-// What a plan call answers: number is 0 and records what it made, or the refusal's number.
-#[repr(C)]
-pub struct PlanAnswer {
-    pub number: u32,
-    pub records: u64,
-}
-
-// What a model call answers: number is 0, or the refusal's with its rule; event is 0 where nothing was read or retired, 1
-// where the dualoct is in the answer buffer, 2 where a write was retired, and bytes is how many bytes that wrote.
-#[repr(C)]
-pub struct StepAnswer {
-    pub number: u32,
-    pub rule: u32,
-    pub event: u32,
-    pub bytes: u32,
 }

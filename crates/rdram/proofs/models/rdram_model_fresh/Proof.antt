@@ -3,7 +3,7 @@ use mathlib.Core.Path.{_∙_, ap}
 use borrow.Author.Tests.{eq-eqb, ne-eqb}
 use Rattle.record.specs.Refusal.{answerOf}
 use Rattle.model.specs.ModelBytes.{modelBytes}
-use Rattle.rdram.specs.Models.{freshModelNumber, freshModelPlaced}
+use Rattle.by_bytes.specs.Models.{freshModelNumber, freshModelPlaced}
 use borrow.Author.Needs.{needs}
 use Rattle.rdram.proofs.models.rdram_model_fresh.Statement.{statement}
 use Rattle.rdram.proofs.models.rdram_model_fresh.Tie as tie

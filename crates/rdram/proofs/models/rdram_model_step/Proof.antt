@@ -1,7 +1,7 @@
 -- `rdram_model_step` meets its contract: each arm is a case of the definition.
 use mathlib.Core.Path.{sym, _∙_}
 use Rattle.settings.proofs.SettingsLaws.{accepted-valid}
-use Rattle.rdram.specs.Models.{stepAnswered, steppedModel, steppedStore, steppedRoom, stepUnder, modelUnder, storeUnder, answerUnder}
+use Rattle.by_bytes.specs.Models.{stepAnswered, steppedModel, steppedStore, steppedRoom, stepUnder, modelUnder, storeUnder, answerUnder}
 use borrow.Author.Needs.{needs}
 use Rattle.rdram.proofs.models.rdram_model_step.Statement.{statement}
 use Rattle.rdram.proofs.models.rdram_model_step.Tie as tie

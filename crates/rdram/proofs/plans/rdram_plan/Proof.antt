@@ -1,7 +1,7 @@
 -- `rdram_plan` meets its contract: each arm is a case of the definition.
 use mathlib.Core.Path.{_≡_, refl, sym, _∙_}
 use Rattle.settings.proofs.SettingsLaws.{accepted-valid}
-use Rattle.rdram.specs.Plans.{planAnswered, planUnder, planPlanner, plannerUnder, planPlaced, roomUnder}
+use Rattle.by_bytes.specs.Plans.{planAnswered, planUnder, planPlanner, plannerUnder, planPlaced, roomUnder}
 use borrow.Author.Needs.{needs}
 use Rattle.rdram.proofs.plans.rdram_plan.Statement.{statement}
 use Rattle.rdram.proofs.plans.rdram_plan.Tie as tie

@@ -2,7 +2,7 @@
 use mathlib.Core.Path.{_≡_, refl}
 use borrow.Author.Tests.{eq-eqb, ne-eqb}
 use Rattle.record.specs.Refusal.{answerOf}
-use Rattle.rdram.specs.Plans.{freshNumber, freshPlaced}
+use Rattle.by_bytes.specs.Plans.{freshNumber, freshPlaced}
 use borrow.Author.Needs.{needs}
 use Rattle.rdram.proofs.plans.rdram_planner_fresh.Statement.{statement}
 use Rattle.rdram.proofs.plans.rdram_planner_fresh.Tie as tie

@@ -1,6 +1,6 @@
 -- `rdram_word_decode` meets its contract: each arm is a case of the definition.
 use mathlib.Core.Path.{_∙_, sym}
-use Rattle.rdram.specs.Words.{wordDecoded, packetUnder}
+use Rattle.word.specs.Words.{wordDecoded, packetUnder}
 use borrow.Author.Needs.{needs}
 use Rattle.rdram.proofs.words.rdram_word_decode.Statement.{statement}
 use Rattle.rdram.proofs.words.rdram_word_decode.Tie as tie

@@ -2,7 +2,7 @@
 use mathlib.Core.Path.{_∙_, sym}
 use native.Mathlib.Omega.{arith}
 use Rattle.settings.proofs.SettingsLaws.{bounds, accepted-valid}
-use Rattle.rdram.specs.Words.{wordEncoded, wordUnder}
+use Rattle.word.specs.Words.{wordEncoded, wordUnder}
 use borrow.Author.Needs.{needs}
 use Rattle.rdram.proofs.words.rdram_word_encode.Statement.{statement}
 use Rattle.rdram.proofs.words.rdram_word_encode.Tie as tie

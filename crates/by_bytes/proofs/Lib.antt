@@ -1,0 +1,2 @@
+pub mod PlanCalls
+pub mod ModelCall

@@ -1,3 +1,0 @@
-pub mod WordRoundTrip
-pub mod PlanCalls
-pub mod ModelCall
