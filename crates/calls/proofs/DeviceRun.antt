@@ -37,8 +37,8 @@ use Rattle.rules.specs.Channel.{stateOf}
 use Rattle.rules.specs.Checks.{judged}
 use Rattle.rules.proofs.Bools.{and-left, and-right}
 use Rattle.rules.proofs.NeighbourLaws.{split-neighbours}
-use Rattle.state.specs.Valid.{bankValid, channelValid}
-use Rattle.state.proofs.NextValid.{valid-sound}
+use Rattle.validity.specs.Valid.{bankValid, channelValid}
+use Rattle.validity.proofs.NextValid.{valid-sound}
 use Rattle.plan.specs.Call.{listBytes}
 use Rattle.model.specs.declared.ModelState.{ModelState}
 use Rattle.model.specs.declared.Stepped.{Stepped}

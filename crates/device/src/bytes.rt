@@ -15,7 +15,7 @@ impl Model {
         ensures { λ r. ⌜ r ≡ modelValid s split (self .state) ⌝ }
     {
         let ch = self.state.channel;
-        num::both(state::valid::channel_valid(s, ch), self.state.refr < s.rows)
+        num::both(validity::channel_valid(s, ch), self.state.refr < s.rows)
     }
 
     // The state that 752 bytes say.

@@ -17,7 +17,7 @@ use Rattle.settings.proofs.SettingsLaws.{bounds}
 use Rattle.record.specs.declared.Dualoct.{Dualoct}
 use Rattle.rules.specs.Neighbour.{Relation}
 use Rattle.rules.proofs.Bools.{and-left, and-right}
-use Rattle.state.specs.Valid.{channelValid}
+use Rattle.validity.specs.Valid.{channelValid}
 use Rattle.state.specs.ChannelBytes.{channelBytes, channelIn, bufferRight}
 use Rattle.state.proofs.RoundTrip.{channel-length, channel-bytes, channel-decode-encode, channel-encode-decode}
 use Rattle.model.specs.declared.ModelState.{ModelState}

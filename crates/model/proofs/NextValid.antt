@@ -23,8 +23,8 @@ use Rattle.record.proofs.RoundTrip.{record-read-fits}
 use Rattle.rules.specs.Neighbour.{Relation, Neighbours}
 use Rattle.rules.specs.Checks.{judged}
 use Rattle.rules.proofs.Bools.{not-both, and-left, and-right}
-use Rattle.state.specs.Valid.{channelValid}
-use Rattle.state.proofs.NextValid.{fresh-channel-valid, next-channel-valid}
+use Rattle.validity.specs.Valid.{channelValid}
+use Rattle.validity.proofs.NextValid.{fresh-channel-valid, next-channel-valid}
 use Rattle.model.specs.declared.ModelState.{ModelState}
 use Rattle.model.specs.declared.Stepped.the-variants.{Refused}
 use Rattle.model.specs.Store.{storeLength}

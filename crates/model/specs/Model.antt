@@ -20,7 +20,7 @@ use Rattle.rules.specs.declared.Channel.{Channel}
 use Rattle.rules.specs.Neighbour.{Relation}
 use Rattle.rules.specs.Packets.{traits}
 use Rattle.rules.specs.Channel.{fresh, stateOf, waitingOf, after}
-use Rattle.state.specs.Valid.{channelValid}
+use Rattle.validity.specs.Valid.{channelValid}
 use Rattle.model.specs.declared.ModelState.{ModelState}
 use Rattle.model.specs.Store.{dualoctAt, dualoct, dualoctBytes, masked}
 

@@ -27,7 +27,7 @@ use Rattle.rules.specs.Rules.{bankCount, freeFor, openFor, ofBank}
 use Rattle.rules.specs.Channel.{trackOf, stateOf, waitingOf, dueOf}
 use Rattle.rules.specs.Earliest.{fits}
 use Rattle.rules.proofs.Bools.{not-both, and-left, and-right, neither}
-use Rattle.state.specs.Valid.{bankValid, trackValid, writeValid, lastsValid, apart, channelValid}
+use Rattle.validity.specs.Valid.{bankValid, trackValid, writeValid, lastsValid, apart, channelValid}
 use Rattle.plan.specs.declared.PlannerState.{PlannerState}
 use Rattle.plan.specs.Planner.{notRefresh, notDue, plannerValid}
 use Rattle.plan.specs.Plan.{carried}

@@ -26,7 +26,7 @@ use Rattle.rules.specs.History.{bankBy, isClosed, isOpen, bankOf, has}
 use Rattle.rules.specs.Rules.{bankCount, ofBank}
 use Rattle.rules.specs.Channel.{waitingOf, dueOf, bankNext, settled, bufferBy, bufferNext, afterPacket, afterData, after}
 use Rattle.rules.specs.Earliest.{placedAt, fits}
-use Rattle.state.proofs.AfterLaws.{after-buffer}
+use Rattle.validity.proofs.AfterLaws.{after-buffer}
 use Rattle.plan.specs.declared.PlannerState.{PlannerState}
 use Rattle.plan.specs.Planner.{notDue}
 use Rattle.plan.specs.Plan.{Draft, rowPacket, colPacket, when, waiting, stateIn, maskFor, openOn, hits, slot, sent, flushed, closed, closedUpTo, reached, plannedRead, loaded, written, plannedWrite, turned, plannedRefresh, plannedDrain}

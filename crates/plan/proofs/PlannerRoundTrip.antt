@@ -18,7 +18,7 @@ use Rattle.settings.specs.Instants.{horizon}
 use Rattle.rules.specs.Neighbour.{Relation}
 use Rattle.rules.specs.Rules.{bankCount}
 use Rattle.rules.proofs.Bools.{and-left, and-right}
-use Rattle.state.specs.Valid.{channelValid}
+use Rattle.validity.specs.Valid.{channelValid}
 use Rattle.state.specs.ChannelBytes.{channelBytes, channelIn, bufferRight}
 use Rattle.state.proofs.RoundTrip.{channel-length, channel-bytes, channel-decode-encode, channel-encode-decode}
 use Rattle.plan.specs.declared.PlannerState.{PlannerState}

@@ -28,7 +28,7 @@ use Rattle.rules.specs.Rules.{bankCount, ofBank, dataDelay}
 use Rattle.rules.specs.Channel.{bankNext, settled, bufferBy, bufferNext, after}
 use Rattle.rules.specs.Earliest.{placedAt}
 use Rattle.rules.proofs.Bools.{and-left}
-use Rattle.state.proofs.AfterLaws.{waitingNext, after-size, after-waits, after-state}
+use Rattle.validity.proofs.AfterLaws.{waitingNext, after-size, after-waits, after-state}
 use Rattle.plan.specs.Planner.{notDue}
 use Rattle.plan.specs.Plan.{Draft, rowPacket, colPacket, when, waiting, stateIn, maskFor, slot, sent, flushed, closed, closedUpTo}
 

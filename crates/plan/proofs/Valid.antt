@@ -25,10 +25,10 @@ use Rattle.rules.specs.Rules.{bankCount}
 use Rattle.rules.specs.Channel.{idle, fresh, trackOf, stateOf, waitingOf}
 use Rattle.rules.specs.Earliest.{earliest}
 use Rattle.rules.proofs.Bools.{and-left, and-right}
-use Rattle.state.specs.Valid.{bankValid, trackValid, writeValid, lastsValid, apart, channelValid}
-use Rattle.state.proofs.AfterLaws.{after-size}
-use Rattle.state.proofs.Stamps.{WriteStamp, Stamped, stamps-track, after-stamped, fresh-stamped}
-use Rattle.state.proofs.NextValid.{valid-sound}
+use Rattle.validity.specs.Valid.{bankValid, trackValid, writeValid, lastsValid, apart, channelValid}
+use Rattle.validity.proofs.AfterLaws.{after-size}
+use Rattle.validity.proofs.Stamps.{WriteStamp, Stamped, stamps-track, after-stamped, fresh-stamped}
+use Rattle.validity.proofs.NextValid.{valid-sound}
 use Rattle.plan.specs.declared.PlannerState.{PlannerState}
 use Rattle.plan.specs.Planner.{freshPlanner, notRefresh, notDue, plannerValid}
 use Rattle.plan.specs.Call.{timely, inTime, planNext, planRecords}

@@ -13,7 +13,7 @@ use Rattle.rules.specs.declared.Buffer.the-variants.{Empty, Waiting, Due}
 use Rattle.rules.specs.Neighbour.{Relation}
 use Rattle.rules.specs.Rules.{bankCount}
 use Rattle.rules.specs.Channel.{fresh, stateOf}
-use Rattle.state.specs.Valid.{channelValid}
+use Rattle.validity.specs.Valid.{channelValid}
 use Rattle.plan.specs.declared.PlannerState.{PlannerState}
 
 -- "Fresh: banks closed, buffer empty, refresh bank 0, now 4."

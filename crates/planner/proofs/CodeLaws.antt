@@ -15,7 +15,7 @@ use Rattle.record.specs.declared.Place.{Place}
 use Rattle.rules.specs.Neighbour.{Relation, split, near}
 use Rattle.rules.specs.Packets.{isPacket}
 use Rattle.rules.specs.Channel.{idle, stateOf, waitingOf}
-use Rattle.state.specs.Valid.{apart}
+use Rattle.validity.specs.Valid.{apart}
 use Rattle.channel.specs.declared.Held.{Held}
 use Rattle.channel.specs.View.{slotOf}
 use Rattle.plan.specs.declared.PlannerState.{PlannerState}

@@ -22,7 +22,7 @@ use Rattle.rules.specs.Packets.{instant}
 use Rattle.rules.specs.Rules.{bankCount, dataDelay}
 use Rattle.rules.specs.Channel.{stateOf, after, afterData}
 use Rattle.rules.proofs.Bools.{not-both, and-left, and-right}
-use Rattle.state.specs.Valid.{apart}
+use Rattle.validity.specs.Valid.{apart}
 use Rattle.plan.specs.declared.PlannerState.{PlannerState}
 use Rattle.plan.specs.Planner.{plannerValid}
 use Rattle.plan.specs.Plan.{Draft, sent, loaded, turned, plannedWait, stepsOf, planned}

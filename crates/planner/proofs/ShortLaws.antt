@@ -24,7 +24,7 @@ use Rattle.rules.specs.History.{isClosed}
 use Rattle.rules.specs.Rules.{bankCount}
 use Rattle.rules.specs.Channel.{stateOf}
 use Rattle.rules.proofs.Bools.{iff-eq, not-both, and-left, and-right}
-use Rattle.state.specs.Valid.{apart}
+use Rattle.validity.specs.Valid.{apart}
 use Rattle.channel.specs.View.{lowOf, highOf}
 use Rattle.channel.proofs.NearLaws.{Beside, own, low, high, near-beside, near-own, near-low, near-high}
 use Rattle.plan.specs.declared.PlannerState.{PlannerState}

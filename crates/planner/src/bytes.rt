@@ -75,7 +75,7 @@ impl Planner {
             num::both(p.refresh < 32, p.mask < 65536),
         );
         let between = num::both(none_refreshed(ch), num::both(not_due(buffer), fields));
-        num::both(state::valid::channel_valid(s, ch), between)
+        num::both(validity::channel_valid(s, ch), between)
     }
 
     // The planner that 740 bytes say.

@@ -7,7 +7,7 @@ ghost use lib.Dec.{leb};
 ghost use lib.ListN.{length};
 ghost use Rattle.rules.specs.Neighbour.{split};
 ghost use Rattle.rules.specs.Channel.{stateOf, waitingOf};
-ghost use Rattle.state.specs.Valid.{apart};
+ghost use Rattle.validity.specs.Valid.{apart};
 ghost use Rattle.plan.specs.Plan.{rowPacket, colPacket, openOn, hits};
 ghost use Rattle.planner.specs.Course.{Holds, Extends, bankAt, closing, closings, firstNear, lastNear, fullMask, clearing, opening, rdAt, wrAt, readCourse, writeMask, writeCourse, refreshCourse, drainCourse};
 use crate::Course;

@@ -24,7 +24,7 @@ use Rattle.rules.specs.History.{bankBy, isClosed, isOpen, bankOf, has}
 use Rattle.rules.specs.Rules.{bankCount, openFor, ofBank}
 use Rattle.rules.specs.Channel.{stateOf, bankNext}
 use Rattle.rules.proofs.Bools.{not-both}
-use Rattle.state.specs.Valid.{bankValid}
+use Rattle.validity.specs.Valid.{bankValid}
 use Rattle.plan.specs.declared.PlannerState.{PlannerState}
 use Rattle.plan.specs.Plan.{Draft, rowPacket, colPacket, when, waiting, stateIn, openOn, hits, sent, flushed, closed, closedUpTo, reached, plannedRead, plannedWrite, turned, plannedRefresh, plannedWait, plannedDrain}
 use Rattle.plan.proofs.SentLaws.{when-either, sent-size, sent-state, row-waiting, flushed-waiting, flushed-state, saved, saved-far, up-to-waiting}

@@ -29,9 +29,9 @@ use Rattle.rules.specs.Neighbour.{Relation}
 use Rattle.rules.specs.Rules.{bankCount}
 use Rattle.rules.specs.Channel.{idle, trackOf, waitingOf}
 use Rattle.rules.proofs.Bools.{and-left, and-right}
-use Rattle.state.specs.Valid.{isStamp, bankValid, trackValid, writeValid, lastsValid, channelValid}
+use Rattle.validity.specs.Valid.{isStamp, bankValid, trackValid, writeValid, lastsValid, channelValid}
 use Rattle.state.specs.ChannelBytes.{bankTag, plane, writeBytes, bufferBytes, lastsBytes, channelBytes, bankIn, trackIn, tracksIn, writeIn, bufferIn, channelIn, bufferRight}
-use Rattle.state.proofs.ValidLaws.{ranges}
+use Rattle.validity.proofs.ValidLaws.{ranges}
 use Rattle.state.proofs.PlaneLaws.{length-plane, plane-at, plane-part, Bytes-plane, part-split, part-both, tracks-at, tracks-are}
 
 -- ---- lengths

@@ -1,4 +1,2 @@
-pub mod Valid
-pub mod Walk
 pub mod ChannelBytes
 pub mod Planes

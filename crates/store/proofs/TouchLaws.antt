@@ -31,8 +31,8 @@ use Rattle.rules.proofs.Bools.{and-left, and-right}
 use Rattle.rules.specs.Packets.{traits, colTraits, rowTraits}
 use Rattle.rules.specs.Rules.{bankCount}
 use Rattle.rules.specs.Channel.{stateOf, waitingOf}
-use Rattle.state.specs.Valid.{bankValid, trackValid, writeValid, channelValid}
-use Rattle.state.proofs.ValidLaws.{ranges}
+use Rattle.validity.specs.Valid.{bankValid, trackValid, writeValid, channelValid}
+use Rattle.validity.proofs.ValidLaws.{ranges}
 use Rattle.channel.specs.View.{slotOf, viewOf, colView, heldOf}
 use Rattle.model.specs.declared.ModelState.{ModelState}
 use Rattle.model.specs.declared.Stepped.the-variants.{Refused, Read}

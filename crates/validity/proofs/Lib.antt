@@ -1,0 +1,4 @@
+pub mod ValidLaws
+pub mod AfterLaws
+pub mod Stamps
+pub mod NextValid

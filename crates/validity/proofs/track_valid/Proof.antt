@@ -1,0 +1,72 @@
+-- `state::valid::track_valid` meets its contract: the answers, from the last to the first.
+use Rattle.validity.specs.Valid.{trackValid}
+use borrow.Author.Needs.{needs}
+use Rattle.validity.proofs.track_valid.Statement.{statement}
+use Rattle.validity.proofs.track_valid.Tie as tie
+
+is-stamp-requires : tie.Need-is-stamp-requires
+is-stamp-requires c κs = search needs
+
+is-stamp-requires-2 : tie.Need-is-stamp-requires-2
+is-stamp-requires-2 c κs = search needs
+
+both-requires : tie.Need-both-requires
+both-requires c κs = search needs
+
+is-stamp-requires-3 : tie.Need-is-stamp-requires-3
+is-stamp-requires-3 c κs = search needs
+
+is-stamp-requires-4 : tie.Need-is-stamp-requires-4
+is-stamp-requires-4 c κs = search needs
+
+both-requires-2 : tie.Need-both-requires-2
+both-requires-2 c κs = search needs
+
+both-requires-3 : tie.Need-both-requires-3
+both-requires-3 c κs = search needs
+
+bank-valid-requires : tie.Need-bank-valid-requires
+bank-valid-requires c κs = search needs
+
+is-stamp-requires-5 : tie.Need-is-stamp-requires-5
+is-stamp-requires-5 c κs = search needs
+
+both-requires-4 : tie.Need-both-requires-4
+both-requires-4 c κs = search needs
+
+both-requires-5 : tie.Need-both-requires-5
+both-requires-5 c κs = search needs
+
+returns : tie.Need-returns
+unfolding trackValid
+returns c =
+    rw (
+      c .both5 .ensures,
+      c .before .both4 .ensures,
+      c .before .before .is-stamp5 .ensures,
+      c .before .before .before .bank-valid .ensures,
+      c .before .before .before .before .both3 .ensures,
+      c .before .before .before .before .before .both2 .ensures,
+      c .before .before .before .before .before .before .is-stamp4 .ensures,
+      c .before .before .before .before .before .before .before .is-stamp3 .ensures,
+      c .before .before .before .before .before .before .before .before .both .ensures,
+      c .before .before .before .before .before .before .before .before .before .is-stamp2 .ensures,
+      c .before .before .before .before .before .before .before .before .before .before .is-stamp .ensures,
+    )
+
+pub track-valid-spec : {M : Type 1} → statement M
+track-valid-spec =
+    tie.close
+    (tie.spec
+    is-stamp-requires
+    is-stamp-requires-2
+    both-requires
+    is-stamp-requires-3
+    is-stamp-requires-4
+    both-requires-2
+    both-requires-3
+    bank-valid-requires
+    is-stamp-requires-5
+    both-requires-4
+    both-requires-5
+    returns)
