@@ -4,9 +4,13 @@
 #![allow(dead_code)] // each bench uses a part
 
 pub mod plain;
-#[path = "../../tests/compare/plain_model.rs"]
-pub mod plain_model;
-#[path = "../../tests/compare/plain_plan.rs"]
-pub mod plain_plan;
-#[path = "../../tests/compare/plain_state.rs"]
-pub mod plain_state;
+#[path = "../../tests/compare/tuned_model.rs"]
+pub mod tuned_model;
+#[path = "../../tests/compare/tuned_plan.rs"]
+pub mod tuned_plan;
+#[path = "../../tests/compare/tuned_records.rs"]
+pub mod tuned_records;
+#[path = "../../tests/compare/tuned_requests.rs"]
+pub mod tuned_requests;
+#[path = "../../tests/compare/tuned_state.rs"]
+pub mod tuned_state;

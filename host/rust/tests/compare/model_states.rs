@@ -1,5 +1,5 @@
 //! Model states: damaged field by field, and any that are not refused, also those that no run
-//! reaches. For the latter the plain model, which needs no list, says what is wanted.
+//! reaches. For the latter the tuned model, which needs no list, says what is wanted.
 
 use crate::calls::Seen as Numbers;
 use crate::lists::{legal, list_bytes, Item, LAST};
@@ -293,7 +293,7 @@ fn any_record(random: &mut Random, numbers: &[u16; 16], state: &[u8]) -> Vec<u8>
     record(numbers, at, Some(packet))
 }
 
-/// Any states and any records: the model does what the plain model does.
+/// Any states and any records: the model does what the tuned model does.
 #[test]
 fn any_states() {
     let (mut seen, mut random) = (Numbers::default(), Random::new(93));

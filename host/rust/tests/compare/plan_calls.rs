@@ -1,12 +1,12 @@
 //! Plan calls of the library, each compared with what is wanted: C functions and safe wrappers. The
-//! plain planner of the benchmark is compared along with them.
+//! tuned planner of the benchmark is compared along with them.
 
 use crate::calls::{typed, Seen as Numbers};
-use crate::plain_plan;
 use crate::plan_streams::{DRAIN, READ, REFRESH, WAIT, WRITE};
 use crate::random::bytes;
 use crate::reference::{NOCOP, PRER, RD, WR};
 use crate::reference_plan::{self as reference, STATE_BYTES};
+use crate::tuned_plan;
 use rdram::{raw, Planner, Refusal, Request};
 
 /// What a call must do: the number of a refusal, or the new records and the next state.
@@ -145,17 +145,17 @@ fn compare_wrappers(case: &Case, want: &Want) {
     }
 }
 
-fn compare_plain(case: &Case, want: &Want) {
+fn compare_tuned(case: &Case, want: &Want) {
     let (mut planner, mut room) = (case.planner.to_vec(), pattern(case.room));
-    let got = plain_plan::plan(case.settings, &mut planner, case.request, &mut room);
+    let got = tuned_plan::plan(case.settings, &mut planner, case.request, &mut room);
     let answer = want.as_ref().map(|(r, _)| r.len() / 32).map_err(|n| *n);
-    assert_eq!(got, answer, "plain: {:?}, {:?}", case.planner, case.request);
-    assert!((planner, room) == buffers(case, want), "plain");
+    assert_eq!(got, answer, "tuned: {:?}, {:?}", case.planner, case.request);
+    assert!((planner, room) == buffers(case, want), "tuned");
 }
 
-/// Runs the call through C, through the wrappers and in plain Rust.
+/// Runs the call through C, through the wrappers and by the tuned planner.
 pub fn compare(case: &Case, want: &Want) {
-    compare_plain(case, want);
+    compare_tuned(case, want);
     compare_c(case, want);
     compare_wrappers(case, want);
 }
@@ -170,9 +170,9 @@ pub fn fresh() -> Vec<u8> {
     let bytes = lent.to_vec();
     assert!(state == guarded(&bytes));
     assert!(bytes == Planner::fresh().to_bytes());
-    let mut plain = [0; STATE_BYTES];
-    plain_plan::Planner::fresh().encode(&mut plain);
-    assert!(bytes == plain);
+    let mut tuned = [0; STATE_BYTES];
+    tuned_plan::Planner::fresh().encode(&mut tuned);
+    assert!(bytes == tuned);
     bytes
 }
 

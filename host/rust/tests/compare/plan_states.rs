@@ -1,21 +1,21 @@
 //! Planner states: damaged field by field, and any that are not refused, also those that no run
-//! reaches. For the latter the plain planner, which needs no list, says what is wanted.
+//! reaches. For the latter the tuned planner, which needs no list, says what is wanted.
 
 use crate::calls::Seen as Numbers;
 use crate::lists::rule_numbers;
-use crate::plain_plan;
 use crate::plan_calls::{compare, fresh, fresh_refused, Case, Run, Seen, Want, ENOUGH};
 use crate::plan_streams::{bare, read, wait, write, Maker, DRAIN};
 use crate::random::{bytes, rounds, set_h, Random};
 use crate::reference::{COLUMNS, ROWS};
 use crate::reference_plan::{state_fits, STATE_BYTES};
 use crate::reference_state::{put, LAST};
+use crate::tuned_plan;
 
 /// A call from any bytes as planner; answers its number.
 fn call(numbers: &[u16; 16], planner: &[u8], request: &[u8], room: usize) -> u32 {
     let settings = bytes(numbers);
     let (mut next, mut records) = (planner.to_vec(), vec![0; room]);
-    let planned = plain_plan::plan(&settings, &mut next, request, &mut records);
+    let planned = tuned_plan::plan(&settings, &mut next, request, &mut records);
     let refused = planned == Err(1);
     assert_eq!(refused, !state_fits(numbers, planner), "{planner:?}");
     let want: Want = planned.map(|made| (records[..32 * made].to_vec(), next));
@@ -246,7 +246,7 @@ fn any_state(random: &mut Random, numbers: &[u16; 16]) -> Vec<u8> {
     state
 }
 
-/// Any states: a wait of 0 leaves every byte, and any request does what the plain planner does.
+/// Any states: a wait of 0 leaves every byte, and any request does what the tuned planner does.
 #[test]
 fn any_states() {
     let (mut seen, mut random) = (Numbers::default(), Random::new(73));
