@@ -1,5 +1,6 @@
-//! The library's rivals in plain Rust. "plain" has the forms that document 01 names. "tuned" has the
-//! same calls with the channel as a struct of arrays, for vector instructions; the tests use it too.
+//! The library's rivals in plain Rust. "plain" has all calls, planner and model in the forms that
+//! document 01 names. "tuned" has planner and model with the channel as a struct of arrays, for vector
+//! instructions; the tests use it too.
 
 #![allow(dead_code)] // each bench uses a part
 
