@@ -26,6 +26,7 @@ mod refusals;
 mod rule_calls;
 mod rules;
 mod settings;
+mod state_bytes;
 mod tuned_model;
 mod tuned_plan;
 mod tuned_records;
