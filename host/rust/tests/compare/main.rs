@@ -2,6 +2,7 @@
 //! test prints how many cases it ran and how many had each answer number: see them with
 //! `cargo test -- --show-output`.
 
+mod buffers;
 mod calls;
 mod flat_memory;
 mod hand_lists;

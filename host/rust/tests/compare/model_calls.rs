@@ -1,9 +1,9 @@
 //! Model calls of the library, each compared with what is wanted: C functions and safe wrappers. The
 //! tuned model of the benchmark is compared along with them.
 
+use crate::buffers::{self, guarded, lent, pattern};
 use crate::calls::{typed, Seen as Numbers};
 use crate::lists::rule_numbers;
-use crate::plan_calls::{guarded, lent, pattern};
 use crate::random::{bytes, Random};
 use crate::reference::{figures, number, packet, COLUMNS, NOCOP, RD, REFA, ROWS, WR};
 use crate::reference_model::{self as reference, Event, STATE_BYTES};
@@ -185,28 +185,12 @@ pub fn wanted(case: &Case) -> Want {
 
 /// The bytes of a fresh model, by the library.
 pub fn fresh() -> Vec<u8> {
-    let mut state = guarded(&[0xA5; STATE_BYTES]);
-    let lent = lent(&mut state);
-    // SAFETY: pointer and length are those of one slice.
-    let number = unsafe { raw::rdram_model_fresh(lent.as_mut_ptr(), lent.len()) };
-    assert_eq!(number, 0);
-    let bytes = lent.to_vec();
-    assert!(state == guarded(&bytes));
+    let bytes = buffers::fresh(raw::rdram_model_fresh, STATE_BYTES);
     assert!(bytes == Model::fresh().to_bytes());
     let mut tuned = [1; STATE_BYTES];
     tuned_model::Model::fresh().encode(&mut tuned);
     assert!(bytes == tuned);
     bytes
-}
-
-/// The call for a fresh model, with a buffer of another length: refused, nothing written.
-pub fn fresh_refused(length: usize) {
-    let mut state = guarded(&pattern(length));
-    let lent = lent(&mut state);
-    // SAFETY: pointer and length are those of one slice.
-    let number = unsafe { raw::rdram_model_fresh(lent.as_mut_ptr(), lent.len()) };
-    assert_eq!(number, 1, "a fresh model of {length} bytes");
-    assert!(state == guarded(&pattern(length)));
 }
 
 /// Settings of every kind with a store that is quick to compare.

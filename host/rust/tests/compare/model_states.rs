@@ -1,17 +1,17 @@
 //! Model states: damaged field by field, and any that are not refused, also those that no run
 //! reaches. For the latter the tuned model, which needs no list, says what is wanted.
 
+use crate::buffers::fresh_refused;
 use crate::calls::Seen as Numbers;
 use crate::lists::{legal, list_bytes, Item, LAST};
-use crate::model_calls::{
-    any_store, compare, fresh, fresh_refused, small_numbers, wanted, Case, Run, Seen,
-};
+use crate::model_calls::{any_store, compare, fresh, small_numbers, wanted, Case, Run, Seen};
 use crate::random::{bytes, rounds, set_h, Random};
 use crate::reference::{Fields, ACT, COLUMNS, NOCOP, PRER, REFA, ROWS, T_CWD, WR};
 use crate::reference_model::{state_fits, STATE_BYTES};
 use crate::reference_rules::near;
 use crate::reference_state::{put, tag};
 use crate::state_bytes::{assert_every_byte, fields, Field, Instants};
+use rdram::raw::rdram_model_fresh;
 
 /// A call from any bytes as model; answers number and rule, or what was taken.
 fn call(numbers: &[u16; 16], model: &[u8], store: &[u8], record: &[u8]) -> Result<u32, (u32, u32)> {
@@ -139,7 +139,7 @@ fn lengths_of_models() {
         let answer = call(&numbers, &long[..length], &[9; 512], &record);
         assert_eq!(answer.is_err(), length != STATE_BYTES);
         if length != STATE_BYTES {
-            fresh_refused(length);
+            fresh_refused(rdram_model_fresh, length);
         }
     }
 }

@@ -1,6 +1,7 @@
 //! Plan calls of the library, each compared with what is wanted: C functions and safe wrappers. The
 //! tuned planner of the benchmark is compared along with them.
 
+use crate::buffers::{self, guarded, lent, pattern};
 use crate::calls::{typed, Seen as Numbers};
 use crate::plan_streams::{DRAIN, READ, REFRESH, WAIT, WRITE};
 use crate::random::bytes;
@@ -19,24 +20,6 @@ pub struct Case<'a> {
     pub request: &'a [u8],
     /// Bytes of the room.
     pub room: usize,
-}
-
-/// Bytes before and after each lent buffer, to see that they stay.
-const GUARD: usize = 64;
-
-pub fn guarded(bytes: &[u8]) -> Vec<u8> {
-    let guard: Vec<u8> = (0..GUARD).map(|i| (i * 29 + 7) as u8).collect();
-    [&guard, bytes, &guard].concat()
-}
-
-pub fn lent(guarded: &mut [u8]) -> &mut [u8] {
-    let end = guarded.len() - GUARD;
-    &mut guarded[GUARD..end]
-}
-
-/// A room of a pattern that no record has.
-pub fn pattern(room: usize) -> Vec<u8> {
-    (0..room).map(|i| (i * 37 + 11) as u8).collect()
 }
 
 /// What a wrapper must say of a refusal.
@@ -162,28 +145,12 @@ pub fn compare(case: &Case, want: &Want) {
 
 /// The bytes of a fresh planner, by the library.
 pub fn fresh() -> Vec<u8> {
-    let mut state = guarded(&[0xA5; STATE_BYTES]);
-    let lent = lent(&mut state);
-    // SAFETY: pointer and length are those of one slice.
-    let number = unsafe { raw::rdram_planner_fresh(lent.as_mut_ptr(), lent.len()) };
-    assert_eq!(number, 0);
-    let bytes = lent.to_vec();
-    assert!(state == guarded(&bytes));
+    let bytes = buffers::fresh(raw::rdram_planner_fresh, STATE_BYTES);
     assert!(bytes == Planner::fresh().to_bytes());
     let mut tuned = [0; STATE_BYTES];
     tuned_plan::Planner::fresh().encode(&mut tuned);
     assert!(bytes == tuned);
     bytes
-}
-
-/// The call for a fresh planner, with a buffer of another length: refused, nothing written.
-pub fn fresh_refused(length: usize) {
-    let mut state = guarded(&pattern(length));
-    let lent = lent(&mut state);
-    // SAFETY: pointer and length are those of one slice.
-    let number = unsafe { raw::rdram_planner_fresh(lent.as_mut_ptr(), lent.len()) };
-    assert_eq!(number, 1, "a fresh planner of {length} bytes");
-    assert!(state == guarded(&pattern(length)));
 }
 
 // ---- Runs ----

@@ -1,9 +1,10 @@
 //! Planner states: damaged field by field, and any that are not refused, also those that no run
 //! reaches. For the latter the tuned planner, which needs no list, says what is wanted.
 
+use crate::buffers::fresh_refused;
 use crate::calls::Seen as Numbers;
 use crate::lists::rule_numbers;
-use crate::plan_calls::{compare, fresh, fresh_refused, Case, Run, Seen, Want, ENOUGH};
+use crate::plan_calls::{compare, fresh, Case, Run, Seen, Want, ENOUGH};
 use crate::plan_streams::{bare, read, wait, write, Maker, DRAIN};
 use crate::random::{bytes, rounds, set_h, Random};
 use crate::reference::{COLUMNS, ROWS};
@@ -11,6 +12,7 @@ use crate::reference_plan::{state_fits, STATE_BYTES};
 use crate::reference_state::{put, LAST};
 use crate::state_bytes::{assert_every_byte, fields, Field, Instants};
 use crate::tuned_plan;
+use rdram::raw::rdram_planner_fresh;
 
 /// A call from any bytes as planner; answers its number.
 fn call(numbers: &[u16; 16], planner: &[u8], request: &[u8], room: usize) -> u32 {
@@ -125,7 +127,7 @@ fn lengths_of_planners() {
         let number = call(&set_h(2, 4, 0), &long[..length], &read(0, 0, 0), ENOUGH);
         assert_eq!(number == 1, length != STATE_BYTES);
         if length != STATE_BYTES {
-            fresh_refused(length);
+            fresh_refused(rdram_planner_fresh, length);
         }
     }
 }
