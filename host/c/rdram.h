@@ -1,18 +1,13 @@
 /*
- * rdram.h: Direct RDRAM packet words, block logs, timing rules, plans and a
- * device model. Link with librdram.a.
- *
- * Common to all calls:
- * - A buffer is a pointer and its length in bytes. A null pointer is allowed
- *   with length 0. No alignment is needed. Numbers in buffers have their low
- *   byte first.
+ * rdram.h: Direct RDRAM packet words, block logs, timing rules, plans and a device model.
+ * Link with librdram.a. Common to all calls:
+ * - A buffer is a pointer and its length in bytes. A null pointer is allowed with length 0. No
+ *   alignment is needed. Numbers in buffers have their low byte first.
  * - The buffers of one call must not overlap.
- * - An answer with number 0 (RDRAM_OK) is accepted. Any other number is a
- *   refusal (enum rdram_refusal): every other field of the answer is then 0,
- *   except `place` and `rule` where the call names them, and no buffer is
- *   changed.
- * - The library keeps no state and allocates nothing: the states of planners
- *   and models are buffers of the caller.
+ * - An answer with number 0 (RDRAM_OK) is accepted. Any other number is a refusal (enum
+ *   rdram_refusal): every other field of the answer is then 0, except `place`, counted from 0, and
+ *   `rule` where the call names them, and no buffer is changed.
+ * - The library keeps no state and allocates nothing: planners and models are the caller's buffers.
  */
 #ifndef RDRAM_H
 #define RDRAM_H
@@ -38,24 +33,25 @@ extern "C" {
 #define RDRAM_SETTINGS_BYTES 32
 
 /*
- * Record, 32 bytes: instant 4, kind 1 (enum rdram_kind), zero 3, word 8,
- * data 16. A D record has word 0, a ROW or COL record has data 0.
+ * Record, 32 bytes: instant 4, kind 1 (enum rdram_kind), zero 3, word 8, data 16. A D record has
+ * word 0, a ROW or COL record has data 0. A record has no coding (refusal 10) where it is not of
+ * this form, or its word has no packet under the settings.
  */
 #define RDRAM_RECORD_BYTES 32
 
 /*
- * Block, 512 bytes: 15 records, block number 4 (from 0), records used 4
- * (1 to 15), zeros 20, check 4. Unused records are zero, only the last block
- * may be short, and the 128 32-bit words of a block sum to 0 modulo 2^32.
+ * Block, 512 bytes: 15 records, block number 4 (from 0), records used 4 (1 to 15), zeros 20, check
+ * 4. Unused records are zero, only the last block may be short, and the 128 32-bit words of a block
+ * sum to 0 modulo 2^32. A block that is not so (refusal 12) is damaged, or blocks are missing or
+ * out of order.
  */
 #define RDRAM_BLOCK_BYTES 512
 #define RDRAM_BLOCK_RECORDS 15
 
 /*
- * Request, 24 bytes: kind 1 (enum rdram_request), bank 1, row 2, column 1,
- * zero 1, mask 2, data 16. Mask bit i governs data byte i. A read uses bank,
- * row and column, a write all of them; a wait has its cycles in bytes 8 to 11,
- * any 32-bit number. Every byte that the kind does not use is 0.
+ * Request, 24 bytes: kind 1 (enum rdram_request), bank 1, row 2, column 1, zero 1, mask 2, data 16.
+ * Mask bit i governs data byte i. A read uses bank, row and column, a write all of them; a wait has
+ * its cycles in bytes 8 to 11, any 32-bit number. Every byte that the kind does not use is 0.
  */
 #define RDRAM_REQUEST_BYTES 24
 
@@ -63,53 +59,44 @@ extern "C" {
 #define RDRAM_REQUEST_RECORDS 17
 
 /*
- * Planner, 740 bytes: the state of a planner between two requests. A program
- * need not look inside; it may keep a copy and go on from that.
+ * Planner, 740 bytes: the state of a planner between two requests. A program need not look inside;
+ * it may keep a copy and go on from that.
  *    0  32 x 4  instant of each bank's last ACT or REFA
  *  128  32 x 4  of its last ACT
  *  256  32 x 4  of the last PRER or REFP to it or that closed it
  *  384  32 x 4  of its last RD
  *  512  32 x 4  of the last retire to it
  *  640  32 x 2  each bank: 0 closed, 1 + row open
- *  704  4       instant of the last packet
- *  708  4       of the last ROW packet
- *  712  4       of the last COL packet
- *  716  4       of the last PRER or REFP
- *  720  4       of the last RD
+ *  704  5 x 4   instants of the last packet, ROW packet, COL packet, PRER or REFP, and RD
  *  724  1       write buffer: 0 empty, 1 a write waits
- *  725  1       bank of the waiting write
- *  726  1       its column
- *  727  1       0
+ *  725  3 x 1   bank and column of the waiting write, and 0
  *  728  4       instant of its WR
  *  732  4       now
  *  736  2       bank of the next refresh, 0 to 31
  *  738  2       mask of the last write, which is the one that waits, if any
- * An instant is 0, for never, or 4 to 1,000,000,000. Now and the instant of a
- * waiting write are never 0. In an empty buffer bytes 724 to 731 are 0. A bank
- * under refresh (65535) and a write whose data are due (2) have a number but
- * do not occur between requests.
+ * An instant is 0, for never, or 4 to 1,000,000,000. Now and the instant of a waiting write are
+ * never 0. In an empty buffer bytes 724 to 731 are 0. A bank under refresh (65535) and a write
+ * whose data are due (2) have a number but do not occur between requests.
  */
 #define RDRAM_PLANNER_BYTES 740
 
 /*
- * Store, rows x columns x 512 bytes: bank, then row, then column, then byte. A
- * dualoct is the 16 bytes from 16 * ((bank * rows + row) * columns + column).
- * Its bytes 0 to 7 travel on DQA, earliest first, 8 to 15 on DQB. Mask bit i
- * governs byte i.
+ * Store, rows x columns x 512 bytes: bank, then row, then column, then byte. A dualoct is the 16
+ * bytes from 16 * ((bank * rows + row) * columns + column). Its bytes 0 to 7 travel on DQA,
+ * earliest first, 8 to 15 on DQB. Mask bit i governs byte i.
  */
 #define RDRAM_STORE_BYTES(rows, columns) ((size_t)512 * (rows) * (columns))
 #define RDRAM_DUALOCT_BYTES 16
 
 /*
- * Model, 752 bytes: the state of a device model between two records. A program
- * need not look inside; it may keep a copy, with one of the store, and go on
- * from that.
- *    0  732     as in a planner, but that a bank may be under refresh (65535)
- *               and a write may wait whose data are due (2 at byte 724)
+ * Model, 752 bytes: the state of a device model between two records. A program need not look
+ * inside; it may keep a copy, with one of the store, and go on from that.
+ *    0  732     as in a planner, but that a bank may be under refresh (65535) and a write may wait
+ *               whose data are due (2 at byte 724)
  *  732  2       REFR, the row that a refresh is due for, below rows
  *  734  2       0
- *  736  16      the data of the last D record, which are those of the waiting
- *               write, if any, once they have come
+ *  736  16      the data of the last D record, which are those of the waiting write, if any, once
+ *               they have come
  * The instants are those of the records that the model has taken.
  */
 #define RDRAM_MODEL_BYTES 752
@@ -119,29 +106,17 @@ extern "C" {
 
 /* Commands. ACT to REFP are ROW packets, NOCOP to RD are COL packets. */
 enum rdram_command {
-    RDRAM_ACT = 0,
-    RDRAM_PRER = 1,
-    RDRAM_REFA = 2,
-    RDRAM_REFP = 3,
-    RDRAM_NOCOP = 4,
-    RDRAM_WR = 5,
-    RDRAM_RD = 6
+    RDRAM_ACT = 0, RDRAM_PRER = 1, RDRAM_REFA = 2, RDRAM_REFP = 3,
+    RDRAM_NOCOP = 4, RDRAM_WR = 5, RDRAM_RD = 6
 };
 
 /* Kinds of record. Words are of kind ROW or COL. */
-enum rdram_kind {
-    RDRAM_KIND_ROW = 0,
-    RDRAM_KIND_COL = 1,
-    RDRAM_KIND_D = 2
-};
+enum rdram_kind { RDRAM_KIND_ROW = 0, RDRAM_KIND_COL = 1, RDRAM_KIND_D = 2 };
 
 /* Kinds of request. */
 enum rdram_request {
-    RDRAM_REQUEST_READ = 0,
-    RDRAM_REQUEST_WRITE = 1,
-    RDRAM_REQUEST_REFRESH = 2,
-    RDRAM_REQUEST_WAIT = 3,
-    RDRAM_REQUEST_DRAIN = 4
+    RDRAM_REQUEST_READ = 0, RDRAM_REQUEST_WRITE = 1, RDRAM_REQUEST_REFRESH = 2,
+    RDRAM_REQUEST_WAIT = 3, RDRAM_REQUEST_DRAIN = 4
 };
 
 /* What a record that a model took did. */
@@ -177,8 +152,8 @@ typedef struct {
 /*
  * place: the row of ACT, the column of WR and RD, else 0.
  * bank:  0 for NOCOP.
- * mask:  0 for a ROW packet; else the mask that the packet carries, and
- *        RDRAM_MASK_FULL where it carries none (M = 0).
+ * mask:  0 for a ROW packet; else the mask that the packet carries, and RDRAM_MASK_FULL where it
+ *        carries none (M = 0).
  */
 typedef struct {
     uint32_t number, command, bank, place, mask;
@@ -186,13 +161,11 @@ typedef struct {
 
 typedef struct {
     uint32_t number;
-    uint64_t place;
-    uint64_t count;
+    uint64_t place, count;
 } rdram_copied;
 
 typedef struct {
-    uint32_t number;
-    uint32_t rule;
+    uint32_t number, rule;
     uint64_t place;
 } rdram_judged;
 
@@ -210,70 +183,62 @@ typedef struct {
 } rdram_stepped;
 
 /*
- * The word of a packet: 24 bits for a ROW packet, 40 for a COL packet. The
- * device number is that of the settings. The fields are those of rdram_packet.
+ * The word of a packet: 24 bits for a ROW packet, 40 for a COL packet. The device number is that of
+ * the settings. The fields are those of rdram_packet.
  *
  * Refusals, in this order:
  *    1  settings: correct the settings bytes.
  *    4  bank above 31: correct the bank.
  *    5  the row of ACT is not below rows: correct the row.
  *    6  the column of WR or RD is not below columns: correct the column.
- *   10  the packet has no word: unknown command, mask above FFFF, or a field
- *       that the command does not use is not 0. Correct the fields.
+ *   10  the packet has no word: unknown command, mask above FFFF, or a field that the command does
+ *       not use is not 0. Correct the fields.
  */
 rdram_word rdram_word_encode(const uint8_t *settings, size_t settings_len,
-                             uint32_t command, uint32_t bank, uint32_t place,
-                             uint32_t mask);
+                             uint32_t command, uint32_t bank, uint32_t place, uint32_t mask);
 
 /*
  * The packet of a word. kind is RDRAM_KIND_ROW or RDRAM_KIND_COL.
  *
  * Refusals, in this order:
  *    1  settings: correct the settings bytes.
- *   10  another kind, or no packet has this word under these settings:
- *       another device, row or column out of range, unknown opcode, a fixed
- *       bit is wrong, or a full mask sent as M = 1. The word is damaged or was
- *       written under other settings.
+ *   10  another kind, or no packet has this word under these settings: another device, row or
+ *       column out of range, unknown opcode, a fixed bit is wrong, or a full mask sent as M = 1.
+ *       The word is damaged or was written under other settings.
  */
 rdram_packet rdram_word_decode(const uint8_t *settings, size_t settings_len,
                                uint32_t kind, uint64_t word);
 
 /*
- * Packs a list of records into a log of blocks.
+ * Packs a list of records into a log of blocks. Timing rules are not tested.
  *
- * list_len is a multiple of 32. A list of n records needs n / 15 blocks,
- * rounded up, and an empty list none. The blocks are written to the start of
- * log and count is their number; the bytes of log after them are unchanged.
- * Timing rules are not tested.
+ * list_len is a multiple of 32. A list of n records needs n / 15 blocks, rounded up, and an empty
+ * list none. The blocks are written to the start of log and count is their number; the bytes of log
+ * after them are unchanged.
  *
  * Refusals, in this order:
  *    1  settings: correct the settings bytes.
  *   13  list_len is not a multiple of 32: pass whole records.
- *   10  place is the first record (from 0) that is not well formed or whose
- *       word has no packet under these settings: correct that record.
- *    8  log has fewer whole blocks than needed, or the list needs more than
- *       2^32 blocks: pass a longer log, or the list in parts.
+ *   10  place is the first record that has no coding: correct that record.
+ *    8  log has fewer whole blocks than needed, or the list needs more than 2^32 blocks: pass a
+ *       longer log, or the list in parts.
  */
 rdram_copied rdram_log_encode(const uint8_t *settings, size_t settings_len,
                               const uint8_t *list, size_t list_len,
                               uint8_t *log, size_t log_len);
 
 /*
- * Unpacks a log of blocks into a list of records.
+ * Unpacks a log of blocks into a list of records. Timing rules are not tested.
  *
- * log_len is a multiple of 512. The records are written to the start of list
- * and count is their number, at most 15 for each block; the bytes of list
- * after them are unchanged. Timing rules are not tested.
+ * log_len is a multiple of 512. The records are written to the start of list and count is their
+ * number, at most 15 for each block; the bytes of list after them are unchanged.
  *
  * Refusals, in this order:
  *    1  settings: correct the settings bytes.
  *   13  log_len is not a multiple of 512: pass whole blocks.
- *   12  place is the first block (from 0) whose number, count, zeros, unused
- *       records or check is wrong: the log is damaged there, or blocks are
- *       missing or out of order.
- *   10  place is the first record (from 0) that is not well formed or whose
- *       word has no packet under these settings: the log was written under
- *       other settings, or not by this library.
+ *   12  place is the first block whose number, count, zeros, unused records or check is wrong.
+ *   10  place is the first record that has no coding: the log was written under other settings, or
+ *       not by this library.
  *    8  list has fewer whole records than needed: pass a longer list.
  */
 rdram_copied rdram_log_decode(const uint8_t *settings, size_t settings_len,
@@ -281,18 +246,15 @@ rdram_copied rdram_log_decode(const uint8_t *settings, size_t settings_len,
                               uint8_t *list, size_t list_len);
 
 /*
- * Tests whether a list of records keeps the sixteen rules.
+ * Tests whether a list of records keeps the sixteen rules. list_len is a multiple of 32. The list
+ * starts with every bank closed, the write buffer empty and no earlier record. Number 0: it passes;
+ * an empty list passes. No buffer is written.
  *
- * list_len is a multiple of 32. The list starts with every bank closed, the
- * write buffer empty and no earlier record. Number 0: it passes; an empty list
- * passes. No buffer is written.
- *
- * Data come tCAC after their RD and go tCWD after their WR. Banks are
- * neighbours where their numbers differ by 1, but for 15 and 16. PRER and REFP
- * close their bank and each neighbour that is open or under refresh. A WR waits
- * until the next COL packet other than RD retires it. In 4 to 8, 13 and 14 ACT
- * stands for ACT and REFA, and PRER for PRER and REFP. "Near" is the same bank
- * or a neighbour. A distance is the least one, in cycles.
+ * Data come tCAC after their RD and go tCWD after their WR. Banks are neighbours where their
+ * numbers differ by 1, but for 15 and 16. PRER and REFP close their bank and each neighbour that is
+ * open or under refresh. A WR waits until the next COL packet other than RD retires it. In 4 to 8,
+ * 13 and 14 ACT stands for ACT and REFA, and PRER for PRER and REFP. "Near" is the same bank or a
+ * neighbour. A distance is the least one, in cycles.
  *
  *    1  ROW and COL instants never fall; all, data's too, 4 to 1,000,000,000
  *    2  ROW to ROW: 4
@@ -314,87 +276,70 @@ rdram_copied rdram_log_decode(const uint8_t *settings, size_t settings_len,
  * Refusals, in this order:
  *    1  settings: correct the settings bytes.
  *   13  list_len is not a multiple of 32: pass whole records.
- *   10  place is the first record (from 0) of the whole list that is not well
- *       formed or whose word has no packet under these settings: correct that
- *       record, or pass the settings under which it was written. No rule has
- *       been tested.
- *   11  place is the first record (from 0) that breaks a rule, given the
- *       records before it, and rule the lowest that it breaks (1 to 16). The
- *       records before it pass; those after it have not been judged. A D that
- *       is missing is named at the record in its place. Move or correct that
+ *   10  place is the first record of the whole list that has no coding: correct that record, or
+ *       pass the settings under which it was written. No rule has been tested.
+ *   11  place is the first record that breaks a rule, given the records before it, and rule the
+ *       lowest that it breaks (1 to 16). The records before it pass; those after it have not been
+ *       judged. A D that is missing is named at the record in its place. Move or correct that
  *       record and check again.
  */
 rdram_judged rdram_check(const uint8_t *settings, size_t settings_len,
                          const uint8_t *list, size_t list_len);
 
 /*
- * Tests whether the list that a log keeps keeps the sixteen rules of
- * rdram_check. log_len is a multiple of 512. Number 0: it passes; an empty log
- * passes. No buffer is written.
+ * Tests whether the list that a log keeps keeps the sixteen rules of rdram_check. log_len is a
+ * multiple of 512. Number 0: it passes; an empty log passes. No buffer is written.
  *
  * Refusals, in this order:
  *    1  settings: correct the settings bytes.
  *   13  log_len is not a multiple of 512: pass whole blocks.
- *   12  place is the first block (from 0) whose number, count, zeros, unused
- *       records or check is wrong: the log is damaged there, or blocks are
- *       missing or out of order. No record has been tested.
- *   10, 11  as in rdram_check; records are counted over the whole log, so
- *       record n is in block n / 15.
+ *   12  as in rdram_log_decode. No record has been tested.
+ *   10, 11  as in rdram_check; records are counted over the whole log: record n is in block n / 15.
  */
 rdram_judged rdram_check_log(const uint8_t *settings, size_t settings_len,
                              const uint8_t *log, size_t log_len);
 
 /*
- * Writes a fresh planner: banks closed, write buffer empty, refresh bank 0,
- * now 4. Answers 0.
- *
- * Refusal:
- *    1  planner_len is not 740: pass RDRAM_PLANNER_BYTES bytes.
+ * Writes a fresh planner: banks closed, write buffer empty, refresh bank 0, now 4. Answers 0, or
+ * refusal 1 where planner_len is not 740: pass RDRAM_PLANNER_BYTES bytes.
  */
 uint32_t rdram_planner_fresh(uint8_t *planner, size_t planner_len);
 
 /*
- * Plans one request: makes the packets that serve it, each at the least
- * instant, not before now, at which it keeps the rules of rdram_check.
+ * Plans one request: makes the packets that serve it, each at the least instant, not before now, at
+ * which it keeps the rules of rdram_check.
  *
- * The records are written to the start of room and `records` is their number,
- * at most RDRAM_REQUEST_RECORDS; the bytes of room after them are unchanged.
- * planner becomes the state after the request: pass it to the next call. The
- * records of all accepted calls from a fresh planner on, one after the other
- * and under the same settings, are a list that passes rdram_check.
+ * The records are written to the start of room and `records` is their number, at most
+ * RDRAM_REQUEST_RECORDS; the bytes of room after them are unchanged. planner becomes the state
+ * after the request: pass it to the next call. The records of all accepted calls from a fresh
+ * planner on, one after the other and under the same settings, are a list that passes rdram_check.
  *
- *   read     Where the row is not open: PRER to each open one of the bank and
- *            its neighbours, in rising order, then ACT. NOCOP where the
- *            waiting write has this bank and column. RD.
- *   write    Where the row is not open: as for read. WR, then D. The write
- *            waits until a later NOCOP or WR retires it, which carries its
- *            mask.
- *   refresh  PRER as for read, about the refresh bank; REFA and REFP to it.
- *            The refresh bank rises, modulo 32.
+ *   read     Where the row is not open: PRER to each open one of the bank and its neighbours, in
+ *            rising order, then ACT. NOCOP where the waiting write has this bank and column. RD.
+ *   write    Where the row is not open: as for read. WR, then D. The write waits until a later
+ *            NOCOP or WR retires it, which carries its mask.
+ *   refresh  PRER as for read, about the refresh bank; REFA and REFP to it. It rises, modulo 32.
  *   wait     No packet: now rises by the cycles.
- *   drain    NOCOP where a write waits, then PRER to each open bank, in rising
- *            order.
+ *   drain    NOCOP where a write waits, then PRER to each open bank, in rising order.
  *
- * A NOCOP stands before each PRER that would close the bank of the waiting
- * write. Now is the instant of the latest packet, and what waits add to it.
- * Data bytes alter no instant and no word.
+ * A NOCOP stands before each PRER that would close the bank of the waiting write. Now is the
+ * instant of the latest packet, and what waits add to it. Data bytes alter no instant and no word.
  *
  * Refusals, in this order:
- *    1  settings: correct the settings bytes. Or planner is not 740 bytes, or
- *       not a state between requests under these settings: a field is out of
- *       its range, two neighbours are both open, the bank of the waiting write
- *       is not open, a bank is under refresh, or data are due. Pass the bytes
- *       that the last call left, with the same settings, or a fresh planner.
+ *    1  settings: correct the settings bytes. Or planner is not 740 bytes, or not a state between
+ *       requests under these settings: a field is out of its range, two neighbours are both open,
+ *       the bank of the waiting write is not open, a bank is under refresh, or data are due. Pass
+ *       the bytes that the last call left, with the same settings, or a fresh planner.
  *   13  request_len is not 24: pass one whole request.
  *    2  the kind is above 4: correct the kind.
  *    3  a byte that the kind does not use is not 0: clear it.
  *    4  bank above 31: correct the bank.
  *    5  the row is not below rows: correct the row.
  *    6  the column is not below columns: correct the column.
- *    7  a packet, its data or now would pass 1,000,000,000: the run is at its
- *       end. Go on with a fresh planner, or wait for fewer cycles.
- *    8  room has fewer whole records than needed: pass a longer room. A request
- *       that makes no record needs none.
+ *    7  a packet, its data or now would pass 1,000,000,000: the run is at its end. Go on with a
+ *       fresh planner, or wait for fewer cycles.
+ *    8  room has fewer whole records than needed: pass a longer room. A request that makes no
+ *       record needs none.
  */
 rdram_planned rdram_plan(const uint8_t *settings, size_t settings_len,
                          uint8_t *planner, size_t planner_len,
@@ -402,54 +347,42 @@ rdram_planned rdram_plan(const uint8_t *settings, size_t settings_len,
                          uint8_t *room, size_t room_len);
 
 /*
- * Writes a fresh model: banks closed, write buffer empty, no earlier record,
- * REFR 0. Answers 0.
- *
- * Refusal:
- *    1  model_len is not 752: pass RDRAM_MODEL_BYTES bytes.
+ * Writes a fresh model: banks closed, write buffer empty, no earlier record, REFR 0. Answers 0, or
+ * refusal 1 where model_len is not 752: pass RDRAM_MODEL_BYTES bytes.
  */
 uint32_t rdram_model_fresh(uint8_t *model, size_t model_len);
 
 /*
- * Takes one record, as the device would: tests it by the rules of rdram_check,
- * given the records that the model has taken, and does what it says.
+ * Takes one record, as the device would: tests it by the rules of rdram_check, given the records
+ * that the model has taken, and does what it says. model becomes the state after the record: pass
+ * it to the next call, with the same settings and store. A fresh model takes a store of any bytes.
  *
- * model becomes the state after the record: pass it to the next call, with the
- * same settings and store. A fresh model takes a store of any bytes.
- *
- *   RD       The 16 bytes of its dualoct, in the row open in its bank, are
- *            written to the start of answer; the bytes of answer after them are
- *            unchanged. Event RDRAM_EVENT_READ. The waiting write is not seen:
- *            it is not in the store yet.
- *   NOCOP,   Where a write waits, it goes to the row open in its bank: byte i
- *   WR       of its dualoct in store is written where bit i of the mask that
- *            this packet carries is 1, and all 16 where it carries none (M = 0).
- *            Event RDRAM_EVENT_RETIRED, and `bytes` is the number of bytes
- *            written. A WR then waits itself, for its D and to be retired.
+ *   RD       The 16 bytes of its dualoct, in the row open in its bank, are written to the start of
+ *            answer; the bytes of answer after them are unchanged. Event RDRAM_EVENT_READ. The
+ *            waiting write is not seen: it is not in the store yet.
+ *   NOCOP,   Where a write waits, it goes to the row open in its bank: byte i of its dualoct in
+ *   WR       store is written where bit i of the mask that this packet carries is 1, and all 16
+ *            where it carries none (M = 0). Event RDRAM_EVENT_RETIRED, and `bytes` is the number of
+ *            bytes written. A WR then waits itself, for its D and to be retired.
  *   D        brings the data of the WR before it.
- *   ACT, PRER, REFA, REFP
- *            open and close banks. REFR rises, modulo rows, after REFA to bank
- *            31. The store is not read or written.
+ *   others   ACT, PRER, REFA and REFP open and close banks. REFR rises, modulo rows, after REFA to
+ *            bank 31. The store is not read or written.
  *
- * Fed with the records of all accepted calls of rdram_plan, a model reads what
- * an array of rows x columns x 512 bytes would that each write sets at once,
- * and after a drain the store is that array.
+ * Fed with the records of all accepted calls of rdram_plan, a model reads what an array of the
+ * store's size would that each write sets at once, and after a drain the store is that array.
  *
  * Refusals, in this order:
- *    1  settings: correct the settings bytes. Or model is not 752 bytes, or no
- *       state under these settings: a field is out of its range, two neighbours
- *       are both not closed, or the bank of the waiting write is not open by
- *       ACT. Pass the bytes that the last call left, with the same settings, or
- *       a fresh model.
+ *    1  settings: correct the settings bytes. Or model is not 752 bytes, or no state under these
+ *       settings: a field is out of its range, two neighbours are both not closed, or the bank of
+ *       the waiting write is not open by ACT. Pass the bytes that the last call left, with the same
+ *       settings, or a fresh model.
  *    9  store_len is not rows x columns x 512: pass the whole store.
  *   13  record_len is not 32: pass one whole record.
- *   10  the record is not well formed, or its word has no packet under these
- *       settings: correct it, or pass the settings under which it was written.
- *   11  the record breaks a rule, and rule is the lowest that it breaks (1 to
- *       16), given the records that the model has taken. Correct the list, or
- *       leave this record out and go on.
- *    8  answer has fewer than 16 bytes for an RD: pass the same record again
- *       with a longer answer. Other records need none.
+ *   10  the record has no coding: correct it, or pass the settings under which it was written.
+ *   11  the record breaks a rule, and rule is the lowest that it breaks (1 to 16), given the
+ *       records that the model has taken. Correct the list, or leave this record out and go on.
+ *    8  answer has fewer than 16 bytes for an RD: pass the same record again with a longer answer.
+ *       Other records need none.
  */
 rdram_stepped rdram_model_step(const uint8_t *settings, size_t settings_len,
                                uint8_t *model, size_t model_len,

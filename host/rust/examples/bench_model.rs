@@ -11,8 +11,9 @@ mod rivals;
 use common::{below, best, print_head, print_row, streams, time, Size};
 use rdram::{raw, Planner, Settings, RECORD_BYTES, REQUEST_BYTES, REQUEST_RECORDS};
 use rivals::plain::model as plain;
-use rivals::plain_model::{self as tuned, Event, Refused, MODEL_BYTES};
-use rivals::plain_state::Figures;
+use rivals::tuned_model::{self as tuned, Event, MODEL_BYTES};
+use rivals::tuned_records::Refused;
+use rivals::tuned_state::Figures;
 
 const SETTINGS: Settings = Settings {
     rows: 16,

@@ -10,8 +10,8 @@ mod rivals;
 use common::{below, best, print_head, print_row, streams, time, Size, SETTINGS};
 use rdram::{raw, RECORD_BYTES, REQUEST_BYTES, REQUEST_RECORDS};
 use rivals::plain::planner as plain;
-use rivals::plain_plan::{self as tuned, STATE_BYTES};
-use rivals::plain_state::{Figures, LAST};
+use rivals::tuned_plan::{self as tuned, STATE_BYTES};
+use rivals::tuned_state::{Figures, LAST};
 
 const ROOM: usize = REQUEST_RECORDS * RECORD_BYTES;
 

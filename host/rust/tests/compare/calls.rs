@@ -1,5 +1,6 @@
 //! Calls of the library, each compared with the reference: C functions and safe wrappers.
 
+use crate::buffers::{guarded, lent, pattern};
 use crate::reference::{self, Fields, Refused};
 use rdram::{raw, Kind, Packet, Refusal, Settings};
 use std::collections::BTreeMap;
@@ -183,19 +184,6 @@ fn raw_copied(answer: &Result<usize, Refused>) -> raw::Copied {
     }
 }
 
-/// Bytes before and after each lent buffer, to see that they stay.
-const GUARD: usize = 64;
-
-/// A buffer of `room` bytes with guards, of a pattern that no log has.
-fn lent(room: usize) -> Vec<u8> {
-    (0..room + 2 * GUARD).map(|i| (i * 37 + 11) as u8).collect()
-}
-
-fn room_of(lent: &mut [u8]) -> &mut [u8] {
-    let end = lent.len() - GUARD;
-    &mut lent[GUARD..end]
-}
-
 type CFunction =
     unsafe extern "C" fn(*const u8, usize, *const u8, usize, *mut u8, usize) -> raw::Copied;
 type Wrapper = fn(&Settings, &[u8], &mut [u8]) -> Result<usize, Refusal>;
@@ -209,9 +197,10 @@ fn copy(
     from: &[u8],
     room: usize,
 ) -> u32 {
-    let (mut want_to, mut got_to) = (lent(room), lent(room));
-    let want = calls.0(settings, from, room_of(&mut want_to));
-    let (s, f, to) = (settings.to_vec(), from.to_vec(), room_of(&mut got_to));
+    let mut want_to = guarded(&pattern(room));
+    let mut got_to = want_to.clone();
+    let want = calls.0(settings, from, lent(&mut want_to));
+    let (s, f, to) = (settings.to_vec(), from.to_vec(), lent(&mut got_to));
     // SAFETY: each pointer and length are those of one slice, and the slices do not overlap.
     let got = unsafe {
         calls.1(
@@ -236,9 +225,9 @@ fn copy(
     );
     assert!(s == settings && f == from, "an input was changed");
     if let Some(settings) = typed(settings) {
-        let mut to = lent(room);
+        let mut to = guarded(&pattern(room));
         assert_eq!(
-            calls.2(&settings, from, room_of(&mut to)),
+            calls.2(&settings, from, lent(&mut to)),
             want.map_err(log_refusal)
         );
         assert!(to == want_to);

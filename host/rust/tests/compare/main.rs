@@ -2,6 +2,7 @@
 //! test prints how many cases it ran and how many had each answer number: see them with
 //! `cargo test -- --show-output`.
 
+mod buffers;
 mod calls;
 mod flat_memory;
 mod hand_lists;
@@ -11,9 +12,6 @@ mod model;
 mod model_calls;
 mod model_runs;
 mod model_states;
-mod plain_model;
-mod plain_plan;
-mod plain_state;
 mod plan;
 mod plan_calls;
 mod plan_runs;
@@ -29,5 +27,11 @@ mod refusals;
 mod rule_calls;
 mod rules;
 mod settings;
+mod state_bytes;
+mod tuned_model;
+mod tuned_plan;
+mod tuned_records;
+mod tuned_requests;
+mod tuned_state;
 mod whole_runs;
 mod words;

@@ -1,13 +1,14 @@
 //! Model calls of the library, each compared with what is wanted: C functions and safe wrappers. The
-//! plain model of the benchmark is compared along with them.
+//! tuned model of the benchmark is compared along with them.
 
+use crate::buffers::{self, guarded, lent, pattern};
 use crate::calls::{typed, Seen as Numbers};
 use crate::lists::rule_numbers;
-use crate::plain_model;
-use crate::plan_calls::{guarded, lent, pattern};
 use crate::random::{bytes, Random};
 use crate::reference::{figures, number, packet, COLUMNS, NOCOP, RD, REFA, ROWS, WR};
 use crate::reference_model::{self as reference, Event, STATE_BYTES};
+use crate::tuned_model;
+use crate::tuned_records;
 use rdram::{raw, Model, Refusal};
 
 /// What a call must do: the number and rule of a refusal, or the event, the next state and the store.
@@ -51,12 +52,12 @@ fn wrapped(want: &Want) -> Result<rdram::Event, Refusal> {
     }
 }
 
-fn plain(want: &Want) -> Result<plain_model::Event, plain_model::Refused> {
+fn tuned(want: &Want) -> Result<tuned_model::Event, tuned_records::Refused> {
     match *want {
-        Ok((Event::Neither, ..)) => Ok(plain_model::Event::Neither),
-        Ok((Event::Read(_), ..)) => Ok(plain_model::Event::Read),
-        Ok((Event::Retired(bytes), ..)) => Ok(plain_model::Event::Retired(bytes)),
-        Err((number, rule)) => Err(plain_model::Refused { number, rule }),
+        Ok((Event::Neither, ..)) => Ok(tuned_model::Event::Neither),
+        Ok((Event::Read(_), ..)) => Ok(tuned_model::Event::Read),
+        Ok((Event::Retired(bytes), ..)) => Ok(tuned_model::Event::Retired(bytes)),
+        Err((number, rule)) => Err(tuned_records::Refused { number, rule }),
     }
 }
 
@@ -137,44 +138,44 @@ fn compare_wrapper(case: &Case, want: &Want) {
     assert_eq!(u64::from(model.refr()), number(&after.0[732..734]));
 }
 
-fn compare_plain(case: &Case, want: &Want) {
+fn compare_tuned(case: &Case, want: &Want) {
     let (mut model, mut store) = (case.model.to_vec(), case.store.to_vec());
     let mut answer = pattern(case.room);
-    let got = plain_model::step(
+    let got = tuned_model::step(
         case.settings,
         &mut model,
         &mut store,
         case.record,
         &mut answer,
     );
-    assert_eq!(got, plain(want), "plain: {}", context(case));
+    assert_eq!(got, tuned(want), "tuned: {}", context(case));
     assert!(
         (&model[..], &store[..], answer) == buffers(case, want),
-        "plain"
+        "tuned"
     );
 }
 
-/// Runs the call through C, through the wrapper and in plain Rust.
+/// Runs the call through C, through the wrapper and by the tuned model.
 pub fn compare(case: &Case, want: &Want) {
-    compare_plain(case, want);
+    compare_tuned(case, want);
     compare_c(case, want);
     compare_wrapper(case, want);
 }
 
-/// What the plain model does, which goes on from any state.
+/// What the tuned model does, which goes on from any state.
 pub fn wanted(case: &Case) -> Want {
     let (mut model, mut store) = (case.model.to_vec(), case.store.to_vec());
     let mut answer = vec![0; case.room];
-    match plain_model::step(
+    match tuned_model::step(
         case.settings,
         &mut model,
         &mut store,
         case.record,
         &mut answer,
     ) {
-        Ok(plain_model::Event::Neither) => Ok((Event::Neither, model, store)),
-        Ok(plain_model::Event::Retired(n)) => Ok((Event::Retired(n), model, store)),
-        Ok(plain_model::Event::Read) => {
+        Ok(tuned_model::Event::Neither) => Ok((Event::Neither, model, store)),
+        Ok(tuned_model::Event::Retired(n)) => Ok((Event::Retired(n), model, store)),
+        Ok(tuned_model::Event::Read) => {
             let dualoct = answer[..16].try_into().unwrap();
             Ok((Event::Read(dualoct), model, store))
         }
@@ -184,28 +185,12 @@ pub fn wanted(case: &Case) -> Want {
 
 /// The bytes of a fresh model, by the library.
 pub fn fresh() -> Vec<u8> {
-    let mut state = guarded(&[0xA5; STATE_BYTES]);
-    let lent = lent(&mut state);
-    // SAFETY: pointer and length are those of one slice.
-    let number = unsafe { raw::rdram_model_fresh(lent.as_mut_ptr(), lent.len()) };
-    assert_eq!(number, 0);
-    let bytes = lent.to_vec();
-    assert!(state == guarded(&bytes));
+    let bytes = buffers::fresh(raw::rdram_model_fresh, STATE_BYTES);
     assert!(bytes == Model::fresh().to_bytes());
-    let mut plain = [1; STATE_BYTES];
-    plain_model::Model::fresh().encode(&mut plain);
-    assert!(bytes == plain);
+    let mut tuned = [1; STATE_BYTES];
+    tuned_model::Model::fresh().encode(&mut tuned);
+    assert!(bytes == tuned);
     bytes
-}
-
-/// The call for a fresh model, with a buffer of another length: refused, nothing written.
-pub fn fresh_refused(length: usize) {
-    let mut state = guarded(&pattern(length));
-    let lent = lent(&mut state);
-    // SAFETY: pointer and length are those of one slice.
-    let number = unsafe { raw::rdram_model_fresh(lent.as_mut_ptr(), lent.len()) };
-    assert_eq!(number, 1, "a fresh model of {length} bytes");
-    assert!(state == guarded(&pattern(length)));
 }
 
 /// Settings of every kind with a store that is quick to compare.

@@ -1,16 +1,17 @@
 //! Model states: damaged field by field, and any that are not refused, also those that no run
-//! reaches. For the latter the plain model, which needs no list, says what is wanted.
+//! reaches. For the latter the tuned model, which needs no list, says what is wanted.
 
+use crate::buffers::fresh_refused;
 use crate::calls::Seen as Numbers;
 use crate::lists::{legal, list_bytes, Item, LAST};
-use crate::model_calls::{
-    any_store, compare, fresh, fresh_refused, small_numbers, wanted, Case, Run, Seen,
-};
+use crate::model_calls::{any_store, compare, fresh, small_numbers, wanted, Case, Run, Seen};
 use crate::random::{bytes, rounds, set_h, Random};
 use crate::reference::{Fields, ACT, COLUMNS, NOCOP, PRER, REFA, ROWS, T_CWD, WR};
 use crate::reference_model::{state_fits, STATE_BYTES};
 use crate::reference_rules::near;
 use crate::reference_state::{put, tag};
+use crate::state_bytes::{assert_every_byte, fields, Field, Instants};
+use rdram::raw::rdram_model_fresh;
 
 /// A call from any bytes as model; answers number and rule, or what was taken.
 fn call(numbers: &[u16; 16], model: &[u8], store: &[u8], record: &[u8]) -> Result<u32, (u32, u32)> {
@@ -63,25 +64,12 @@ fn reached(random: &mut Random, numbers: &[u16; 16]) -> Run {
     run
 }
 
-/// Fields: offset and width.
-fn fields() -> Vec<(usize, usize)> {
-    let instants = (0..160).map(|i| (4 * i, 4));
-    let banks = (0..32).map(|i| (640 + 2 * i, 2));
-    let lasts = (0..5).map(|i| (704 + 4 * i, 4));
-    let buffer = [(724, 1), (725, 1), (726, 1), (727, 1), (728, 4)];
-    let rest = [(732, 2), (734, 1), (735, 1), (736, 8), (744, 8)];
-    let fields = instants.chain(banks).chain(lasts).chain(buffer);
-    fields.chain(rest).collect()
-}
+/// The fields after those that planner and model have in common.
+const OWN: [Field; 5] = [(732, 2), (734, 1), (735, 1), (736, 8), (744, 8)];
 
 #[test]
 fn fields_have_every_byte() {
-    let ends = fields().into_iter().scan(0, |end, (at, width)| {
-        assert_eq!(at, *end);
-        *end += width;
-        Some(*end)
-    });
-    assert_eq!(ends.last(), Some(STATE_BYTES));
+    assert_every_byte(&fields(&OWN), STATE_BYTES);
 }
 
 /// Each field at and beyond the ends of its range; a PRER at the last instant shows that the others
@@ -96,7 +84,7 @@ fn damaged_field_by_field() {
         let (rows, columns) = (u64::from(numbers[ROWS]), u64::from(numbers[COLUMNS]));
         let record = late_prer(&numbers, random.below(32) as u32);
         let last = u64::from(LAST);
-        for (at, width) in fields() {
+        for (at, width) in fields(&OWN) {
             let ends = [0, 1, 2, 3, 4, 5, 31, 32, last, last + 1, 1 << 31, u64::MAX];
             let more = [rows - 1, rows, rows + 1, columns - 1, columns, 512, 513];
             for value in ends.into_iter().chain(more).chain([65_534, 65_535]) {
@@ -110,7 +98,7 @@ fn damaged_field_by_field() {
         }
     }
     seen.report("model, states damaged field by field", &[0, 1, 11]);
-    for (at, _) in fields().into_iter().filter(|(at, _)| *at < 736) {
+    for (at, _) in fields(&OWN).into_iter().filter(|(at, _)| *at < 736) {
         assert!(
             refused[at] > 0,
             "no damage of the field at {at} was refused"
@@ -151,7 +139,7 @@ fn lengths_of_models() {
         let answer = call(&numbers, &long[..length], &[9; 512], &record);
         assert_eq!(answer.is_err(), length != STATE_BYTES);
         if length != STATE_BYTES {
-            fresh_refused(length);
+            fresh_refused(rdram_model_fresh, length);
         }
     }
 }
@@ -225,30 +213,14 @@ fn any_banks(random: &mut Random, numbers: &[u16; 16], state: &mut [u8]) -> Vec<
 /// A state that is not refused, with any instants in range.
 fn any_state(random: &mut Random, numbers: &[u16; 16]) -> Vec<u8> {
     let mut state = vec![0; STATE_BYTES];
-    let last = u64::from(LAST);
-    let middle = 4 + random.below(LAST as usize - 4) as u64;
-    let centre = random.pick(&[100, 100, middle, last - 200, last - 60]);
-    let spread = random.pick(&[1, 40, 200]);
-    let instant = |random: &mut Random, never: bool| {
-        let about = (centre + random.below(spread) as u64).clamp(4, last);
-        let any = 4 + random.below(LAST as usize - 3) as u64;
-        let rare = if random.chance(300) { any } else { about };
-        match random.below(8) {
-            0 | 1 if never => 0,
-            2 => random.pick(&[4, about, about, rare]),
-            _ => rare,
-        }
-    };
-    for at in (0..640).chain(704..724).step_by(4) {
-        let number = instant(random, true);
-        put(&mut state, at, 4, number);
-    }
+    let instants = Instants::new(random, 300, 60);
+    instants.put_lasts(random, &mut state);
     let open = any_banks(random, numbers, &mut state);
     if !open.is_empty() && random.below(3) > 0 {
         let column = random.below(numbers[COLUMNS].into());
         let kind = random.pick(&[1, 1, 2]);
         (state[724], state[725], state[726]) = (kind, random.pick(&open) as u8, column as u8);
-        let number = instant(random, false);
+        let number = instants.instant(random, false);
         put(&mut state, 728, 4, number);
     }
     let refr = random.below(numbers[ROWS].into());
@@ -293,7 +265,7 @@ fn any_record(random: &mut Random, numbers: &[u16; 16], state: &[u8]) -> Vec<u8>
     record(numbers, at, Some(packet))
 }
 
-/// Any states and any records: the model does what the plain model does.
+/// Any states and any records: the model does what the tuned model does.
 #[test]
 fn any_states() {
     let (mut seen, mut random) = (Numbers::default(), Random::new(93));

@@ -1,12 +1,13 @@
 //! Plan calls of the library, each compared with what is wanted: C functions and safe wrappers. The
-//! plain planner of the benchmark is compared along with them.
+//! tuned planner of the benchmark is compared along with them.
 
+use crate::buffers::{self, guarded, lent, pattern};
 use crate::calls::{typed, Seen as Numbers};
-use crate::plain_plan;
 use crate::plan_streams::{DRAIN, READ, REFRESH, WAIT, WRITE};
 use crate::random::bytes;
 use crate::reference::{NOCOP, PRER, RD, WR};
 use crate::reference_plan::{self as reference, STATE_BYTES};
+use crate::tuned_plan;
 use rdram::{raw, Planner, Refusal, Request};
 
 /// What a call must do: the number of a refusal, or the new records and the next state.
@@ -19,24 +20,6 @@ pub struct Case<'a> {
     pub request: &'a [u8],
     /// Bytes of the room.
     pub room: usize,
-}
-
-/// Bytes before and after each lent buffer, to see that they stay.
-const GUARD: usize = 64;
-
-pub fn guarded(bytes: &[u8]) -> Vec<u8> {
-    let guard: Vec<u8> = (0..GUARD).map(|i| (i * 29 + 7) as u8).collect();
-    [&guard, bytes, &guard].concat()
-}
-
-pub fn lent(guarded: &mut [u8]) -> &mut [u8] {
-    let end = guarded.len() - GUARD;
-    &mut guarded[GUARD..end]
-}
-
-/// A room of a pattern that no record has.
-pub fn pattern(room: usize) -> Vec<u8> {
-    (0..room).map(|i| (i * 37 + 11) as u8).collect()
 }
 
 /// What a wrapper must say of a refusal.
@@ -145,45 +128,29 @@ fn compare_wrappers(case: &Case, want: &Want) {
     }
 }
 
-fn compare_plain(case: &Case, want: &Want) {
+fn compare_tuned(case: &Case, want: &Want) {
     let (mut planner, mut room) = (case.planner.to_vec(), pattern(case.room));
-    let got = plain_plan::plan(case.settings, &mut planner, case.request, &mut room);
+    let got = tuned_plan::plan(case.settings, &mut planner, case.request, &mut room);
     let answer = want.as_ref().map(|(r, _)| r.len() / 32).map_err(|n| *n);
-    assert_eq!(got, answer, "plain: {:?}, {:?}", case.planner, case.request);
-    assert!((planner, room) == buffers(case, want), "plain");
+    assert_eq!(got, answer, "tuned: {:?}, {:?}", case.planner, case.request);
+    assert!((planner, room) == buffers(case, want), "tuned");
 }
 
-/// Runs the call through C, through the wrappers and in plain Rust.
+/// Runs the call through C, through the wrappers and by the tuned planner.
 pub fn compare(case: &Case, want: &Want) {
-    compare_plain(case, want);
+    compare_tuned(case, want);
     compare_c(case, want);
     compare_wrappers(case, want);
 }
 
 /// The bytes of a fresh planner, by the library.
 pub fn fresh() -> Vec<u8> {
-    let mut state = guarded(&[0xA5; STATE_BYTES]);
-    let lent = lent(&mut state);
-    // SAFETY: pointer and length are those of one slice.
-    let number = unsafe { raw::rdram_planner_fresh(lent.as_mut_ptr(), lent.len()) };
-    assert_eq!(number, 0);
-    let bytes = lent.to_vec();
-    assert!(state == guarded(&bytes));
+    let bytes = buffers::fresh(raw::rdram_planner_fresh, STATE_BYTES);
     assert!(bytes == Planner::fresh().to_bytes());
-    let mut plain = [0; STATE_BYTES];
-    plain_plan::Planner::fresh().encode(&mut plain);
-    assert!(bytes == plain);
+    let mut tuned = [0; STATE_BYTES];
+    tuned_plan::Planner::fresh().encode(&mut tuned);
+    assert!(bytes == tuned);
     bytes
-}
-
-/// The call for a fresh planner, with a buffer of another length: refused, nothing written.
-pub fn fresh_refused(length: usize) {
-    let mut state = guarded(&pattern(length));
-    let lent = lent(&mut state);
-    // SAFETY: pointer and length are those of one slice.
-    let number = unsafe { raw::rdram_planner_fresh(lent.as_mut_ptr(), lent.len()) };
-    assert_eq!(number, 1, "a fresh planner of {length} bytes");
-    assert!(state == guarded(&pattern(length)));
 }
 
 // ---- Runs ----

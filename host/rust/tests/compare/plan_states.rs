@@ -1,21 +1,24 @@
 //! Planner states: damaged field by field, and any that are not refused, also those that no run
-//! reaches. For the latter the plain planner, which needs no list, says what is wanted.
+//! reaches. For the latter the tuned planner, which needs no list, says what is wanted.
 
+use crate::buffers::fresh_refused;
 use crate::calls::Seen as Numbers;
 use crate::lists::rule_numbers;
-use crate::plain_plan;
-use crate::plan_calls::{compare, fresh, fresh_refused, Case, Run, Seen, Want, ENOUGH};
+use crate::plan_calls::{compare, fresh, Case, Run, Seen, Want, ENOUGH};
 use crate::plan_streams::{bare, read, wait, write, Maker, DRAIN};
 use crate::random::{bytes, rounds, set_h, Random};
 use crate::reference::{COLUMNS, ROWS};
 use crate::reference_plan::{state_fits, STATE_BYTES};
 use crate::reference_state::{put, LAST};
+use crate::state_bytes::{assert_every_byte, fields, Field, Instants};
+use crate::tuned_plan;
+use rdram::raw::rdram_planner_fresh;
 
 /// A call from any bytes as planner; answers its number.
 fn call(numbers: &[u16; 16], planner: &[u8], request: &[u8], room: usize) -> u32 {
     let settings = bytes(numbers);
     let (mut next, mut records) = (planner.to_vec(), vec![0; room]);
-    let planned = plain_plan::plan(&settings, &mut next, request, &mut records);
+    let planned = tuned_plan::plan(&settings, &mut next, request, &mut records);
     let refused = planned == Err(1);
     assert_eq!(refused, !state_fits(numbers, planner), "{planner:?}");
     let want: Want = planned.map(|made| (records[..32 * made].to_vec(), next));
@@ -39,25 +42,12 @@ fn reached(random: &mut Random, numbers: &[u16; 16]) -> Vec<u8> {
     run.state
 }
 
-/// Fields: offset and width.
-fn fields() -> Vec<(usize, usize)> {
-    let instants = (0..160).map(|i| (4 * i, 4));
-    let banks = (0..32).map(|i| (640 + 2 * i, 2));
-    let lasts = (0..5).map(|i| (704 + 4 * i, 4));
-    let buffer = [(724, 1), (725, 1), (726, 1), (727, 1), (728, 4)];
-    let rest = [(732, 4), (736, 2), (738, 2)];
-    let fields = instants.chain(banks).chain(lasts).chain(buffer);
-    fields.chain(rest).collect()
-}
+/// The fields after those that planner and model have in common.
+const OWN: [Field; 3] = [(732, 4), (736, 2), (738, 2)];
 
 #[test]
 fn fields_have_every_byte() {
-    let ends = fields().into_iter().scan(0, |end, (at, width)| {
-        assert_eq!(at, *end);
-        *end += width;
-        Some(*end)
-    });
-    assert_eq!(ends.last(), Some(STATE_BYTES));
+    assert_every_byte(&fields(&OWN), STATE_BYTES);
 }
 
 /// Each field at and beyond the ends of its range; a request that makes no record shows a state that
@@ -70,7 +60,7 @@ fn damaged_field_by_field() {
         let numbers = rule_numbers(&mut random);
         let state = reached(&mut random, &numbers);
         let (rows, columns) = (u64::from(numbers[ROWS]), u64::from(numbers[COLUMNS]));
-        for (at, width) in fields() {
+        for (at, width) in fields(&OWN) {
             let ends = [0, 1, 2, 3, 4, 5, 31, 32, LAST, LAST + 1, 1 << 31];
             let more = [
                 rows,
@@ -93,7 +83,7 @@ fn damaged_field_by_field() {
         }
     }
     seen.report("plan, states damaged field by field", &[0, 1]);
-    for (at, _) in fields().into_iter().filter(|(at, _)| *at != 738) {
+    for (at, _) in fields(&OWN).into_iter().filter(|(at, _)| *at != 738) {
         assert!(
             refused[at] > 0,
             "no damage of the field at {at} was refused"
@@ -137,7 +127,7 @@ fn lengths_of_planners() {
         let number = call(&set_h(2, 4, 0), &long[..length], &read(0, 0, 0), ENOUGH);
         assert_eq!(number == 1, length != STATE_BYTES);
         if length != STATE_BYTES {
-            fresh_refused(length);
+            fresh_refused(rdram_planner_fresh, length);
         }
     }
 }
@@ -207,23 +197,8 @@ fn bank_of_the_waiting_write() {
 /// A state that is not refused, with any instants in range.
 fn any_state(random: &mut Random, numbers: &[u16; 16]) -> Vec<u8> {
     let mut state = vec![0; STATE_BYTES];
-    let middle = 4 + random.below(LAST as usize - 4) as u64;
-    let centre = random.pick(&[100, 100, middle, LAST - 200, LAST - 4_096]);
-    let spread = random.pick(&[1, 40, 200]);
-    let instant = |random: &mut Random, never: bool| {
-        let about = (centre + random.below(spread) as u64).clamp(4, LAST);
-        let any = 4 + random.below(LAST as usize - 3) as u64;
-        let rare = if random.chance(200) { any } else { about };
-        match random.below(8) {
-            0 | 1 if never => 0,
-            2 => random.pick(&[4, about, about, rare]),
-            _ => rare,
-        }
-    };
-    for at in (0..640).chain(704..724).step_by(4) {
-        let number = instant(random, true);
-        put(&mut state, at, 4, number);
-    }
+    let instants = Instants::new(random, 200, 4_096);
+    instants.put_lasts(random, &mut state);
     let mut open = Vec::new();
     for bank in 0..32usize {
         let free = bank % 16 == 0 || open.last() != Some(&(bank - 1));
@@ -236,17 +211,17 @@ fn any_state(random: &mut Random, numbers: &[u16; 16]) -> Vec<u8> {
     if !open.is_empty() && random.chance(2) {
         let column = random.below(numbers[COLUMNS].into());
         (state[724], state[725], state[726]) = (1, random.pick(&open) as u8, column as u8);
-        let number = instant(random, false);
+        let number = instants.instant(random, false);
         put(&mut state, 728, 4, number);
     }
-    let now = instant(random, false);
+    let now = instants.instant(random, false);
     put(&mut state, 732, 4, now);
     put(&mut state, 736, 2, random.below(32) as u64);
     put(&mut state, 738, 2, random.below(0x10000) as u64);
     state
 }
 
-/// Any states: a wait of 0 leaves every byte, and any request does what the plain planner does.
+/// Any states: a wait of 0 leaves every byte, and any request does what the tuned planner does.
 #[test]
 fn any_states() {
     let (mut seen, mut random) = (Numbers::default(), Random::new(73));

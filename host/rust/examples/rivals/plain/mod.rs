@@ -1,12 +1,15 @@
-//! The rival "plain": planner and device model in the forms that document 01 names. A bank is an
+//! The rival "plain". Planner and device model have the forms that document 01 names: a bank is an
 //! enum in a struct with its last instants, in an array of structs; planner and model are taken by
-//! value, and the next one is handed back. Settings, requests, words and records are those of the
-//! rival "tuned" (`tests/compare/plain_*.rs`), whose channel is a struct of arrays.
+//! value, and the next one is handed back. Log and checker are written for speed. Settings, requests,
+//! words and records are those of the rival "tuned" (`tests/compare/tuned_*.rs`), whose channel is a
+//! struct of arrays.
 
+pub mod checker;
+pub mod log;
 pub mod model;
 pub mod planner;
 
-use crate::rivals::plain_state::{beside, since, Figures, Write, LAST, UNDER_REFRESH};
+use crate::rivals::tuned_state::{beside, since, Figures, Write, LAST, UNDER_REFRESH};
 
 pub const CHANNEL_BYTES: usize = 732;
 

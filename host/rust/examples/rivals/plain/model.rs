@@ -1,10 +1,9 @@
 //! The device model of the rival "plain".
 
 use super::{half, put_half, Bank, Buffer, Channel};
-use crate::rivals::plain_model::{
-    dualoct, record_of, refused, Event, Record, Refused, MODEL_BYTES,
-};
-use crate::rivals::plain_state::{beside, Figures, Write, FULL, LAST};
+use crate::rivals::tuned_model::{Event, MODEL_BYTES};
+use crate::rivals::tuned_records::{dualoct, received, refused, Record, Refused};
+use crate::rivals::tuned_state::{beside, Figures, Write, FULL, LAST};
 
 #[derive(Clone, Copy)]
 pub struct Model {
@@ -38,16 +37,7 @@ impl Model {
         record: &[u8],
         answer: &mut [u8],
     ) -> Result<(Model, Event), Refused> {
-        if store.len() != 512 * (f.rows * f.columns) as usize {
-            return refused(9);
-        }
-        let Ok(bytes) = <&[u8; 32]>::try_from(record) else {
-            return refused(13);
-        };
-        let Some(record) = record_of(f, bytes) else {
-            return refused(10);
-        };
-        let at = u32::from_le_bytes(bytes[..4].try_into().unwrap());
+        let (at, record) = received(f, store, record)?;
         if let Err(rule) = self.judge(f, at, &record) {
             return Err(Refused { number: 11, rule });
         }

@@ -1,8 +1,9 @@
 //! The planner of the rival "plain".
 
 use super::{half, is_instant, put_half, put_word, word, Bank, Buffer, Channel};
-use crate::rivals::plain_plan::{Asked, Out, Refused, Request, RECORDS, STATE_BYTES};
-use crate::rivals::plain_state::{
+use crate::rivals::tuned_plan::STATE_BYTES;
+use crate::rivals::tuned_requests::{Asked, Out, Refused, Request, RECORDS};
+use crate::rivals::tuned_state::{
     beside, Figures, Write, ACT, FULL, LAST, NOCOP, PRER, RD, REFA, REFP, WR,
 };
 

@@ -1,4 +1,4 @@
-//! What the plain planner and the plain model have in common, written for speed from document 01:
+//! What the tuned planner and the tuned model have in common, written for speed from document 01:
 //! settings, the words' codes, and banks, write buffer and last instants as a struct of numbers.
 
 pub const LAST: u32 = 1_000_000_000;

@@ -1,0 +1,188 @@
+/* Rules: runs of the paper, lists that pass, and lists whose last record breaks one rule or several. */
+#include "test_check.h"
+
+void test_runs(void)
+{
+    static const char *const RUNS[] = {
+        ("4 ACT 0 0, 13 RD 0 1, 19 WR 0 1, 25 D, 27 NOCOP 0 0 0003, 31 RD 0 1, 35 PRER 0, 43 ACT 1 0, "
+         "52 RD 1 0, 63 PRER 1"),
+        "4 ACT 15, 13 RD 15, 13 ACT 16, 22 RD 16",
+        "4 ACT 14, 13 RD 14, 24 PRER 14, 32 ACT 15, 41 RD 15",
+        "4 ACT 0 0, 5 WR 0 0, 11 D, 13 NOCOP, 24 PRER 0, 32 ACT 0 1, 41 RD 0 0",
+        "4 REFA 0, 24 REFP 0, 32 REFA 1, 52 REFP 1",
+        "4 ACT 0, 5 WR 0 1, 11 D, 13 WR 0 1 00F0, 19 D",
+    };
+    for (size_t i = 0; i < COUNT(RUNS); i++) {
+        use_list(RUNS[i]);
+        check(both_are(0, 0, 0), "run of the paper passes: %s", RUNS[i]);
+    }
+}
+
+void test_passing_lists(void)
+{
+    static const char *const LISTS[] = {
+        "4 ACT 0",
+        "1000000000 ACT 0",
+        "4 ACT 0, 13 RD 0, 13 PRER 20",
+        "999999900 ACT 0, 999999992 RD 0",
+        "999999900 ACT 0, 999999994 WR 0, 1000000000 D",
+        "4 ACT 0, 8 PRER 20",
+        "4 ACT 0, 13 RD 0, 17 RD 0",
+        "4 ACT 0, 12 ACT 20",
+        "4 ACT 0, 24 PRER 0, 32 ACT 0",
+        "4 ACT 15, 12 ACT 16",
+        "4 ACT 0, 24 PRER 1",
+        "4 ACT 0, 30 PRER 0, 38 ACT 0",
+        "4 ACT 5, 30 PRER 6, 38 ACT 4",
+        "30 PRER 6, 34 ACT 4",
+        "4 PRER 0, 12 PRER 20",
+        "4 ACT 0, 13 RD 0, 19 WR 0, 25 D",
+        "4 ACT 0, 10 WR 0, 16 D, 18 NOCOP",
+        "4 ACT 0, 21 RD 0, 25 PRER 0",
+        "4 ACT 0, 13 WR 0, 19 D, 21 NOCOP, 25 PRER 1",
+        "4 ACT 20, 13 WR 20, 19 D, 21 NOCOP, 22 PRER 0",
+        "4 ACT 15, 13 WR 15, 19 D, 24 PRER 16",
+        "4 NOCOP, 8 NOCOP",
+        "4 ACT 0, 5 WR 0",
+        "4 ACT 0, 13 WR 0, 19 D, 17 RD 0",
+        "4 PRER 3, 12 REFP 3, 20 REFA 3, 40 PRER 3, 48 ACT 3, 68 REFP 3",
+        "4 ACT 0, 12 ACT 20, 12 WR 0, 18 D",
+        "4 ACT 0, 5 WR 0, 11 D, 13 NOCOP 0 0 0000",
+        "4 ACT 0, 5 WR 0, 11 D, 9 PRER 20, 13 RD 0, 19 WR 0 2 8001, 25 D",
+        "4 ACT 0, 5 WR 0 0, 11 D, 13 WR 0 1 0001, 19 D, 21 WR 0 2, 27 D, 29 NOCOP 0 0 FFFE",
+    };
+    for (size_t i = 0; i < COUNT(LISTS); i++) {
+        use_list(LISTS[i]);
+        check(both_are(0, 0, 0), "passes: %s", LISTS[i]);
+    }
+}
+
+typedef struct {
+    uint32_t rule;
+    const char *text;
+} broken_list;
+
+/* The last record breaks the rule, and the list without it passes. */
+static void test_broken_list(const broken_list *broken)
+{
+    use_list(broken->text);
+    check(both_are(RDRAM_REFUSED_RULE, broken->rule, records - 1), "rule %" PRIu32 ": %s", broken->rule, broken->text);
+    records--;
+    check(both_are(0, 0, 0), "passes without the last record: %s", broken->text);
+}
+
+/* Rules broken alone. */
+void test_single_rules(void)
+{
+    static const broken_list LISTS[] = {
+        {1, "3 ACT 0"},
+        {1, "0 NOCOP"},
+        {1, "1000000001 ACT 0"},
+        {1, "4294967295 NOCOP"},
+        {1, "4 ACT 0, 13 RD 0, 12 PRER 20"},
+        {1, "13 PRER 20, 12 NOCOP"},
+        {1, "999999900 ACT 0, 999999993 RD 0"},
+        {1, "999999900 ACT 0, 999999995 WR 0"},
+        {2, "4 ACT 0, 7 PRER 20"},
+        {2, "4 PRER 5, 4 ACT 20"},
+        {3, "4 ACT 0, 13 RD 0, 16 RD 0"},
+        {3, "4 NOCOP, 7 NOCOP"},
+        {4, "4 ACT 0, 32 ACT 0"},
+        {4, "4 ACT 0, 32 ACT 1"},
+        {4, "4 ACT 1, 32 REFA 0"},
+        {4, "4 REFA 0, 32 ACT 1"},
+        {5, "4 ACT 0, 11 ACT 20"},
+        {5, "4 REFA 15, 11 ACT 16"},
+        {5, "4 ACT 0, 11 REFA 2"},
+        {6, "4 ACT 0, 23 PRER 0"},
+        {6, "4 ACT 0, 23 PRER 1"},
+        {6, "4 REFA 1, 23 REFP 0"},
+        {7, "4 ACT 0, 30 PRER 0, 37 ACT 0"},
+        {7, "30 PRER 0, 37 ACT 1"},
+        {7, "4 ACT 5, 30 PRER 6, 37 ACT 4"},
+        {7, "4 REFA 5, 30 REFP 4, 37 REFA 6"},
+        {8, "4 PRER 0, 11 PRER 20"},
+        {8, "4 REFP 0, 11 PRER 0"},
+        {9, "4 RD 0"},
+        {9, "4 WR 0"},
+        {9, "4 REFA 0, 40 RD 0"},
+        {9, "4 ACT 0, 24 PRER 0, 40 WR 0"},
+        {9, "4 ACT 0, 24 PRER 1, 40 RD 0"},
+        {10, "4 ACT 0, 12 RD 0"},
+        {10, "4 ACT 0, 4 WR 0"},
+        {11, "4 ACT 0, 13 RD 0, 18 WR 0"},
+        {11, "4 ACT 0, 12 ACT 20, 21 RD 0, 26 WR 20"},
+        {12, "4 ACT 0, 10 WR 0, 16 D, 17 NOCOP"},
+        {12, "4 ACT 0, 10 WR 0, 16 D, 17 WR 0"},
+        {13, "4 ACT 0, 21 RD 0, 24 PRER 0"},
+        {13, "4 ACT 1, 21 RD 1, 24 REFP 0"},
+        {13, "4 ACT 0, 13 WR 0, 19 D, 21 NOCOP, 24 PRER 1"},
+        {13, "4 ACT 20, 13 WR 20, 19 D, 21 NOCOP, 24 PRER 20"},
+        {13, "4 ACT 0, 12 ACT 20, 14 WR 0, 20 D, 22 WR 20, 28 D, 25 PRER 0"},
+        {14, "4 ACT 0, 13 WR 0, 19 D, 24 PRER 0"},
+        {14, "4 ACT 0, 13 WR 0, 19 D, 24 REFP 1"},
+        {15, "4 D"},
+        {15, "4 ACT 0, 5 WR 0, 12 D"},
+        {15, "4 ACT 0, 5 WR 0, 10 D"},
+        {15, "4 ACT 0, 13 WR 0, 12 D"},
+        {15, "4 ACT 0, 5 WR 0, 13 NOCOP"},
+        {15, "4 ACT 0, 5 WR 0, 11 D, 11 D"},
+        {16, "4 NOCOP 0 0 0003"},
+        {16, "4 ACT 0, 5 WR 0 0 0003"},
+        {16, "4 ACT 0, 13 RD 0 0 0000"},
+        {16, "4 ACT 0, 5 WR 0, 11 D, 13 RD 0 0 0003"},
+    };
+    for (size_t i = 0; i < COUNT(LISTS); i++)
+        test_broken_list(&LISTS[i]);
+}
+
+/* Several rules broken by one record: the lowest is named. */
+void test_several_rules(void)
+{
+    static const broken_list LISTS[] = {
+        {1, "3 RD 0"},                                            /* 9 */
+        {1, "4 ACT 0, 5 WR 0, 3 D"},                              /* 15 */
+        {1, "999999900 ACT 0, 999999994 WR 0, 1000000001 D"},     /* 15 */
+        {1, "4294967295 RD 0 0 0003"},                            /* 9, 16 */
+        {2, "4 ACT 0, 5 ACT 0"},                                  /* 4, 5 */
+        {3, "4 ACT 0, 5 WR 0, 6 NOCOP"},                          /* 10, 12, 15 */
+        {4, "4 ACT 0, 31 ACT 1"},                                 /* 5 */
+        {5, "4 ACT 0, 24 PRER 0, 31 ACT 0"},                      /* 7 */
+        {6, "4 ACT 0, 13 RD 0, 13 PRER 0"},                       /* 13 */
+        {6, "4 ACT 0, 13 WR 0, 19 D, 23 PRER 0"},                 /* 14 */
+        {9, "4 NOCOP, 8 RD 0 0 0003"},                            /* 16 */
+        {10, "4 ACT 0, 5 WR 0, 11 D, 12 NOCOP"},                  /* 12 */
+        {10, "4 ACT 0, 12 RD 0 0 0003"},                          /* 16 */
+        {11, "4 ACT 0, 13 RD 0, 18 WR 0 0 0003"},                 /* 16 */
+        {12, "4 ACT 0, 10 WR 0, 17 NOCOP"},                       /* 15 */
+        {13, "4 ACT 0, 19 WR 0, 25 D, 27 WR 0, 33 D, 30 PRER 0"}, /* 14 */
+        {15, "4 ACT 0, 5 WR 0, 13 RD 0 0 0003"},                  /* 16 */
+    };
+    for (size_t i = 0; i < COUNT(LISTS); i++)
+        test_broken_list(&LISTS[i]);
+    use_list("4 ACT 0, 12 RD 0, 12 RD 0, 3 ACT 1");
+    check(both_are(RDRAM_REFUSED_RULE, 10, 1), "the first bad record, not the lowest rule of the list");
+}
+
+/* The timings of the settings are those that count. */
+void test_timings(void)
+{
+    use_list("4 ACT 0, 12 RD 0");
+    use_figure(5, 8); /* tRCD */
+    check(both_are(0, 0, 0), "RD at 12 under tRCD 8");
+    use_figure(5, 64);
+    check(both_are(RDRAM_REFUSED_RULE, 10, 1), "RD at 12 under tRCD 64");
+    use_list("4 ACT 1, 24 PRER 1, 32 ACT 2, 52 PRER 2, 67 ACT 3");
+    use_figure(0, 8);  /* tRC */
+    use_figure(4, 64); /* tRR: bank 3 is not near bank 1 */
+    check(both_are(RDRAM_REFUSED_RULE, 5, 4), "ACT 3 at 67, 63 after ACT 1, under tRR 64");
+    use_figure(4, 63);
+    check(both_are(0, 0, 0), "ACT 3 at 67, 63 after ACT 1, under tRR 63");
+    use_list("4 ACT 0, 4 WR 0, 10 D, 8 NOCOP 0 0 0001, 12 RD 0");
+    use_figure(5, 4); /* tRCD */
+    use_figure(6, 4); /* tRTR below tCWD */
+    check(both_are(0, 0, 0), "a retire before the instant of its D");
+    use_list("4 ACT 0, 13 RD 0");
+    use_figure(15, 1); /* device */
+    check(both_are(RDRAM_REFUSED_WORD, 0, 0), "a list of another device");
+}

@@ -1,0 +1,29 @@
+/*
+ * Tests of rdram_planner_fresh and rdram_plan through rdram.h. Prints one line
+ * for each failed check and last the line 'N passed, M failed'. Requests are
+ * written as kind, bank, row, column and mask, or a wait's cycles; lists as in
+ * the listings of document 01: instant, name, bank, row or column, mask where
+ * M = 1. Numbers at the end may be left out where they are 0.
+ */
+#include "test_plan.h"
+
+_Static_assert(sizeof(rdram_planned) == 16, "layout of rdram_planned");
+_Static_assert(offsetof(rdram_planned, records) == 8, "layout of rdram_planned");
+
+int main(void)
+{
+    test_runs();
+    test_timings();
+    test_refresh_banks();
+    test_fresh();
+    test_state();
+    test_refused_states();
+    test_requests();
+    test_spare_bytes();
+    test_lengths();
+    test_settings();
+    test_null_pointers();
+    test_horizon();
+    test_seventeen_records();
+    return report();
+}

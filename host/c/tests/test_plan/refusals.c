@@ -1,0 +1,130 @@
+/* Requests, lengths, settings, null pointers and instants that are refused, and which refusal comes first. */
+#include "test_plan.h"
+
+void test_requests(void)
+{
+    plan_all("write 0 0 1 0003");
+    static const struct {
+        uint32_t number;
+        const char *text;
+    } PLACES[] = {
+        {4, "read 32 0 0"}, {4, "write 255 0 0 FFFF"}, {5, "read 0 2 0"}, {5, "write 0 65535 0 1"},
+        {6, "read 0 0 4"}, {6, "write 31 1 255 0"},
+        /* several faults: the first of 3, 4, 5, 6 */
+        {3, "read 32 2 4 1"}, {4, "read 32 2 4"}, {5, "read 31 2 4"},
+        {3, "refresh 1"}, {3, "refresh 32"}, {3, "drain 0 0 1"}};
+    for (size_t i = 0; i < COUNT(PLACES); i++) {
+        use_request(PLACES[i].text);
+        check(refuses(PLACES[i].number, PLANNER, REQUEST, ROOM), "refusal %" PRIu32 ": %s", PLACES[i].number,
+              PLACES[i].text);
+    }
+    for (int kind = 5; kind < 256; kind++) {
+        use_request("read 0 0 0");
+        request[0] = (uint8_t)kind;
+        request[23] = (uint8_t)kind; /* the kind before the spare bytes */
+        check(refuses(RDRAM_REFUSED_KIND, PLANNER, REQUEST, ROOM), "kind %d", kind);
+    }
+}
+
+static int uses(int kind, int byte)
+{
+    if (byte >= 1 && byte <= 4)
+        return kind <= RDRAM_REQUEST_WRITE;
+    if (byte >= 8 && byte <= 11)
+        return kind == RDRAM_REQUEST_WRITE || kind == RDRAM_REQUEST_WAIT;
+    return byte == 0 || (byte != 5 && kind == RDRAM_REQUEST_WRITE);
+}
+
+void test_spare_bytes(void)
+{
+    static const char *const KINDS[] = {"read 0 0 0", "write 0 0 0 1", "refresh", "wait 1", "drain"};
+    begin();
+    for (int kind = 0; kind <= RDRAM_REQUEST_DRAIN; kind++)
+        for (int byte = 0; byte < REQUEST; byte++)
+            if (!uses(kind, byte)) {
+                use_request(KINDS[kind]);
+                request[byte] = 0x80;
+                check(refuses(RDRAM_REFUSED_SPARE, PLANNER, REQUEST, ROOM), "%s, byte %d", KINDS[kind], byte);
+            }
+}
+
+void test_lengths(void)
+{
+    begin();
+    int ok = 1;
+    use_request("read 0 0 0");
+    for (size_t length = 0; length <= 2 * REQUEST; length++)
+        if (length != REQUEST)
+            ok &= refuses(RDRAM_REFUSED_LENGTH, PLANNER, length, ROOM);
+    check(ok, "requests of another length");
+    ok = 1;
+    for (size_t length = 0; length < sizeof planner; length++)
+        if (length != PLANNER)
+            ok &= refuses(RDRAM_REFUSED_SETTINGS, length, REQUEST, ROOM);
+    check(ok, "planners of another length");
+    check(refuses(RDRAM_REFUSED_SETTINGS, PLANNER - 1, REQUEST - 1, 0), "the planner before the request");
+    request[0] = 5;
+    check(refuses(RDRAM_REFUSED_LENGTH, PLANNER, REQUEST - 1, 0), "the length before the kind");
+}
+
+static int refused_by_settings(const uint8_t *bytes, size_t length)
+{
+    remember();
+    rdram_planned made = rdram_plan(bytes, length, planner, PLANNER, request, REQUEST - 1, room, 0);
+    return made.number == RDRAM_REFUSED_SETTINGS && made.records == 0 && STAYS(planner);
+}
+
+void test_settings(void)
+{
+    begin();
+    use_request("drain");
+    for (int figure = 0; figure < 16; figure++) {
+        use_bad_figure(figure);
+        check(refused_by_settings(settings, sizeof settings), "settings number %d", figure);
+    }
+    use_set_h();
+    check(refused_by_settings(settings, 31), "settings of 31 bytes");
+    check(refused_by_settings(NULL, 0), "null settings");
+}
+
+void test_null_pointers(void)
+{
+    begin();
+    use_request("drain");
+    remember();
+    rdram_planned made = rdram_plan(settings, sizeof settings, planner, PLANNER, request, REQUEST, NULL, 0);
+    check(made.number == 0 && made.records == 0, "null room for no record");
+    made = rdram_plan(settings, sizeof settings, planner, PLANNER, NULL, 0, NULL, 0);
+    check(made.number == RDRAM_REFUSED_LENGTH && made.records == 0, "null request");
+    made = rdram_plan(settings, sizeof settings, NULL, 0, request, REQUEST, NULL, 0);
+    check(made.number == RDRAM_REFUSED_SETTINGS && made.records == 0, "null planner");
+}
+
+/* After a wait of so many cycles the request is accepted, and after one more refused. */
+void test_horizon(void)
+{
+    static const struct {
+        unsigned cycles;
+        const char *text;
+    } LATEST[] = {
+        {999999996, "wait 0"}, {999999995, "wait 1"}, {999999979, "read 0 0 0"}, {999999989, "write 0 0 0 0"},
+        {999999976, "refresh"}};
+    char text[40];
+    for (size_t i = 0; i < COUNT(LATEST); i++)
+        for (unsigned late = 0; late < 2; late++) {
+            snprintf(text, sizeof text, "wait %u", LATEST[i].cycles + late);
+            begin();
+            use_request(text);
+            if (LATEST[i].cycles + late > 999999996) {
+                check(refuses(RDRAM_REFUSED_HORIZON, PLANNER, REQUEST, ROOM), "%s", text);
+                continue;
+            }
+            check(accepts(0), "%s", text);
+            use_request(LATEST[i].text);
+            check(late ? refuses(RDRAM_REFUSED_HORIZON, PLANNER, REQUEST, 0) : accepts(ROOM), "%s, %s", text,
+                  LATEST[i].text);
+        }
+    begin();
+    use_request("wait 4294967295");
+    check(refuses(RDRAM_REFUSED_HORIZON, PLANNER, REQUEST, ROOM), "the longest wait");
+}

@@ -1,0 +1,124 @@
+/* Runs: requests and the list that they make, which passes the check. */
+#include "test_plan.h"
+
+typedef struct {
+    const char *requests, *list;
+} run;
+
+/* Writes the records of a list; answers their number. */
+static size_t expect_list(uint8_t *expected, const char *text)
+{
+    size_t count = 0;
+    unsigned data = 0;
+    for (const char *line = text; line; line = after_comma(line)) {
+        uint8_t *record = expected + RECORD * count++;
+        if (put_line(record, line))
+            put_data(record + 16, data++);
+    }
+    return count;
+}
+
+static void test_list(const run *run)
+{
+    static uint8_t expected[sizeof list];
+    size_t count = expect_list(expected, run->list);
+    check(records == count && memcmp(list, expected, RECORD * count) == 0, "list of: %s", run->requests);
+    check(list_passes(), "passes the check: %s", run->requests);
+}
+
+void test_runs(void)
+{
+    static const run RUNS[] = {
+        {"read 0 0 1, write 0 0 1 0003, read 0 0 1, read 1 0 0, drain",
+         "4 ACT 0 0, 13 RD 0 1, 19 WR 0 1, 25 D, 27 NOCOP 0 0 0003, 31 RD 0 1, 35 PRER 0, 43 ACT 1 0, 52 RD 1 0, "
+         "63 PRER 1"},
+        {"read 15, read 16", "4 ACT 15, 13 RD 15, 13 ACT 16, 22 RD 16"},
+        {"read 14, read 15", "4 ACT 14, 13 RD 14, 24 PRER 14, 32 ACT 15, 41 RD 15"},
+        {"write 0 0 0 FFFF, read 0 1 0", "4 ACT 0 0, 5 WR 0 0, 11 D, 13 NOCOP, 24 PRER 0, 32 ACT 0 1, 41 RD 0 0"},
+        {"refresh, refresh", "4 REFA 0, 24 REFP 0, 32 REFA 1, 52 REFP 1"},
+        {"write 0 0 0 0003, write 0 0 0 0006", "4 ACT 0, 5 WR 0 0, 11 D, 13 WR 0 0 0003, 19 D"},
+        {"read 31 1 3", "4 ACT 31 1, 13 RD 31 3"},
+        {"write 0 0 0 0000, drain", "4 ACT 0, 5 WR 0, 11 D, 13 NOCOP 0 0 0000, 24 PRER 0"},
+        /* Another column, and another bank: reads pass the buffer. */
+        {"write 0 0 1 0003, read 0 0 2, read 2 0 1, drain",
+         "4 ACT 0, 5 WR 0 1, 11 D, 13 RD 0 2, 13 ACT 2, 22 RD 2 1, 26 NOCOP 0 0 0003, 30 PRER 0, 38 PRER 2"},
+        /* Open neighbours on both sides, one of them with the waiting write. */
+        {"read 5, write 7 1 0 00F0, read 6",
+         "4 ACT 5, 13 RD 5, 13 ACT 7 1, 19 WR 7 0, 25 D, 24 PRER 5, 27 NOCOP 0 0 00F0, 33 PRER 7, 41 ACT 6, 50 RD 6"},
+        /* A drain retires first, also where the write's bank is not the lowest. */
+        {"read 0, write 2 0 0 0100, drain",
+         "4 ACT 0, 13 RD 0, 13 ACT 2, 19 WR 2, 25 D, 27 NOCOP 0 0 0100, 27 PRER 0, 35 PRER 2"},
+        {"read 15, read 16, drain", "4 ACT 15, 13 RD 15, 13 ACT 16, 22 RD 16, 24 PRER 15, 33 PRER 16"},
+        /* A refresh closes as a read does. */
+        {"read 1, refresh", "4 ACT 1, 13 RD 1, 24 PRER 1, 32 REFA 0, 52 REFP 0"},
+        {"wait 10, read 0, wait 0, wait 100, drain", "14 ACT 0, 23 RD 0, 123 PRER 0"},
+    };
+    for (size_t i = 0; i < COUNT(RUNS); i++) {
+        check(plan_all(RUNS[i].requests), "accepted: %s", RUNS[i].requests);
+        test_list(&RUNS[i]);
+    }
+}
+
+/* Set H with one or two other timings, which then decide. */
+void test_timings(void)
+{
+    static const struct {
+        int figure, value, second, second_value;
+        run run;
+    } RUNS[] = {
+        {0, 64, 0, 64, {"read 0 0, read 0 1", "4 ACT 0 0, 13 RD 0, 24 PRER 0, 68 ACT 0 1, 77 RD 0"}}, /* tRC */
+        {0, 64, 0, 64, {"read 0, read 1", "4 ACT 0, 13 RD 0, 24 PRER 0, 68 ACT 1, 77 RD 1"}},
+        {4, 30, 4, 30, {"read 0, read 2", "4 ACT 0, 13 RD 0, 34 ACT 2, 43 RD 2"}}, /* tRR */
+        {4, 30, 4, 30, {"refresh, read 9", "4 REFA 0, 24 REFP 0, 34 ACT 9, 43 RD 9"}},
+        /* tPP */
+        {3, 40, 3, 40, {"read 0, read 2, drain", "4 ACT 0, 13 RD 0, 13 ACT 2, 22 RD 2, 24 PRER 0, 64 PRER 2"}},
+        /* tRCD below tRTR: a WR at the instant of its ACT */
+        {5, 4, 6, 20, {"write 0 0 0 1, write 0 0 1 2", "4 ACT 0, 4 WR 0, 10 D, 24 WR 0 1 0001, 30 D"}},
+        /* tRTR below tCWD: a retire before the instant of its D */
+        {6, 4, 5, 4, {"write 0 0 0 1, read 0 0 0", "4 ACT 0, 4 WR 0, 10 D, 8 NOCOP 0 0 0001, 12 RD 0"}},
+        {10, 12, 11, 1, {"read 0, write 0 0 0 1", "4 ACT 0, 13 RD 0, 28 WR 0, 29 D"}}, /* tCAC, tCWD */
+        {7, 30, 7, 30, {"read 0, drain", "4 ACT 0, 13 RD 0, 43 PRER 0"}}, /* tRDP */
+        {8, 30, 8, 30, {"write 0, drain", "4 ACT 0, 5 WR 0, 11 D, 13 NOCOP 0 0 0000, 43 PRER 0"}}, /* tRTP */
+    };
+    for (size_t i = 0; i < COUNT(RUNS); i++) {
+        begin();
+        use_figure(RUNS[i].figure, (unsigned)RUNS[i].value);
+        use_figure(RUNS[i].second, (unsigned)RUNS[i].second_value);
+        check(plan_more(RUNS[i].run.requests), "accepted, timing %d: %s", RUNS[i].figure, RUNS[i].run.requests);
+        test_list(&RUNS[i].run);
+    }
+}
+
+/* The refresh bank rises and starts again. */
+void test_refresh_banks(void)
+{
+    begin();
+    for (unsigned i = 0; i < 34; i++) {
+        use_request("refresh");
+        int ok = accepts(2 * RECORD);
+        uint64_t bank = get(list + RECORD * (records - 1) + 8, 8) >> 13 & 31;
+        check(ok && bank == i % 32 && get(planner + 736, 2) == (i + 1) % 32, "refresh %u", i);
+    }
+    check(list_passes(), "refreshes pass the check");
+}
+
+/* Sixteen open banks and a waiting write: NOCOP and 16 PRER. */
+void test_seventeen_records(void)
+{
+    char text[40];
+    begin();
+    for (unsigned bank = 0; bank < 32; bank += 2) {
+        snprintf(text, sizeof text, "%s %u", bank == 30 ? "write" : "read", bank);
+        use_request(text);
+        check(accepts(3 * RECORD), "%s", text);
+    }
+    use_request("drain");
+    int ok = 1;
+    for (size_t length = 0; length < ROOM; length++)
+        ok &= refuses(RDRAM_REFUSED_FULL, PLANNER, REQUEST, length);
+    check(ok, "rooms for fewer than 17 records");
+    size_t before = records;
+    check(accepts(ROOM + 31) && records == before + RDRAM_REQUEST_RECORDS, "17 records");
+    check(list_passes(), "they pass the check");
+    check(accepts(0) && records == before + RDRAM_REQUEST_RECORDS, "nothing left to drain");
+}
