@@ -318,7 +318,8 @@ uint32_t rdram_planner_fresh(uint8_t *planner, size_t planner_len);
  *            rising order, then ACT. NOCOP where the waiting write has this bank and column. RD.
  *   write    Where the row is not open: as for read. WR, then D. The write waits until a later
  *            NOCOP or WR retires it, which carries its mask.
- *   refresh  PRER as for read, about the refresh bank; REFA and REFP to it; its number rises, modulo 32.
+ *   refresh  PRER as for read, about the refresh bank; REFA and REFP to it. The refresh bank
+ *            rises, modulo 32.
  *   wait     No packet: now rises by the cycles.
  *   drain    NOCOP where a write waits, then PRER to each open bank, in rising order.
  *
