@@ -32,7 +32,9 @@ use Rattle.plan.specs.Call.{listBytes, timely, outcomeOf, outcomeBy, planOutcom
 use Rattle.plan.specs.Runs.{Call, OfBytes, plannerAfter, listed}
 use Rattle.plan.proofs.Valid.{fresh-valid, next-valid}
 use Rattle.plan.proofs.PlannerRoundTrip.{planner-decode-encode, planner-right}
+use Rattle.runs.specs.Flat.{Fed}
 use Rattle.runs.specs.WholeRun.{fed}
+use Rattle.by_bytes.specs.declared.PlanAnswer.{PlanAnswer}
 use Rattle.by_bytes.specs.Plans.{planAnswer, planBy, planUnder, planAnswered, plannerBy, plannerUnder, planPlanner, roomBy, roomUnder, planPlaced}
 use Rattle.calls.specs.Runs.{PlanCall, Bench, freshBench, benchNext, benchAfter, benchFed, BytesIn}
 use Rattle.calls.proofs.ListOf.{length-list, list-append}
@@ -103,6 +105,14 @@ answer-records s p bytes room = by-records s p (requestRead s bytes) room
 
 -- ---- one call
 
+-- field by field, so that a definition that is wrong in one field is refused at that field
+bench-same : (p q l m : List ℕ) → p ≡ q → l ≡ m → _≡_ {A = Bench} (record { planner = p; list = l }) (record { planner = q; list = m })
+bench-same p q l m e f = rw (e, f)
+
+fed-same : (request : List ℕ) (p q : Bool) (l m : List Fed) → p ≡ q → l ≡ m
+    → _≡_ {A = List Fed} (record { request = request; accepted = p } ∷ l) (record { request = request; accepted = q } ∷ m)
+fed-same request p q l m e f = rw (e, f)
+
 module _ (settings : List ℕ) (s : Settings) (a : settingsRead settings ≡ AcceptedSettings s) (p : PlannerState) (k : plannerValid s split p ≡ true) where
   v : valid s ≡ true
   v = accepted-valid settings s a
@@ -136,7 +146,7 @@ module _ (settings : List ℕ) (s : Settings) (a : settingsRead settings ≡ Acc
       benchNext settings c (record { planner = plannerBytes p; list = list })
       ≡ record { planner = plannerBytes (planNext s split p (c .request) (length (c .room))); list = list ++ listBytes s (planRecords s split p (c .request) (length (c .room))) }
   unfolding benchNext
-  bench-next c list = rw (call-planner (c .request) (c .room), call-list (c .request) (c .room))
+  bench-next c list = bench-same _ _ _ _ (call-planner (c .request) (c .room)) (ap (λ x. list ++ x) (call-list (c .request) (c .room)))
 
 -- ---- calls in a row
 
@@ -170,12 +180,11 @@ module _ (settings : List ℕ) (s : Settings) (a : settingsRead settings ≡ Acc
   fed-from (c ∷ l) b p k list =
       let q : PlannerState = planNext s split p (c .request) (length (c .room)) in
       let new : List Record = planRecords s split p (c .request) (length (c .room)) in
-      rw (
-        bench-next settings s a p k c list,
-        call-answer settings s a p k (c .request) (c .room),
-        answer-accepted (planOutcome s split p (c .request) (length (c .room))),
-        fed-from l (b .1) q (next-valid s split split-neighbours p (c .request) (length (c .room)) (b .0) k) (list ++ listBytes s new),
-      )
+      let made =
+      ap (λ (x : PlanAnswer). eqb (x .number) 0) (call-answer settings s a p k (c .request) (c .room)) ∙ answer-accepted (planOutcome s split p (c .request) (length (c .room)))
+      in
+      let rest = fed-from l (b .1) q (next-valid s split split-neighbours p (c .request) (length (c .room)) (b .0) k) (list ++ listBytes s new) in
+      rw (bench-next settings s a p k c list) (fed-same (c .request) _ _ _ _ made rest)
 
   module _ (calls : List PlanCall) (b : BytesIn calls) where
     pub bench-planner : benchAfter settings calls freshBench .planner ≡ plannerBytes (plannerAfter s split freshPlanner (callsOf calls))

@@ -130,6 +130,11 @@ read-sixteen s v ch k store n (DataOf t d) f = tt
 
 -- ---- one call
 
+-- field by field, so that a definition that is wrong in one field is refused at that field
+device-same : (m n st su : List ℕ) (a b : List (List ℕ)) (i j : ℕ) (p q : Bool) → m ≡ n → st ≡ su → a ≡ b → i ≡ j → p ≡ q →
+    _≡_ {A = Device} (record { model = m; store = st; answers = a; next = i; failed = p }) (record { model = n; store = su; answers = b; next = j; failed = q })
+device-same m n st su a b i j p q e f g h k = rw (e, f, g, h, k)
+
 module _ (settings : List ℕ) (s : Settings) (a : settingsRead settings ≡ Accepted s) (m : ModelState) (k : modelValid s split m ≡ true) (d : DataHeld (m .bytes)) (store given room : List ℕ) where
   v : valid s ≡ true
   v = accepted-valid settings s a
@@ -157,6 +162,18 @@ module _ (settings : List ℕ) (s : Settings) (a : settingsRead settings ≡ Acc
   step-room : steppedRoom settings (modelBytes m) store given room ≡ stepRoom s split m store given room
   unfolding steppedRoom answerUnder
   step-room = rw (a, model-right s v split m k d, model-decode-encode s v split m k d)
+
+  -- what the caller keeps of the answer
+  step-returned : (new : List ℕ) → (called ≡ Read → take 16 (stepRoom s split m store given room) ≡ new) →
+      cond (eqb (stepAnswered settings (modelBytes m) store given room .event) 1) (take 16 (steppedRoom settings (modelBytes m) store given room) ∷ []) [] ≡ returned called new
+  step-returned new f = rw (step-answer, step-room) (kept-answer called (stepRoom s split m store given room) new f)
+
+  step-next : (r : Record) (l : List Record) (n : ℕ) → suc (length l) ≤ n →
+      cond (eqb (stepAnswered settings (modelBytes m) store given room .number) 0) (n - suc (length l) + 1) (n - suc (length l)) ≡ n - length (leftBy called r l)
+  step-next r l n h = rw step-answer (kept-next called r l n h)
+
+  step-failed : not (eqb (stepAnswered settings (modelBytes m) store given room .number) 0 || eqb (stepAnswered settings (modelBytes m) store given room .number) 8) ≡ fails called
+  step-failed = rw step-answer (kept-failed called)
 
   -- an RD that is taken leaves its dualoct in the buffer
   passed-none : (w : Option Write) (mask : ℕ) → retireAnswer w mask ≡ Read → ⊥
@@ -237,20 +254,15 @@ module _ (settings : List ℕ) (s : Settings) (a : settingsRead settings ≡ Acc
     unfolding deviceBy calledOn
     by-call =
         let b : List ℕ = recordBytes s r in
-        let x : Stepped = stepAnswer s split m (length store) b (length room) in
-        let answer = kept-answer x (stepRoom s split m store b room) (bytesBy s m (recordRead s b) store)
-        (room-read settings s a m (k .model-valid) (k .data-held) store b room r (k .stored) (length-record s r) (k .coded .0) (k .fits .0) (k .passing .0))
-        in
-        rw (
-          given-is,
-          step-answer settings s a m (k .model-valid) (k .data-held) store b room,
-          step-model settings s a m (k .model-valid) (k .data-held) store b room,
-          step-store settings s a m (k .model-valid) (k .data-held) store b room,
-          step-room settings s a m (k .model-valid) (k .data-held) store b room,
-          answer,
-          kept-next x r l n (k .within),
-          kept-failed x,
-        )
+        let new : List ℕ = bytesBy s m (recordRead s b) store in
+        let read = room-read settings s a m (k .model-valid) (k .data-held) store b room r (k .stored) (length-record s r) (k .coded .0) (k .fits .0) (k .passing .0) in
+        rw given-is
+        (device-same _ _ _ _ _ _ _ _ _ _
+        (step-model settings s a m (k .model-valid) (k .data-held) store b room)
+        (step-store settings s a m (k .model-valid) (k .data-held) store b room)
+        (ap (λ x. answers ++ x) (step-returned settings s a m (k .model-valid) (k .data-held) store b room new read))
+        (step-next settings s a m (k .model-valid) (k .data-held) store b room r l n (k .within))
+        (step-failed settings s a m (k .model-valid) (k .data-held) store b room))
 
     next-call : deviceNext settings list room (like n (kept s split m store answers (r ∷ l)))
         ≡ like n (cond (roomy (readOf s (m .channel) r) (length room)) (gone s split m store answers r l) (kept s split m store answers (r ∷ l)))

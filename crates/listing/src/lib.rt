@@ -7,7 +7,7 @@ mod text;
 
 ghost use mathlib.Core.Path.{_≡_};
 ghost use Prim.Native.Nat.{_≤_};
-ghost use lib.ListN.{length};
+ghost use lib.ListN.{length, take};
 ghost use Rattle.listing.specs.Text.{Put};
 ghost use Rattle.listing.specs.Listing.{lengthRight, listingRoom, listing};
 use requests::put_requests;
@@ -16,6 +16,9 @@ use text::put_refused;
 
 // Room for the longest listing: 2,730 requests of at most 17 lines and the last line, each of at most 64 bytes.
 pub const ROOM: usize = 2_970_304;
+
+// Room for more than the longest input that is listed, 65,520 bytes, so that a longer one is seen to be so.
+pub const INPUT: usize = 65_536;
 
 // Whether an input of n bytes is listed: whole requests, and no more than 2,730.
 fn length_right(n: usize) -> bool
@@ -48,16 +51,30 @@ fn print(text: &[u8], n: usize)
     io::write_all(1, &text[..n]);
 }
 
-// Prints the listing of an input. The array's length is in its type, so nothing need be shown of 2,970,304 zeros.
-fn print_listing(input: &[u8], out: &mut [u8; ROOM]) {
+// Puts the listing of an input and prints it. The array's length is in its type, so nothing need be shown of 2,970,304
+// zeros.
+fn print_listing(input: &[u8], out: &mut [u8; ROOM]) -> usize
+    ensures { λ r. ⌜ Put (now (out .entry)) 0 (listing (now (input .entry))) (now (out .exit)) r ⌝ }
+{
     let end = put_listing(input, out);
     print(out, end);
+    end
 }
 
-// Prints the listing of standard input. An input that is longer than the buffer fills it, and 65,536 bytes are too many.
-pub fn run() {
-    let mut input = io::large_buffer();
-    let n = io::read_full(0, &mut input);
-    let mut out = [0u8; ROOM];
-    print_listing(&input[..n], &mut out);
+// How many bytes of its buffers a run has read and printed.
+pub struct Counts {
+    pub read: usize,
+    pub printed: usize,
+}
+
+// Reads standard input into one buffer, puts its listing into the other and prints that. A contract cannot name what the
+// system gives and takes, so this one speaks of the first bytes of the two buffers. An input that is longer than its
+// buffer fills it: `INPUT` bytes are too many.
+pub fn run(input: &mut [u8], out: &mut [u8; ROOM]) -> Counts
+    ensures { λ r. ⌜ r .read ≤ length (now (input .exit)) ⌝ }
+    ensures { λ r. ⌜ Put (now (out .entry)) 0 (listing (take (r .read) (now (input .exit)))) (now (out .exit)) (r .printed) ⌝ }
+{
+    let read = io::read_full(0, input);
+    let printed = print_listing(&input[..read], out);
+    Counts { read, printed }
 }
