@@ -1,5 +1,3 @@
-pub mod TextLaws
-pub mod LineLaws
 pub mod RoomLaws
 pub mod Worked
 pub mod OutcomeLaws

@@ -9,9 +9,9 @@ use borrow.Author.Tests.{leb-true}
 use lib.Dec.{leb, eqb}
 use lib.ListN.{length}
 use Rattle.rules.proofs.Bools.{and-left}
-use Rattle.listing.specs.Text.{Put}
-use Rattle.listing.specs.Listing.{refusedLine, recordsLine, recordsUpTo, textUpTo, lengthRight, listing}
-use Rattle.listing.proofs.TextLaws.{put-then}
+use Rattle.text.specs.Text.{Put, refusedLine, recordsLine}
+use Rattle.listing.specs.Listing.{recordsUpTo, textUpTo, lengthRight, listing}
+use Rattle.text.proofs.TextLaws.{put-then}
 
 pub length-fits : (n : ℕ) → lengthRight n ≡ true → n ≤ 65520
 unfolding lengthRight

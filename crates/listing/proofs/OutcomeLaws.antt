@@ -30,10 +30,10 @@ use Rattle.plan.specs.Plan.{planned}
 use Rattle.plan.specs.Call.{timely, outcomeOf, outcomeBy, planOutcome, isMade, draftBy, planNext, planRecords, planRoom}
 use Rattle.plan.proofs.Valid.{fresh-valid, next-valid}
 use Rattle.checker.specs.Check.{recordsUpTo as firstRecords}
-use Rattle.listing.specs.Text.{Put}
+use Rattle.text.specs.Text.{Put, recordLines}
 use Rattle.settings.specs.Bench.{setOf, setH}
-use Rattle.listing.specs.Listing.{recordLines, countOf, outcomeText, requestText, requestAt, plannerAt, recordsUpTo, textUpTo}
-use Rattle.listing.proofs.TextLaws.{put-then}
+use Rattle.listing.specs.Listing.{countOf, outcomeText, requestText, requestAt, plannerAt, recordsUpTo, textUpTo}
+use Rattle.text.proofs.TextLaws.{put-then}
 use Rattle.listing.proofs.RoomLaws.{room-lines}
 
 -- an answer counts the records, of which there are no more than the room holds

@@ -27,8 +27,7 @@ use Rattle.plan.proofs.Invariant.{valid-inv}
 use Rattle.plan.proofs.Trace.{each-at, Placed}
 use Rattle.plan.proofs.CallLaws.{Made, InTime, each-in-time, called, call-made, call-in-time}
 use Rattle.checker.specs.Check.{known, recordsUpTo as firstRecords}
-use Rattle.listing.specs.Text.{recordLine}
-use Rattle.listing.specs.Listing.{writeBank, writeColumn, recordLines}
+use Rattle.text.specs.Text.{recordLine, writeBank, writeColumn, recordLines}
 
 -- ---- a record with as much of its data as its bytes hold
 

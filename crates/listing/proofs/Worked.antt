@@ -29,9 +29,9 @@ use Rattle.plan.specs.Call.{inTime, timely, outcomeOf, outcomeBy, planOutcome, 
 use Rattle.checker.specs.declared.Judged.{Judged}
 use Rattle.checker.specs.declared.Judged.the-variants.{Passed, Refused}
 use Rattle.checker.specs.Check.{known, recordsUpTo as firstRecords, recordsOf, ruleAnswer, recordsAnswer, listAnswer}
-use Rattle.listing.specs.Text.{codes, digit, decimalIn, hexFour, dash, maskText, line, rowLine, colLine, recordLine}
+use Rattle.text.specs.Text.{codes, digit, decimalIn, hexFour, dash, maskText, line, rowLine, colLine, recordLine, recordLines, refusedLine, recordsLine}
 use Rattle.settings.specs.Bench.{setOf, setH}
-use Rattle.listing.specs.Listing.{recordLines, refusedLine, recordsLine, outcomeText, requestText, plannerAt, recordsUpTo, textUpTo, lengthRight, listing}
+use Rattle.listing.specs.Listing.{outcomeText, requestText, plannerAt, recordsUpTo, textUpTo, lengthRight, listing}
 
 -- ---- requests of 24 bytes
 

@@ -2,14 +2,12 @@
 -- Assumes nothing.
 use Prim.Native.Nat.{ℕ, zero, suc, _+_, _*_, _/_, _%_}
 use mathlib.Core.Bool.{Bool, cond, _&&_}
-use mathlib.Core.List.{List, [], _∷_, _++_}
+use mathlib.Core.List.{List, [], _++_}
 use lib.Dec.{eqb, leb}
 use lib.ListN.{length}
 use Rattle.num.specs.Bytes.{part}
 use Rattle.settings.specs.Bench.{setH}
-use Rattle.packet.specs.declared.ColPacket.the-variants.{Nocop, Wr, Rd}
 use Rattle.record.specs.declared.Record.{Record}
-use Rattle.record.specs.declared.Record.the-variants.{RowAt, ColAt, DataOf}
 use Rattle.record.specs.Refusal.{answerOf}
 use Rattle.rules.specs.Neighbour.{split}
 use Rattle.plan.specs.declared.PlannerState.{PlannerState}
@@ -17,45 +15,13 @@ use Rattle.plan.specs.declared.Outcome.{Outcome}
 use Rattle.plan.specs.declared.Outcome.the-variants.{Refused, Made}
 use Rattle.plan.specs.Planner.{freshPlanner}
 use Rattle.plan.specs.Call.{planOutcome, planNext, planRecords}
-use Rattle.listing.specs.Text.{codes, decimal, lineEnd, recordLine}
+use Rattle.text.specs.Text.{recordLines, refusedLine, recordsLine}
 
 -- room for the records of any request, of which there are at most 17 (`plan/proofs/Bound.antt`: `most`)
 abbrev pub roomBytes : ℕ
 roomBytes = 544
 
--- room for their lines
-abbrev pub requestRoom : ℕ
-requestRoom = 1088
-
 -- ---- one request
-
--- bank and column of the latest WR, for the line of its D
-abbrev pub writeBank : Record → ℕ → ℕ
-writeBank (ColAt t (Wr b c m)) before = b
-writeBank (ColAt t (Nocop m)) before = before
-writeBank (ColAt t (Rd b c m)) before = before
-writeBank (RowAt t p) before = before
-writeBank (DataOf t d) before = before
-
-abbrev pub writeColumn : Record → ℕ → ℕ
-writeColumn (ColAt t (Wr b c m)) before = c
-writeColumn (ColAt t (Nocop m)) before = before
-writeColumn (ColAt t (Rd b c m)) before = before
-writeColumn (RowAt t p) before = before
-writeColumn (DataOf t d) before = before
-
--- a line for each record
-unfoldable pub recordLines : ℕ → ℕ → List Record → List ℕ
-recordLines bank column [] = []
-recordLines bank column (r ∷ l) = recordLine bank column r ++ recordLines (writeBank r bank) (writeColumn r column) l
-
--- "A refusal prints `refused` and its number"
-unfoldable pub refusedLine : ℕ → List ℕ
-refusedLine number = codes "refused " ++ (decimal number ++ (lineEnd ∷ []))
-
--- "the last line counts records"
-unfoldable pub recordsLine : ℕ → List ℕ
-recordsLine count = codes "records " ++ (decimal count ++ (lineEnd ∷ []))
 
 -- the records that a call has made
 unfoldable pub countOf : Outcome → ℕ

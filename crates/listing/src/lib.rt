@@ -1,14 +1,12 @@
 // The listing program (document 01, "Bench runs"). The text is made whole before it is printed, so that one contract,
 // of `put_listing`, says all that is printed; only the reading of the input and the writing of the text are outside.
-mod lines;
 mod outcomes;
 mod requests;
-mod text;
 
 ghost use mathlib.Core.Path.{_≡_};
 ghost use Prim.Native.Nat.{_≤_};
 ghost use lib.ListN.{length, take};
-ghost use Rattle.listing.specs.Text.{Put};
+ghost use Rattle.text.specs.Text.{Put};
 ghost use Rattle.listing.specs.Listing.{lengthRight, listingRoom, listing};
 use requests::put_requests;
 use text::put_records;

@@ -3,12 +3,12 @@ ghost use mathlib.Core.Path.{_≡_};
 ghost use Prim.Native.Nat.{_+_, _≤_};
 ghost use lib.ListN.{length};
 ghost use Rattle.checker.specs.Check.{recordsUpTo as firstRecords};
-ghost use Rattle.listing.specs.Text.{Put};
+ghost use Rattle.text.specs.Text.{Put, requestRoom};
 ghost use Rattle.settings.specs.Bench.{setH};
-ghost use Rattle.listing.specs.Listing.{roomBytes, requestRoom, countOf, outcomeText};
-use crate::lines::put_lines;
-use crate::text::put_refused;
+ghost use Rattle.listing.specs.Listing.{roomBytes, countOf, outcomeText};
 use plan::Outcome;
+use text::lines::put_lines;
+use text::put_refused;
 
 // The number of records that a call has made.
 pub(crate) fn count_of(outcome: Outcome) -> u64

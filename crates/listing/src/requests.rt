@@ -6,13 +6,13 @@ ghost use lib.ListN.{length};
 ghost use Rattle.rules.specs.Neighbour.{split};
 ghost use Rattle.plan.specs.Planner.{plannerValid};
 ghost use Rattle.plan.specs.Call.{planNext, planRecords};
-ghost use Rattle.listing.specs.Text.{Put};
+ghost use Rattle.text.specs.Text.{Put, requestRoom};
 ghost use Rattle.settings.specs.Bench.{setH};
-ghost use Rattle.listing.specs.Listing.{roomBytes, requestRoom, requestsRoom, requestText, recordsUpTo, textUpTo};
-use crate::lines::set_h;
+ghost use Rattle.listing.specs.Listing.{roomBytes, requestsRoom, requestText, recordsUpTo, textUpTo};
 use crate::outcomes::count_of;
 use crate::outcomes::put_outcome;
 use planner::Planner;
+use text::lines::set_h;
 
 // The planner after a request, the number of records that it made, and the end of its text.
 struct Listed {

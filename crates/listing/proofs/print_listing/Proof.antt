@@ -1,7 +1,7 @@
 -- `print_listing` meets its contract: the listing ends in the buffer.
 use native.Mathlib.Omega.{arith}
 use Rattle.listing.specs.Listing.{listing}
-use Rattle.listing.proofs.TextLaws.{put-fits}
+use Rattle.text.proofs.TextLaws.{put-fits}
 use borrow.Author.Needs.{needs}
 use Rattle.listing.proofs.print_listing.Statement.{statement}
 use Rattle.listing.proofs.print_listing.Tie as tie

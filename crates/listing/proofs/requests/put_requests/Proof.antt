@@ -5,7 +5,7 @@ use native.Mathlib.Omega.{arith}
 use lib.ListN.{length}
 use Rattle.num.specs.Bytes.{Bytes}
 use Rattle.num.proofs.SpliceLaws.{splice-none}
-use Rattle.listing.specs.Text.{Put}
+use Rattle.text.specs.Text.{Put}
 use Rattle.listing.specs.Listing.{plannerAt, recordsUpTo, textUpTo}
 use Rattle.listing.proofs.OutcomeLaws.{records-most, planner-valid, planner-next, records-next, text-next}
 use borrow.Author.Needs.{needs}

@@ -1,0 +1,103 @@
+-- `put_lines` meets its contract: after i turns the lines of the first i records are put.
+use mathlib.Core.Path.{_≡_, refl, sym, _∙_, ap}
+use mathlib.Core.List.{List, [], _∷_, _++_}
+use Prim.Native.Nat.{ℕ, _+_, _-_, _*_, _≤_}
+use native.Mathlib.Nat.{add-zero}
+use native.Mathlib.Omega.{arith}
+use native.Mathlib.Numerals.{add-one}
+use lib.ListN.{length}
+use Rattle.num.proofs.SpliceLaws.{splice-none}
+use Rattle.num.specs.Bytes.{part}
+use Rattle.settings.specs.declared.Settings.{Settings}
+use Rattle.record.specs.declared.Record.{Record}
+use Rattle.record.specs.Record.{recordRead}
+use Rattle.checker.specs.Check.{known, recordsUpTo as firstRecords}
+use Rattle.text.specs.Text.{Put, writeBank, writeColumn, recordLines}
+use Rattle.settings.specs.Bench.{setH}
+use Rattle.text.proofs.LineLaws.{bankAfter, columnAfter, bank-next, column-next, line-next}
+use borrow.Author.Needs.{needs}
+use Rattle.text.proofs.lines.put_lines.Statement.{statement}
+use Rattle.text.proofs.lines.put_lines.Tie as tie
+
+abbrev Inv-loop : tie.InvT-loop
+Inv-loop out₀ at room n s latest₀ end₀ i₀ out latest end i =
+    (i ≤ n) × (latest .bank ≡ bankAfter 0 (firstRecords setH room i)) × (latest .column ≡ columnAfter 0 (firstRecords setH room i))
+    × Put out₀ at (recordLines 0 0 (firstRecords setH room i)) out end × (end ≤ at + 64 * i) × (length out ≡ length out₀)
+
+abbrev μ-loop : tie.MeasureT-loop
+μ-loop out₀ at room n s latest₀ end₀ i₀ out latest end i = n - i
+
+-- the records read so far, and the next one
+next : (s : Settings) → s ≡ setH → (room : List ℕ) (i : ℕ) (r : Record) → r ≡ known (recordRead s (part room (32 * i) 32)) → firstRecords setH room (i + 1) ≡ firstRecords setH room i ++ (r ∷ [])
+unfolding firstRecords
+next s es room i r e = rw (add-one, ← es, ← e)
+
+set-h-requires : tie.Need-set-h-requires Inv-loop μ-loop
+set-h-requires c κs = search needs
+
+loop-holds : tie.Need-loop-holds Inv-loop μ-loop
+unfolding firstRecords recordLines bankAfter columnAfter
+loop-holds c = (omega arith, refl, refl, (sym (add-zero _), splice-none (c .before .before .before .args .out .now) (c .before .before .before .args .at)), omega arith, refl)
+
+mul-record-at : tie.Need-mul-record-at Inv-loop μ-loop
+mul-record-at c = search needs
+
+record-at-requires : tie.Need-record-at-requires Inv-loop μ-loop
+record-at-requires c κs = search needs
+
+put-record-line-requires : tie.Need-put-record-line-requires Inv-loop μ-loop
+put-record-line-requires c κs = search needs
+
+latest-after-requires : tie.Need-latest-after-requires Inv-loop μ-loop
+latest-after-requires c κs = search needs
+
+add-i : tie.Need-add-i Inv-loop μ-loop
+add-i c = search needs
+
+loop-less : tie.Need-loop-less Inv-loop μ-loop
+loop-less c = search needs
+
+loop-again : tie.Need-loop-again Inv-loop μ-loop
+loop-again c =
+    let p = c .before .before .before in
+    let g = p .before .before in
+    let k = g .before .before .loop in
+    let z = g .before .before .before in
+    let a = z .before .before .before .args in
+    let e = next (z .set-h .result) (z .set-h .ensures) (a .room .now) (k .i) (g .record-at .result) (g .record-at .ensures) in
+    let h = c .latest-after .ensures in
+    let old = firstRecords setH (a .room .now) (k .i) in
+    rw e (
+      omega arith,
+      h .0 ∙ ap (writeBank (g .record-at .result)) (k .inv .1) ∙ sym (bank-next 0 old (g .record-at .result)),
+      h .1 ∙ ap (writeColumn (g .record-at .result)) (k .inv .2) ∙ sym (column-next 0 old (g .record-at .result)),
+      line-next (a .out .now) (a .at) old (g .record-at .result) (k .latest .bank) (k .latest .column) (omega (arith, k .inv .4)) (k .inv .1) (k .inv .2) (k .inv .3) (p .put-record-line .ensures .0),
+      omega (arith, k .inv .4, p .put-record-line .ensures .1),
+      p .put-record-line .kept .0 ∙ k .inv .5,
+    )
+
+same-length : tie.Need-same-length Inv-loop μ-loop
+same-length c = c .before .loop .inv .5
+
+returns : tie.Need-returns Inv-loop μ-loop
+returns c =
+    let e : c .before .loop .i ≡ c .before .before .before .before .before .args .n = omega (arith, c .before .loop .inv .0) in
+    (rw e at (c .before .loop .inv .3), omega (arith, c .before .loop .inv .4))
+
+pub put-lines-spec : {M : Type 1} → statement M
+put-lines-spec =
+    tie.close
+    (tie.spec
+    Inv-loop
+    μ-loop
+    set-h-requires
+    loop-holds
+    mul-record-at
+    record-at-requires
+    put-record-line-requires
+    latest-after-requires
+    add-i
+    loop-less
+    loop-again
+    same-length
+    returns)
