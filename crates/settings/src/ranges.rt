@@ -2,7 +2,7 @@
 ghost use mathlib.Core.Path.{_≡_};
 ghost use Prim.Native.Nat.{_<_};
 ghost use lib.ListN.{getD};
-ghost use Rattle.settings.specs.Settings.{timings, lows, highs, between, timingsRight, valid};
+ghost use Rattle.settings.specs.Settings.{lows, highs, between, timingsRight, valid};
 use crate::Settings;
 
 // Low and high bounds by timing: tRC tRAS tRP tPP tRR tRCD tRTR tRDP tRTP tCC tCAC tCWD.
@@ -23,7 +23,8 @@ fn timing_right(i: usize, x: u32) -> bool
     in_range(LOW[i], x, HIGH[i])
 }
 
-fn timings_right(t: [u32; 12]) -> bool
+// Of the sixteen numbers of a settings record, of which the first twelve are the timings.
+fn timings_right(t: [u32; 16]) -> bool
     ensures { λ r. ⌜ r ≡ timingsRight t ⌝ }
 {
     let mut i = 0;
@@ -38,30 +39,11 @@ fn timings_right(t: [u32; 12]) -> bool
 }
 
 impl Settings {
-    fn timings(self) -> [u32; 12]
-        ensures { λ r. ⌜ r ≡ timings self ⌝ }
-    {
-        [
-            self.rc,
-            self.ras,
-            self.rp,
-            self.pp,
-            self.rr,
-            self.rcd,
-            self.rtr,
-            self.rdp,
-            self.rtp,
-            self.cc,
-            self.cac,
-            self.cwd,
-        ]
-    }
-
     // Whether every figure is in its range.
     pub fn valid(self) -> bool
         ensures { λ r. ⌜ r ≡ valid self ⌝ }
     {
-        let timings = timings_right(self.timings());
+        let timings = timings_right(self.halves());
         let delays = self.cwd < self.cac;
         let rows = in_range(1, self.rows, 512);
         let columns = in_range(1, self.columns, 128);

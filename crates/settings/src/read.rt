@@ -69,7 +69,7 @@ fn put_halves(out: &mut [u8], h: [u32; 16])
 }
 
 impl Settings {
-    fn halves(self) -> [u32; 16]
+    pub(crate) fn halves(self) -> [u32; 16]
         ensures { λ r. ⌜ r ≡ halves self ⌝ }
     {
         [
