@@ -1,4 +1,4 @@
--- `channel::earliest::earliest` meets its contract: the bounds are those of the definition.
+-- `earliest::earliest` meets its contract: the bounds are those of the definition.
 use Rattle.channel.specs.Earliest.{earliestBy}
 use borrow.Author.Needs.{needs}
 use Rattle.earliest.proofs.earliest.Statement.{statement}

@@ -1,4 +1,4 @@
--- `channel::earliest::opening` meets its contract: the bounds are those of the definition.
+-- `earliest::opening` meets its contract: the bounds are those of the definition.
 use Rattle.channel.specs.Earliest.{openBound}
 use borrow.Author.Needs.{needs}
 use Rattle.earliest.proofs.opening.Statement.{statement}

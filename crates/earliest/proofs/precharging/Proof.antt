@@ -1,4 +1,4 @@
--- `channel::earliest::precharging` meets its contract: the bounds are those of the definition.
+-- `earliest::precharging` meets its contract: the bounds are those of the definition.
 use Rattle.channel.specs.Earliest.{prechargeBound}
 use borrow.Author.Needs.{needs}
 use Rattle.earliest.proofs.precharging.Statement.{statement}

@@ -1,4 +1,4 @@
--- `channel::earliest::reading` meets its contract: the bounds are those of the definition.
+-- `earliest::reading` meets its contract: the bounds are those of the definition.
 use Rattle.channel.specs.Earliest.{readBound}
 use borrow.Author.Needs.{needs}
 use Rattle.earliest.proofs.reading.Statement.{statement}

@@ -1,4 +1,4 @@
--- `channel::earliest::retiring` meets its contract: the bounds are those of the definition.
+-- `earliest::retiring` meets its contract: the bounds are those of the definition.
 use Rattle.channel.specs.Earliest.{retireBound}
 use mathlib.Core.Path.{_≡_, sym, _∙_}
 use borrow.Author.Needs.{needs}

@@ -1,4 +1,4 @@
--- `channel::earliest::writing` meets its contract: the bounds are those of the definition.
+-- `earliest::writing` meets its contract: the bounds are those of the definition.
 use Rattle.channel.specs.Earliest.{writeBound}
 use borrow.Author.Needs.{needs}
 use Rattle.earliest.proofs.writing.Statement.{statement}

@@ -1,4 +1,4 @@
--- `channel::judging::act_bound` meets its contract: m is what the banks below x ask, in every turn.
+-- `judging::act_bound` meets its contract: m is what the banks below x ask, in every turn.
 use Prim.Native.Nat.{_-_, _≤_}
 use mathlib.Core.Path.{_≡_, refl, _∙_}
 use native.Mathlib.Omega.{arith}

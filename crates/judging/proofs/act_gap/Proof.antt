@@ -1,4 +1,4 @@
--- `channel::judging::act_gap` meets its contract: by the test.
+-- `judging::act_gap` meets its contract: by the test.
 use mathlib.Core.Path.{sym, _∙_}
 use borrow.Author.Needs.{needs}
 use Rattle.judging.proofs.act_gap.Statement.{statement}

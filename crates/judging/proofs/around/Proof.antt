@@ -1,4 +1,4 @@
--- `channel::judging::around` meets its contract: each track is read by its bank.
+-- `judging::around` meets its contract: each track is read by its bank.
 use borrow.Author.Needs.{needs}
 use Rattle.judging.proofs.around.Statement.{statement}
 use Rattle.judging.proofs.around.Tie as tie

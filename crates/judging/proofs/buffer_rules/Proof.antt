@@ -1,4 +1,4 @@
--- `channel::judging::buffer_rules` meets its contract: each rule's test, from the last to the first.
+-- `judging::buffer_rules` meets its contract: each rule's test, from the last to the first.
 use Rattle.channel.specs.Tests.{bufferRules}
 use borrow.Author.Needs.{needs}
 use Rattle.judging.proofs.buffer_rules.Statement.{statement}

@@ -1,4 +1,4 @@
--- `channel::judging::col_rules` meets its contract: each rule's test, from the last to the first.
+-- `judging::col_rules` meets its contract: each rule's test, from the last to the first.
 use Rattle.channel.specs.Tests.{colRules}
 use borrow.Author.Needs.{needs}
 use Rattle.judging.proofs.col_rules.Statement.{statement}

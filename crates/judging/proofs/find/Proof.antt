@@ -1,4 +1,4 @@
--- `channel::judging::find` meets its contract: the four runs, from the last to the first.
+-- `judging::find` meets its contract: the four runs, from the last to the first.
 use Rattle.channel.specs.Tests.{found}
 use borrow.Author.Needs.{needs}
 use Rattle.judging.proofs.find.Statement.{statement}

@@ -1,4 +1,4 @@
--- `channel::judging::judge` meets its contract: the tests are those of the tracked state.
+-- `judging::judge` meets its contract: the tests are those of the tracked state.
 use mathlib.Core.Path.{_≡_}
 use lib.ListN.{length}
 use Rattle.channel.proofs.JudgeLaws.{length-of-map, judged-by, judged-closed}

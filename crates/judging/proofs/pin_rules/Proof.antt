@@ -1,4 +1,4 @@
--- `channel::judging::pin_rules` meets its contract: each rule's test, from the last to the first.
+-- `judging::pin_rules` meets its contract: each rule's test, from the last to the first.
 use Rattle.channel.specs.Tests.{pinRules}
 use borrow.Author.Needs.{needs}
 use Rattle.judging.proofs.pin_rules.Statement.{statement}

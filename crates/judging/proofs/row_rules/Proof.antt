@@ -1,4 +1,4 @@
--- `channel::judging::row_rules` meets its contract: each rule's test, from the last to the first.
+-- `judging::row_rules` meets its contract: each rule's test, from the last to the first.
 use Rattle.channel.specs.Tests.{rowRules}
 use borrow.Author.Needs.{needs}
 use Rattle.judging.proofs.row_rules.Statement.{statement}

@@ -1,4 +1,4 @@
--- `channel::steps::banks_after` meets its contract: the three stores, from the last to the first.
+-- `steps::banks_after` meets its contract: the three stores, from the last to the first.
 use Rattle.channel.specs.Steps.{banksNext}
 use borrow.Author.Needs.{needs}
 use Rattle.steps.proofs.banks_after.Statement.{statement}

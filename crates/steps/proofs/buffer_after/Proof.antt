@@ -1,4 +1,4 @@
--- `channel::steps::buffer_after` meets its contract: by the two flags.
+-- `steps::buffer_after` meets its contract: by the two flags.
 use Rattle.channel.specs.Steps.{bufferStep}
 use borrow.Author.Needs.{needs}
 use Rattle.steps.proofs.buffer_after.Statement.{statement}

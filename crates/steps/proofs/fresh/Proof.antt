@@ -1,4 +1,4 @@
--- `channel::steps::fresh` meets its contract: every bank is idle.
+-- `steps::fresh` meets its contract: every bank is idle.
 use Rattle.rules.specs.Channel.{fresh}
 use Rattle.rules.specs.Rules.{bankCount}
 use borrow.Author.Needs.{needs}

@@ -1,4 +1,4 @@
--- `channel::steps::lasts_after` meets its contract: each instant is chosen by its flag.
+-- `steps::lasts_after` meets its contract: each instant is chosen by its flag.
 use Rattle.channel.specs.Steps.{lastsNext}
 use borrow.Author.Needs.{needs}
 use Rattle.steps.proofs.lasts_after.Statement.{statement}

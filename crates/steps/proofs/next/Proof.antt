@@ -1,4 +1,4 @@
--- `channel::steps::next` meets its contract: each field is chosen by its flag, and the banks are those of the state.
+-- `steps::next` meets its contract: each field is chosen by its flag, and the banks are those of the state.
 use Rattle.channel.specs.Steps.{withBanks}
 use mathlib.Core.Path.{_≡_}
 use lib.ListN.{length}

@@ -1,4 +1,4 @@
--- `channel::steps::own_after` meets its contract: by the number of the bank.
+-- `steps::own_after` meets its contract: by the number of the bank.
 use borrow.Author.Needs.{needs}
 use Rattle.steps.proofs.own_after.Statement.{statement}
 use Rattle.steps.proofs.own_after.Tie as tie

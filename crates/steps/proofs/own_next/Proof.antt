@@ -1,4 +1,4 @@
--- `channel::steps::own_next` meets its contract: each field is chosen by its flag.
+-- `steps::own_next` meets its contract: each field is chosen by its flag.
 use Rattle.channel.specs.Steps.{ownNext}
 use borrow.Author.Needs.{needs}
 use Rattle.steps.proofs.own_next.Statement.{statement}

@@ -1,4 +1,4 @@
--- `channel::steps::settle` meets its contract: by the state of the buffer.
+-- `steps::settle` meets its contract: by the state of the buffer.
 use Rattle.rules.specs.Channel.{settled}
 use borrow.Author.Needs.{needs}
 use Rattle.steps.proofs.settle.Statement.{statement}

@@ -1,4 +1,4 @@
--- `channel::steps::side_after` meets its contract: by the number of the bank.
+-- `steps::side_after` meets its contract: by the number of the bank.
 use borrow.Author.Needs.{needs}
 use Rattle.steps.proofs.side_after.Statement.{statement}
 use Rattle.steps.proofs.side_after.Tie as tie

@@ -1,4 +1,4 @@
--- `channel::steps::side_next` meets its contract: by the state of the bank.
+-- `steps::side_next` meets its contract: by the state of the bank.
 use Rattle.channel.specs.Steps.{sideNext}
 use borrow.Author.Needs.{needs}
 use Rattle.steps.proofs.side_next.Statement.{statement}

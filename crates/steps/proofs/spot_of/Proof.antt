@@ -1,4 +1,4 @@
--- `channel::steps::spot_of` meets its contract: by the test.
+-- `steps::spot_of` meets its contract: by the test.
 use mathlib.Core.Path.{sym, _∙_}
 use borrow.Author.Needs.{needs}
 use Rattle.steps.proofs.spot_of.Statement.{statement}

@@ -1,4 +1,4 @@
--- `device::store::ones_of` meets its contract: the count of ones is the sum of the bits.
+-- `store::ones_of` meets its contract: the count of ones is the sum of the bits.
 use Rattle.store.proofs.MaskLaws.{ones-is}
 use borrow.Author.Needs.{needs}
 use Rattle.store.proofs.ones_of.Statement.{statement}

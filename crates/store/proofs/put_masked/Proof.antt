@@ -1,4 +1,4 @@
--- `device::store::put_masked` meets its contract: after i turns the first i bytes are written where their bits are 1.
+-- `store::put_masked` meets its contract: after i turns the first i bytes are written where their bits are 1.
 use Prim.Native.Nat.{_≤_, _-_, _/_, _^_}
 use mathlib.Core.Logic.{⊎-elim}
 use mathlib.Core.Path.{_≡_, refl, sym, ap, _∙_}

@@ -1,4 +1,4 @@
--- `device::store::read_out` meets its contract: the dualoct goes out as two numbers of eight bytes.
+-- `store::read_out` meets its contract: the dualoct goes out as two numbers of eight bytes.
 use mathlib.Core.Path.{refl, _∙_}
 use native.Mathlib.Omega.{arith}
 use borrow.Author.Tests.{le-leb, lt-leb}

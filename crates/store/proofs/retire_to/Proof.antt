@@ -1,4 +1,4 @@
--- `device::store::retire_to` meets its contract: the data as 16 bytes, put under the mask.
+-- `store::retire_to` meets its contract: the data as 16 bytes, put under the mask.
 use Prim.Native.Nat.{ℕ}
 use mathlib.Core.List.{List}
 use mathlib.Core.Path.{refl, ap, _∙_}

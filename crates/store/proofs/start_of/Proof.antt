@@ -1,4 +1,4 @@
--- `device::store::start_of` meets its contract: a place in range is a place of the store.
+-- `store::start_of` meets its contract: a place in range is a place of the store.
 use mathlib.Core.Path.{refl}
 use native.Mathlib.Nat.{mul-le-mul}
 use native.Mathlib.Omega.{arith}

@@ -1,4 +1,4 @@
--- `device::store::store_length` meets its contract.
+-- `store::store_length` meets its contract.
 use mathlib.Core.Path.{refl}
 use native.Mathlib.Omega.{arith}
 use Rattle.model.specs.Store.{storeLength}

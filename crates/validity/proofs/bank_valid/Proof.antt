@@ -1,4 +1,4 @@
--- `state::valid::bank_valid` meets its contract: by the state.
+-- `validity::bank_valid` meets its contract: by the state.
 use Rattle.validity.specs.Valid.{bankValid}
 use borrow.Author.Needs.{needs}
 use Rattle.validity.proofs.bank_valid.Statement.{statement}

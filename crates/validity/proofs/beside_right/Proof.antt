@@ -1,4 +1,4 @@
--- `state::valid::beside_right` meets its contract: the answers, from the last to the first.
+-- `validity::beside_right` meets its contract: the answers, from the last to the first.
 use borrow.Author.Needs.{needs}
 use Rattle.validity.proofs.beside_right.Statement.{statement}
 use Rattle.validity.proofs.beside_right.Tie as tie

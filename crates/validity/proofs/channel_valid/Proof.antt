@@ -1,4 +1,4 @@
--- `state::valid::channel_valid` meets its contract: each bank passed so far is right, and `below` is of the last of them.
+-- `validity::channel_valid` meets its contract: each bank passed so far is right, and `below` is of the last of them.
 use mathlib.Core.Path.{_≡_, refl, sym, _∙_}
 use mathlib.Core.Bool.{true, false}
 use Prim.Native.Nat.{_-_, _≤_}

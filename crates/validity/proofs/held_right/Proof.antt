@@ -1,4 +1,4 @@
--- `state::valid::held_right` meets its contract: by the state of the buffer.
+-- `validity::held_right` meets its contract: by the state of the buffer.
 use Rattle.validity.specs.Walk.{heldRight}
 use borrow.Author.Needs.{needs}
 use Rattle.validity.proofs.held_right.Statement.{statement}

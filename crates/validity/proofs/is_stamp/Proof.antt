@@ -1,4 +1,4 @@
--- `state::valid::is_stamp` meets its contract: the two answers, from the last to the first.
+-- `validity::is_stamp` meets its contract: the two answers, from the last to the first.
 use borrow.Author.Needs.{needs}
 use Rattle.validity.proofs.is_stamp.Statement.{statement}
 use Rattle.validity.proofs.is_stamp.Tie as tie

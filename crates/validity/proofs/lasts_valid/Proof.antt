@@ -1,4 +1,4 @@
--- `state::valid::lasts_valid` meets its contract: the answers, from the last to the first.
+-- `validity::lasts_valid` meets its contract: the answers, from the last to the first.
 use borrow.Author.Needs.{needs}
 use Rattle.validity.proofs.lasts_valid.Statement.{statement}
 use Rattle.validity.proofs.lasts_valid.Tie as tie

@@ -1,4 +1,4 @@
--- `state::valid::track_valid` meets its contract: the answers, from the last to the first.
+-- `validity::track_valid` meets its contract: the answers, from the last to the first.
 use Rattle.validity.specs.Valid.{trackValid}
 use borrow.Author.Needs.{needs}
 use Rattle.validity.proofs.track_valid.Statement.{statement}

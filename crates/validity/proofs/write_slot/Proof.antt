@@ -1,4 +1,4 @@
--- `state::valid::write_slot` meets its contract: by the state of the buffer.
+-- `validity::write_slot` meets its contract: by the state of the buffer.
 use Rattle.validity.specs.Walk.{writeSlot}
 use borrow.Author.Needs.{needs}
 use Rattle.validity.proofs.write_slot.Statement.{statement}

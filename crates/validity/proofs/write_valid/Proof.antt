@@ -1,4 +1,4 @@
--- `state::valid::write_valid` meets its contract: the answers, from the last to the first.
+-- `validity::write_valid` meets its contract: the answers, from the last to the first.
 use Rattle.validity.specs.Valid.{writeValid}
 use Rattle.rules.specs.Rules.{bankCount}
 use borrow.Author.Needs.{needs}

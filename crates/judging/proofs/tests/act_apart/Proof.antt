@@ -1,4 +1,4 @@
--- `channel::tests::act_apart` meets its contract: the tests are those of the definition.
+-- `judging::tests::act_apart` meets its contract: the tests are those of the definition.
 use Rattle.channel.specs.Tests.{test5}
 use borrow.Author.Needs.{needs}
 use Rattle.judging.proofs.tests.act_apart.Statement.{statement}

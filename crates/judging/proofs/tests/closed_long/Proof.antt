@@ -1,4 +1,4 @@
--- `channel::tests::closed_long` meets its contract: the tests are those of the definition.
+-- `judging::tests::closed_long` meets its contract: the tests are those of the definition.
 use Rattle.channel.specs.Tests.{test7}
 use borrow.Author.Needs.{needs}
 use Rattle.judging.proofs.tests.closed_long.Statement.{statement}

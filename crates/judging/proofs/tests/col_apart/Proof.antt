@@ -1,4 +1,4 @@
--- `channel::tests::col_apart` meets its contract: the tests are those of the definition.
+-- `judging::tests::col_apart` meets its contract: the tests are those of the definition.
 use Rattle.channel.specs.Tests.{test3}
 use borrow.Author.Needs.{needs}
 use Rattle.judging.proofs.tests.col_apart.Statement.{statement}

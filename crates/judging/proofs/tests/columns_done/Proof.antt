@@ -1,4 +1,4 @@
--- `channel::tests::columns_done` meets its contract: the tests are those of the definition.
+-- `judging::tests::columns_done` meets its contract: the tests are those of the definition.
 use Rattle.channel.specs.Tests.{test13}
 use borrow.Author.Needs.{needs}
 use Rattle.judging.proofs.tests.columns_done.Statement.{statement}

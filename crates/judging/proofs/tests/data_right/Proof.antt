@@ -1,4 +1,4 @@
--- `channel::tests::data_right` meets its contract: the tests are those of the definition.
+-- `judging::tests::data_right` meets its contract: the tests are those of the definition.
 use Rattle.channel.specs.Tests.{test15}
 use borrow.Author.Needs.{needs}
 use Rattle.judging.proofs.tests.data_right.Statement.{statement}

@@ -1,4 +1,4 @@
--- `channel::tests::delay_of` meets its contract: by the two tests.
+-- `judging::tests::delay_of` meets its contract: by the two tests.
 use borrow.Author.Needs.{needs}
 use Rattle.judging.proofs.tests.delay_of.Statement.{statement}
 use Rattle.judging.proofs.tests.delay_of.Tie as tie

@@ -1,4 +1,4 @@
--- `channel::tests::in_order` meets its contract: the tests are those of the definition.
+-- `judging::tests::in_order` meets its contract: the tests are those of the definition.
 use Rattle.channel.specs.Tests.{test1}
 use borrow.Author.Needs.{needs}
 use Rattle.judging.proofs.tests.in_order.Statement.{statement}

@@ -1,4 +1,4 @@
--- `channel::tests::mask_right` meets its contract: the tests are those of the definition.
+-- `judging::tests::mask_right` meets its contract: the tests are those of the definition.
 use Rattle.channel.specs.Tests.{test16}
 use borrow.Author.Needs.{needs}
 use Rattle.judging.proofs.tests.mask_right.Statement.{statement}

@@ -1,4 +1,4 @@
--- `channel::tests::open_long` meets its contract: the tests are those of the definition.
+-- `judging::tests::open_long` meets its contract: the tests are those of the definition.
 use Rattle.channel.specs.Tests.{test6}
 use borrow.Author.Needs.{needs}
 use Rattle.judging.proofs.tests.open_long.Statement.{statement}

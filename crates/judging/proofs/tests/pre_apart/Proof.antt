@@ -1,4 +1,4 @@
--- `channel::tests::pre_apart` meets its contract: the tests are those of the definition.
+-- `judging::tests::pre_apart` meets its contract: the tests are those of the definition.
 use Rattle.channel.specs.Tests.{test8}
 use borrow.Author.Needs.{needs}
 use Rattle.judging.proofs.tests.pre_apart.Statement.{statement}

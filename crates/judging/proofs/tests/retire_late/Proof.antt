@@ -1,4 +1,4 @@
--- `channel::tests::retire_late` meets its contract: the tests are those of the definition.
+-- `judging::tests::retire_late` meets its contract: the tests are those of the definition.
 use Rattle.channel.specs.Tests.{test12}
 use borrow.Author.Needs.{needs}
 use Rattle.judging.proofs.tests.retire_late.Statement.{statement}

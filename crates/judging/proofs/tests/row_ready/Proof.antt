@@ -1,4 +1,4 @@
--- `channel::tests::row_ready` meets its contract: the tests are those of the definition.
+-- `judging::tests::row_ready` meets its contract: the tests are those of the definition.
 use Rattle.channel.specs.Tests.{test10}
 use borrow.Author.Needs.{needs}
 use Rattle.judging.proofs.tests.row_ready.Statement.{statement}

@@ -1,4 +1,4 @@
--- `channel::tests::turned` meets its contract: the tests are those of the definition.
+-- `judging::tests::turned` meets its contract: the tests are those of the definition.
 use Rattle.channel.specs.Tests.{test11}
 use borrow.Author.Needs.{needs}
 use Rattle.judging.proofs.tests.turned.Statement.{statement}

@@ -1,4 +1,4 @@
--- `channel::tests::write_safe` meets its contract: the tests are those of the definition.
+-- `judging::tests::write_safe` meets its contract: the tests are those of the definition.
 use Rattle.channel.specs.Tests.{test14}
 use borrow.Author.Needs.{needs}
 use Rattle.judging.proofs.tests.write_safe.Statement.{statement}

@@ -1,4 +1,4 @@
--- `device::touching::col_touch` meets its contract: by the packet.
+-- `store::touching::col_touch` meets its contract: by the packet.
 use Rattle.store.specs.Touch.{colTouch}
 use borrow.Author.Needs.{needs}
 use Rattle.store.proofs.touching.col_touch.Statement.{statement}

@@ -1,4 +1,4 @@
--- `device::touching::place_of` meets its contract.
+-- `store::touching::place_of` meets its contract.
 use borrow.Author.Needs.{needs}
 use Rattle.store.proofs.touching.place_of.Statement.{statement}
 use Rattle.store.proofs.touching.place_of.Tie as tie

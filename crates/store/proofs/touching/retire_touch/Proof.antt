@@ -1,4 +1,4 @@
--- `device::touching::retire_touch` meets its contract: by the state of the buffer.
+-- `store::touching::retire_touch` meets its contract: by the state of the buffer.
 use Rattle.store.specs.Touch.{retireTouch}
 use borrow.Author.Needs.{needs}
 use Rattle.store.proofs.touching.retire_touch.Statement.{statement}

@@ -1,4 +1,4 @@
--- `device::touching::row_of` meets its contract: by the state of the bank.
+-- `store::touching::row_of` meets its contract: by the state of the bank.
 use Rattle.model.specs.Model.{rowOf}
 use borrow.Author.Needs.{needs}
 use Rattle.store.proofs.touching.row_of.Statement.{statement}

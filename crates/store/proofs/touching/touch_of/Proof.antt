@@ -1,4 +1,4 @@
--- `device::touching::touch_of` meets its contract: by the kind of the record.
+-- `store::touching::touch_of` meets its contract: by the kind of the record.
 use Rattle.store.specs.Touch.{touchOf}
 use borrow.Author.Needs.{needs}
 use Rattle.store.proofs.touching.touch_of.Statement.{statement}
