@@ -29,11 +29,11 @@ use Rattle.plan.specs.declared.Outcome.{Outcome}
 use Rattle.plan.specs.declared.Outcome.the-variants.{Refused, Made}
 use Rattle.plan.specs.Plan.{Draft, planned}
 use Rattle.plan.specs.Call.{listBytes, timely, outcomeOf, outcomeBy, planOutcome, isMade, draftBy, planNext, planRecords, planRoom}
-use Rattle.planner.specs.declared.Entry.{Entry}
-use Rattle.planner.specs.declared.Draft.{Draft as Drawn}
-use Rattle.planner.specs.Course.{bankIn}
-use Rattle.planner.specs.Drafts.{Drafted, servedState, servedRecords}
-use Rattle.planner.proofs.ListedLaws.{recordsIn, records-more, length-records}
+use Rattle.courses.specs.declared.Entry.{Entry}
+use Rattle.placing.specs.declared.Draft.{Draft as Drawn}
+use Rattle.courses.specs.Course.{bankIn}
+use Rattle.placing.specs.Drafts.{Drafted, servedState, servedRecords}
+use Rattle.courses.proofs.ListedLaws.{recordsIn, records-more, length-records}
 use Rattle.planner.proofs.DraftLaws.{not-late, late-not}
 
 -- ---- records as bytes

@@ -29,14 +29,14 @@ use Rattle.plan.specs.Plan.{Draft, sent, loaded, turned, plannedWait, stepsOf, 
 use Rattle.plan.specs.Call.{inTime, timely}
 use Rattle.plan.proofs.SentLaws.{sent-records}
 use Rattle.plan.proofs.Invariant.{Tested, valid-tested, valid-inv}
-use Rattle.planner.specs.declared.Course.{Course}
-use Rattle.planner.specs.declared.Draft.{Draft as Drawn}
-use Rattle.planner.specs.Course.{listed, Holds, Extends, allPackets, readCourse, writeMask, writeCourse, refreshCourse, drainCourse, bankIn, sentAll, sentFrom}
-use Rattle.planner.specs.Drafts.{Drafted, startOf, loadedState, Loaded, Turned}
-use Rattle.planner.proofs.ListedLaws.{holds-more}
-use Rattle.planner.proofs.CourseLaws.{read-sent, write-sent, refresh-sent, drain-sent}
-use Rattle.planner.proofs.CodeLaws.{write-short}
-use Rattle.planner.proofs.TimeLaws.{in-time-one, all-refresh}
+use Rattle.courses.specs.declared.Course.{Course}
+use Rattle.placing.specs.declared.Draft.{Draft as Drawn}
+use Rattle.courses.specs.Course.{listed, Holds, Extends, allPackets, readCourse, writeMask, writeCourse, refreshCourse, drainCourse, bankIn, sentAll, sentFrom}
+use Rattle.placing.specs.Drafts.{Drafted, startOf, loadedState, Loaded, Turned}
+use Rattle.courses.proofs.ListedLaws.{holds-more}
+use Rattle.courses.proofs.CourseLaws.{read-sent, write-sent, refresh-sent, drain-sent}
+use Rattle.courses.proofs.CodeLaws.{write-short}
+use Rattle.placing.proofs.TimeLaws.{in-time-one, all-refresh}
 
 -- ---- tests
 

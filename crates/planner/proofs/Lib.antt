@@ -1,11 +1,3 @@
-pub mod ClosingLaws
-pub mod CourseLaws
-pub mod ListedLaws
-pub mod ShortLaws
-pub mod CodeLaws
-pub mod TimeLaws
-pub mod ArrivalLaws
 pub mod DraftLaws
 pub mod AnswerLaws
-pub mod PlaceLaws
 pub mod PutLaws

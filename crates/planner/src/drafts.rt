@@ -8,12 +8,11 @@ ghost use Rattle.rules.specs.Neighbour.{split};
 ghost use Rattle.plan.specs.Planner.{plannerValid};
 ghost use Rattle.plan.specs.Plan.{planned, plannedWait};
 ghost use Rattle.record.specs.declared.Record.the-variants.{DataOf};
-ghost use Rattle.planner.specs.Course.{Extends, bankIn};
-ghost use Rattle.planner.specs.Drafts.{Drafted, Loaded, Turned, startOf, loadedState};
-use crate::Draft;
-use crate::Entry;
-use crate::packets;
-use crate::placing::place;
+ghost use Rattle.courses.specs.Course.{Extends, bankIn};
+ghost use Rattle.placing.specs.Drafts.{Drafted, Loaded, Turned, startOf, loadedState};
+use courses::Entry;
+use placing::Draft;
+use placing::place;
 use plan::PlannerState;
 use record::Dualoct;
 use record::Record;
@@ -62,7 +61,7 @@ fn loaded(d: Draft, t: DataAt, mask: u32, bytes: Dualoct) -> Draft
     let c = d.course;
     Draft {
         state: state,
-        course: packets::push(c, e),
+        course: courses::push(c, e),
         ..d
     }
 }
@@ -86,7 +85,7 @@ fn turn(d: Draft, b: u32) -> Draft
 fn wait(s: Settings, p: PlannerState, cycles: u32) -> Draft
     ensures { λ r. ⌜ Drafted s r (plannedWait s split cycles (startOf p)) ⌝ }
 {
-    let c = packets::none();
+    let c = courses::none();
     let now = num::wide32(p.now.0) + num::wide32(cycles);
     if now <= 1000000000 {
         return Draft {
@@ -112,18 +111,18 @@ pub(crate) fn make(s: Settings, p: PlannerState, q: Request) -> Draft
     ensures { λ r. ⌜ Drafted s r (planned s split q p) ⌝ }
 {
     match q {
-        Request::Read(at) => place(s, p, packets::read_course(p, at)),
+        Request::Read(at) => place(s, p, courses::read_course(p, at)),
         Request::Write(at, mask, bytes) => {
-            let carried = packets::write_mask(p, at);
+            let carried = courses::write_mask(p, at);
             load(
                 s,
-                place(s, p, packets::write_course(p, at, carried)),
+                place(s, p, courses::write_course(p, at, carried)),
                 mask,
                 bytes,
             )
         }
-        Request::Refresh => turn(place(s, p, packets::refresh_course(p)), p.refresh),
+        Request::Refresh => turn(place(s, p, courses::refresh_course(p)), p.refresh),
         Request::Wait(cycles) => wait(s, p, cycles),
-        Request::Drain => place(s, p, packets::drain_course(p)),
+        Request::Drain => place(s, p, courses::drain_course(p)),
     }
 }

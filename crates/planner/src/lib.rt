@@ -1,8 +1,6 @@
 // The planner: a request to its records, each packet at the least instant that the rules allow.
 pub mod bytes;
 mod drafts;
-mod packets;
-mod placing;
 mod records;
 
 ghost use mathlib.Core.Path.{_≡_};
@@ -14,8 +12,8 @@ ghost use Rattle.plan.specs.Planner.{freshPlanner, plannerValid};
 ghost use Rattle.plan.specs.Plan.{planned};
 ghost use Rattle.plan.specs.Call.{listBytes, outcomeOf, planOutcome, planNext, planRoom};
 ghost use Rattle.num.specs.Bytes.{splice};
-ghost use Rattle.planner.specs.Course.{bankIn};
-ghost use Rattle.planner.specs.Drafts.{servedState, servedRecords};
+ghost use Rattle.courses.specs.Course.{bankIn};
+ghost use Rattle.placing.specs.Drafts.{servedState, servedRecords};
 use plan::Outcome;
 use plan::PlannerState;
 use record::Record;
@@ -34,25 +32,6 @@ pub struct Planner {
 pub struct Planned {
     pub planner: Planner,
     pub outcome: Outcome,
-}
-
-// One record.
-pub struct Entry {
-    pub record: Record,
-}
-
-// Records in their order: the first count of the entries. No request makes more than 17.
-pub struct Course {
-    pub entries: [Entry; 17],
-    pub count: usize,
-}
-
-// A planner with the records of a request. Late: one of their instants, of their data, or now would pass the last instant;
-// then state and course say nothing.
-pub struct Draft {
-    pub state: PlannerState,
-    pub course: Course,
-    pub late: bool,
 }
 
 impl Planner {

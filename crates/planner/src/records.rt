@@ -4,8 +4,8 @@ ghost use Prim.Native.Nat.{_*_, _≤_, _<_};
 ghost use lib.ListN.{length};
 ghost use Rattle.num.specs.Bytes.{splice};
 ghost use Rattle.plan.specs.Call.{listBytes};
-ghost use Rattle.planner.specs.Course.{listed};
-use crate::Course;
+ghost use Rattle.courses.specs.Course.{listed};
+use courses::Course;
 use settings::Settings;
 
 // Puts the records of a course from the start of a buffer on.

@@ -2,7 +2,7 @@
 use mathlib.Core.Bool.{true}
 use mathlib.Core.Path.{_≡_, refl, _∙_}
 use Rattle.rules.proofs.Bools.{not-both}
-use Rattle.planner.proofs.ArrivalLaws.{late-arrival, right-arrival}
+use Rattle.placing.proofs.ArrivalLaws.{late-arrival, right-arrival}
 use borrow.Author.Needs.{needs}
 use Rattle.planner.proofs.drafts.load.Statement.{statement}
 use Rattle.planner.proofs.drafts.load.Tie as tie

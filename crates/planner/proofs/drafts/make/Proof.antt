@@ -2,8 +2,8 @@
 use mathlib.Core.Path.{_≡_, refl}
 use Prim.Native.Nat.{_<_}
 use borrow.Author.Tests.{ltb-true}
-use Rattle.planner.specs.Course.{bankIn}
-use Rattle.planner.proofs.CodeLaws.{read-packets, write-packets, refresh-packets, drain-packets}
+use Rattle.courses.specs.Course.{bankIn}
+use Rattle.courses.proofs.CodeLaws.{read-packets, write-packets, refresh-packets, drain-packets}
 use Rattle.rules.specs.Neighbour.{split}
 use Rattle.planner.proofs.DraftLaws.{place-asks, apart-in, refresh-in, read-drafted, write-drafted, load-asks, refresh-drafted, wait-drafted, drain-drafted}
 use borrow.Author.Needs.{needs}

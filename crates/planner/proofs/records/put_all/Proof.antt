@@ -7,7 +7,7 @@ use Rattle.num.specs.Bytes.{splice}
 use Rattle.record.specs.Record.{recordBytes}
 use Rattle.channel.proofs.JudgeLaws.{length-of-map}
 use Rattle.plan.specs.Call.{listBytes}
-use Rattle.planner.proofs.ListedLaws.{noEntry, recordsIn}
+use Rattle.courses.proofs.ListedLaws.{noEntry, recordsIn}
 use Rattle.planner.proofs.AnswerLaws.{put-none, put-turn, length-put}
 use borrow.Author.Needs.{needs}
 use Rattle.planner.proofs.records.put_all.Statement.{statement}

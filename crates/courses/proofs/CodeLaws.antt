@@ -1,0 +1,192 @@
+-- What the functions that make a course ask of one another, and what they hand on.
+-- Assumes nothing.
+use Prim.Native.Nat.{ℕ, _+_, _≤_, _<_}
+use mathlib.Core.Path.{_≡_, refl, sym, ap, _∙_}
+use mathlib.Core.Bool.{Bool, true, false, not, _&&_, _||_, cond}
+use mathlib.Core.List.{List, [], _∷_, _++_}
+use lib.Dec.{leb, ltb, leb·zero}
+use lib.ListN.{length, length-append, getD}
+use borrow.Author.Tests.{lt-ltb}
+use native.Mathlib.Omega.{arith}
+use Rattle.packet.specs.declared.RowPacket.the-variants.{Act, Refa, Refp}
+use Rattle.packet.specs.declared.ColPacket.the-variants.{Nocop, Wr, Rd}
+use Rattle.record.specs.declared.Record.{Record}
+use Rattle.record.specs.declared.Place.{Place}
+use Rattle.rules.specs.Neighbour.{Relation, split, near}
+use Rattle.rules.specs.Packets.{isPacket}
+use Rattle.rules.specs.Channel.{idle, stateOf, waitingOf}
+use Rattle.validity.specs.Valid.{apart}
+use Rattle.channel.specs.declared.Held.{Held}
+use Rattle.channel.specs.View.{slotOf}
+use Rattle.plan.specs.declared.PlannerState.{PlannerState}
+use Rattle.plan.specs.Plan.{rowPacket, colPacket, openOn, hits}
+use Rattle.courses.specs.declared.Entry.{Entry}
+use Rattle.courses.specs.declared.Course.{Course}
+use Rattle.courses.specs.Course.{Holds, Extends, allPackets, closings, firstNear, lastNear, heldIn, fullMask, nocop, clearing, opening, isOpenAt, rdAt, readCourse, wrAt, writeMask, writeCourse, refreshCourse, drainCourse}
+use Rattle.courses.proofs.ListedLaws.{extends-more, holds-more, packets-append}
+use Rattle.courses.proofs.ShortLaws.{closings-packets, closings-same, clearing-range, ranged-short, clearing-short, range-in, drain-short}
+
+-- ---- one packet more
+
+pub push-asks : (c : Course) (l : List Record) → Holds c l → length l < 17 → c .count < 17
+push-asks c l h m = omega (arith, h .count)
+
+pub push-holds : (c r : Course) (l : List Record) (e : Entry) (q : Record) → Holds c l → e .record ≡ q → Extends c (e .record ∷ []) r → length l < 17
+    → Holds r (l ++ (q ∷ []))
+push-holds c r l e q h x y m = holds-more c r l (q ∷ []) h (rw x at y) (omega arith)
+
+-- NOCOP and the PRER after it
+pub two-more : (c b r : Course) (e f : Entry) (p q : Record) → e .record ≡ p → Extends c (e .record ∷ []) b → f .record ≡ q → Extends b (f .record ∷ []) r
+    → Extends c (p ∷ q ∷ []) r
+two-more c b r e f p q x u y v = extends-more c b r (p ∷ []) (q ∷ []) (rw x at u) (rw y at v)
+
+pub one-more-of : (c r : Course) (e : Entry) (q : Record) → e .record ≡ q → Extends c (e .record ∷ []) r → Extends c (q ∷ []) r
+one-more-of c r e q x u = rw x at u
+
+-- ---- a bank and its neighbours
+
+module _ (p : PlannerState) (b first last : ℕ) (h : Held) (n : Course) (m : b < 32) (e : first ≡ firstNear b) (f : last ≡ lastNear b) (g : h ≡ heldIn p) (k : Holds n []) where
+  pub clearing-asks : ((first ≤ last + 1) × (last + 1 ≤ 32)) × (n .count + length (closings (stateOf (p .channel)) (h .bank) (p .mask) (leb first) (last + 1)) ≤ 17)
+  clearing-asks = rw (e, f, g) (range-in p b m, omega (arith, k .count, ranged-short p b m))
+
+  pub clearing-holds : (r : Course) → Extends n (closings (stateOf (p .channel)) (h .bank) (p .mask) (leb first) (last + 1)) r → Holds r (clearing split p b)
+  clearing-holds r x = rw (clearing-range p b m) (holds-more n r [] _ k (rw (e, f, g) at x) (omega (arith, ranged-short p b m)))
+
+module _ (p : PlannerState) (at : Place) (m : at .bank < 32) where
+  pub opening-short : length (opening split p at) ≤ 5
+  unfolding opening
+  opening-short = rw (length-append (clearing split p (at .bank)) (rowPacket (Act (at .bank) (at .row)) ∷ [])) (omega (arith, clearing-short p (at .bank) m))
+
+  pub opening-holds : (c r : Course) (e : Entry) → Holds c (clearing split p (at .bank)) → e .record ≡ rowPacket (Act (at .bank) (at .row)) → Extends c (e .record ∷ []) r
+      → Holds r (opening split p at)
+  unfolding opening
+  opening-holds c r e h x y = push-holds c r (clearing split p (at .bank)) e _ h x y (omega (arith, clearing-short p (at .bank) m))
+
+  -- whether the row is open, as it is read
+  pub open-at : (k : ℕ) (o t : Bool) → k ≡ slotOf (at .bank) → o ≡ openOn (getD (p .channel .banks) k idle .bank) (at .row) → o ≡ t → isOpenAt p at ≡ t
+  open-at k o t e f g = sym (rw (e, lt-ltb (at .bank) 32 m) at f) ∙ g
+
+-- ---- read
+
+module _ (p : PlannerState) (at : Place) (m : at .bank < 32) where
+  pub read-hit : (a b c : Course) (e f : Entry) → isOpenAt p at ≡ true → hits (waitingOf (p .channel .buffer)) (at .bank) (at .column) ≡ true
+      → Holds a [] → e .record ≡ nocop p → Extends a (e .record ∷ []) b → f .record ≡ rdAt at → Extends b (f .record ∷ []) c → Holds c (readCourse split p at)
+  unfolding readCourse
+  read-hit a b c e f o h k x u y v =
+      rw (o, h) (push-holds b c (nocop p ∷ []) f (rdAt at) (push-holds a b [] e (nocop p) k x u (omega arith)) y v (omega arith))
+
+  pub read-miss : (a b : Course) (e : Entry) → isOpenAt p at ≡ true → hits (waitingOf (p .channel .buffer)) (at .bank) (at .column) ≡ false
+      → Holds a [] → e .record ≡ rdAt at → Extends a (e .record ∷ []) b → Holds b (readCourse split p at)
+  unfolding readCourse
+  read-miss a b e o h k x u = rw (o, h) (push-holds a b [] e (rdAt at) k x u (omega arith))
+
+  pub read-reached : (a b : Course) (e : Entry) → isOpenAt p at ≡ false → Holds a (opening split p at) → e .record ≡ rdAt at → Extends a (e .record ∷ []) b
+      → Holds b (readCourse split p at)
+  unfolding readCourse
+  read-reached a b e o k x u = rw o (push-holds a b (opening split p at) e (rdAt at) k x u (omega (arith, opening-short p at m)))
+
+  -- ---- write
+
+  -- the mask that WR carries
+  pub mask-is : (h : Held) (o near? open? kept : Bool) (mask : ℕ) → h ≡ heldIn p → isOpenAt p at ≡ o → near? ≡ near split (at .bank) (h .bank)
+      → open? ≡ o || not near? → kept ≡ h .waits && open? → mask ≡ cond kept (p .mask) fullMask → mask ≡ writeMask split p at
+  unfolding writeMask
+  mask-is h o near? open? kept mask g q n i k e = e ∙ rw (k, i, n, g, q)
+
+  pub write-hit : (a b : Course) (e : Entry) (mask : ℕ) → isOpenAt p at ≡ true → Holds a [] → e .record ≡ wrAt at mask → Extends a (e .record ∷ []) b
+      → Holds b (writeCourse split p at mask)
+  unfolding writeCourse
+  write-hit a b e mask o k x u = rw o (push-holds a b [] e (wrAt at mask) k x u (omega arith))
+
+  pub write-reached : (a b : Course) (e : Entry) (mask : ℕ) → isOpenAt p at ≡ false → Holds a (opening split p at) → e .record ≡ wrAt at mask → Extends a (e .record ∷ []) b
+      → Holds b (writeCourse split p at mask)
+  unfolding writeCourse
+  write-reached a b e mask o k x u = rw o (push-holds a b (opening split p at) e (wrAt at mask) k x u (omega (arith, opening-short p at m)))
+
+-- ---- refresh
+
+module _ (p : PlannerState) (m : p .refresh < 32) where
+  pub refresh-holds : (a b c : Course) (e f : Entry) → Holds a (clearing split p (p .refresh)) → e .record ≡ rowPacket (Refa (p .refresh)) → Extends a (e .record ∷ []) b
+      → f .record ≡ rowPacket (Refp (p .refresh)) → Extends b (f .record ∷ []) c → Holds c (refreshCourse split p)
+  unfolding refreshCourse
+  refresh-holds a b c e f k x u y v =
+      let l : List Record = clearing split p (p .refresh) in
+      let s = clearing-short p (p .refresh) m in
+      let n = length-append l (rowPacket (Refa (p .refresh)) ∷ []) in
+      push-holds b c (l ++ (rowPacket (Refa (p .refresh)) ∷ [])) f _ (push-holds a b l e _ k x u (omega arith)) y v (omega arith)
+
+-- ---- drain
+
+module _ (p : PlannerState) (m : apart split (stateOf (p .channel)) ≡ true) (h : Held) (g : h ≡ heldIn p) (t : Bool) (w : h .waits ≡ t)
+    (c : Course) (k : Holds c (cond t (nocop p ∷ []) [])) where
+  abbrev all : List Record
+  all = closings (stateOf (p .channel)) 32 (p .mask) (leb 0) 32
+
+  drained : (t : Bool) → length (cond t (nocop p ∷ []) []) ≤ 1
+  drained true = omega arith
+  drained false = omega arith
+
+  pub drain-asks : c .count + length (closings (stateOf (p .channel)) 32 (p .mask) (leb 0) 32) ≤ 17
+  drain-asks = omega (arith, k .count, drained t, drain-short (stateOf (p .channel)) (p .mask) m)
+
+  pub drain-holds : (r : Course) → Extends c (closings (stateOf (p .channel)) 32 (p .mask) (leb 0) 32) r → Holds r (drainCourse p)
+  unfolding drainCourse
+  drain-holds r x =
+      rw (sym (ap (λ (y : Held). y .waits) g) ∙ w, sym (closings-same (stateOf (p .channel)) 32 (p .mask) (leb 0) (λ x. true) 32 (λ x l. leb·zero x)))
+      (holds-more c r (cond t (nocop p ∷ []) []) all k x (omega (arith, drained t, drain-short (stateOf (p .channel)) (p .mask) m)))
+
+-- ---- packets and no data
+
+module _ (nbr : Relation) (p : PlannerState) where
+  clearing-packets : (b : ℕ) → allPackets (clearing nbr p b) ≡ true
+  unfolding clearing
+  clearing-packets b = closings-packets (stateOf (p .channel)) (heldIn p .bank) (p .mask) (near nbr b) 32
+
+  one-more : (l : List Record) (r : Record) → allPackets l ≡ true → isPacket r ≡ true → allPackets (l ++ (r ∷ [])) ≡ true
+  unfolding allPackets
+  one-more l r e f = packets-append l (r ∷ []) ∙ rw (e, f)
+
+  opening-packets : (at : Place) → allPackets (opening nbr p at) ≡ true
+  unfolding opening isPacket
+  opening-packets at = one-more (clearing nbr p (at .bank)) (rowPacket (Act (at .bank) (at .row))) (clearing-packets (at .bank)) refl
+
+  pub read-packets : (at : Place) → allPackets (readCourse nbr p at) ≡ true
+  unfolding readCourse isPacket allPackets
+  read-packets at = one-more (cond (isOpenAt p at) (cond (hits (waitingOf (p .channel .buffer)) (at .bank) (at .column)) (nocop p ∷ []) []) (opening nbr p at)) (rdAt at) (go (isOpenAt p at) (hits (waitingOf (p .channel .buffer)) (at .bank) (at .column))) refl
+    where
+      go : (o h : Bool) → allPackets (cond o (cond h (nocop p ∷ []) []) (opening nbr p at)) ≡ true
+      go true true = refl
+      go true false = refl
+      go false h = opening-packets at
+
+  pub write-packets : (at : Place) (mask : ℕ) → allPackets (writeCourse nbr p at mask) ≡ true
+  unfolding writeCourse isPacket allPackets
+  write-packets at mask = one-more (cond (isOpenAt p at) [] (opening nbr p at)) (wrAt at mask) (go (isOpenAt p at)) refl
+    where
+      go : (o : Bool) → allPackets (cond o [] (opening nbr p at)) ≡ true
+      go true = refl
+      go false = opening-packets at
+
+  pub refresh-packets : allPackets (refreshCourse nbr p) ≡ true
+  unfolding refreshCourse isPacket
+  refresh-packets = one-more (clearing nbr p (p .refresh) ++ (rowPacket (Refa (p .refresh)) ∷ [])) (rowPacket (Refp (p .refresh))) (one-more (clearing nbr p (p .refresh)) (rowPacket (Refa (p .refresh))) (clearing-packets (p .refresh)) refl) refl
+
+  pub drain-packets : allPackets (drainCourse p) ≡ true
+  unfolding drainCourse isPacket allPackets
+  drain-packets = packets-append (cond (heldIn p .waits) (nocop p ∷ []) []) (closings (stateOf (p .channel)) 32 (p .mask) (λ x. true) 32) ∙ rw (closings-packets (stateOf (p .channel)) 32 (p .mask) (λ x. true) 32) (go (heldIn p .waits))
+    where
+      go : (t : Bool) → allPackets (cond t (nocop p ∷ []) []) && true ≡ true
+      go true = refl
+      go false = refl
+
+-- ---- no write makes more than six packets
+
+pub write-short : (p : PlannerState) (at : Place) (mask : ℕ) → at .bank < 32 → length (writeCourse split p at mask) ≤ 6
+unfolding writeCourse
+write-short p at mask m =
+    let n = length-append (cond (isOpenAt p at) [] (opening split p at)) (wrAt at mask ∷ []) in
+    omega (arith, go (isOpenAt p at))
+  where
+    go : (o : Bool) → length (cond o [] (opening split p at)) ≤ 5
+    go true = omega arith
+    go false = opening-short p at m

@@ -1,0 +1,72 @@
+-- Records in an array with a count, as lists.
+-- Assumes nothing.
+use Prim.Native.Nat.{ℕ, zero, suc, _+_, _≤_, _<_}
+use mathlib.Core.Path.{_≡_, refl, sym, ap, _∙_}
+use mathlib.Core.Bool.{Bool, true, false, _&&_, and-eq-true-iff}
+use mathlib.Core.List.{List, [], _∷_, _++_, map, map-append, append-nil, append-assoc}
+use native.Mathlib.Numerals.{add-one}
+use native.Mathlib.Omega.{arith}
+use lib.ListN.{length, length-append, length-map, take, getD, set}
+use lib.Seq.{take-suc, take-suc-set, length-take-le}
+use Rattle.packet.specs.declared.RowPacket.the-variants.{Act}
+use Rattle.record.specs.declared.Record.{Record}
+use Rattle.record.specs.declared.Record.the-variants.{RowAt}
+use Rattle.rules.specs.Packets.{isPacket}
+use Rattle.courses.specs.declared.Entry.{Entry}
+use Rattle.courses.specs.declared.Course.{Course}
+use Rattle.courses.specs.Course.{listed, Holds, Extends, allPackets}
+
+-- what stands past the end of an array
+abbrev pub noEntry : Entry
+noEntry = record { «record» = RowAt (record { 0 = 0 }) (Act 0 0) }
+
+abbrev pub recordsIn : List Entry → List Record
+recordsIn l = map (λ (e : Entry). e .record) l
+
+-- a store at the end
+pub records-set : (l : List Entry) (n : ℕ) (e : Entry) → n < length l → recordsIn (take (n + 1) (set l n e)) ≡ recordsIn (take n l) ++ (e .record ∷ [])
+records-set l n e h = rw (add-one, take-suc-set l n e h) (map-append (λ (e : Entry). e .record) (take n l) (e ∷ []))
+
+-- one more entry read
+pub records-more : (l : List Entry) (n : ℕ) (d : Entry) → n < length l → recordsIn (take (n + 1) l) ≡ recordsIn (take n l) ++ (getD l n d .record ∷ [])
+records-more l n d h = rw (add-one, take-suc l n d h) (map-append (λ (e : Entry). e .record) (take n l) (getD l n d ∷ []))
+
+pub length-records : (l : List Entry) (n : ℕ) → n ≤ length l → length (recordsIn (take n l)) ≡ n
+length-records l n h = length-map (take n l) (λ (e : Entry). e .record) ∙ length-take-le n l h
+
+-- ---- courses that go on
+
+pub extends-none : (c : Course) → Extends c [] c
+extends-none c = record { count = omega arith; same = sym (append-nil (listed c)) }
+
+pub extends-more : (a b c : Course) (l m : List Record) → Extends a l b → Extends b m c → Extends a (l ++ m) c
+extends-more a b c l m x y =
+    record {
+      count = rw (length-append l m) (omega (arith, x .count, y .count));
+      same = y .same ∙ ap (λ (u : List Record). u ++ m) (x .same) ∙ append-assoc (listed a) l m;
+    }
+
+pub holds-more : (c r : Course) (a l : List Record) → Holds c a → Extends c l r → length a + length l ≤ 17 → Holds r (a ++ l)
+holds-more c r a l h x m =
+    record {
+      count = rw (length-append a l) (omega (arith, h .count, x .count));
+      fits = rw (length-append a l) m;
+      same = x .same ∙ ap (λ (u : List Record). u ++ l) (h .same);
+    }
+
+-- ---- packets and no data
+
+pub packets-append : (a b : List Record) → allPackets (a ++ b) ≡ allPackets a && allPackets b
+unfolding allPackets
+packets-append [] b = refl
+packets-append (r ∷ a) b = rw (packets-append a b) (go (isPacket r))
+  where
+    go : (t : Bool) → t && (allPackets a && allPackets b) ≡ (t && allPackets a) && allPackets b
+    go true = refl
+    go false = refl
+
+pub packet-at : (l : List Record) (i : ℕ) (d : Record) → allPackets l ≡ true → i < length l → isPacket (getD l i d) ≡ true
+unfolding allPackets
+packet-at [] i d e h = absurd (omega arith)
+packet-at (r ∷ l) zero d e h = and-eq-true-iff (isPacket r) (allPackets l) .0 e .0
+packet-at (r ∷ l) (suc i) d e h = packet-at l i d (and-eq-true-iff (isPacket r) (allPackets l) .0 e .1) (omega arith)

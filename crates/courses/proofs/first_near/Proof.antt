@@ -1,0 +1,18 @@
+-- `courses::first_near` meets its contract: each way out decides the test.
+use Prim.Native.Nat.{_%_}
+use borrow.Author.Tests.{eq-eqb, ne-eqb}
+use borrow.Author.Needs.{needs}
+use Rattle.courses.proofs.first_near.Statement.{statement}
+use Rattle.courses.proofs.first_near.Tie as tie
+
+sub-result : tie.Need-sub-result
+sub-result c = search needs
+
+returns : tie.Need-returns
+returns c = rw (eq-eqb (c .before .args .b % 16) 0 (c .if1 .taken))
+
+returns-2 : tie.Need-returns-2
+returns-2 c = rw (ne-eqb (c .before .args .b % 16) 0 (c .if1 .left))
+
+pub first-near-spec : {M : Type 1} → statement M
+first-near-spec = tie.close (tie.spec sub-result returns returns-2)

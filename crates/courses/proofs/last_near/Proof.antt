@@ -1,0 +1,18 @@
+-- `courses::last_near` meets its contract: each way out decides the test.
+use Prim.Native.Nat.{_%_}
+use borrow.Author.Tests.{eq-eqb, ne-eqb}
+use borrow.Author.Needs.{needs}
+use Rattle.courses.proofs.last_near.Statement.{statement}
+use Rattle.courses.proofs.last_near.Tie as tie
+
+add-result : tie.Need-add-result
+add-result c = search needs
+
+returns : tie.Need-returns
+returns c = rw (eq-eqb (c .before .args .b % 16) 15 (c .if1 .taken))
+
+returns-2 : tie.Need-returns-2
+returns-2 c = rw (ne-eqb (c .before .args .b % 16) 15 (c .if1 .left))
+
+pub last-near-spec : {M : Type 1} → statement M
+last-near-spec = tie.close (tie.spec add-result returns returns-2)

@@ -1,0 +1,3 @@
+pub mod ArrivalLaws
+pub mod TimeLaws
+pub mod PlaceLaws
