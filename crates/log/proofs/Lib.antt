@@ -7,3 +7,4 @@ pub mod ListThenLog
 pub mod CopyLaws
 pub mod BadLaws
 pub mod RoundTrip
+pub mod QuickLaws

@@ -31,7 +31,7 @@ pub(crate) fn write_block(b: &mut [u8], k: u32, recs: &[u8])
 }
 
 // The lesser of two numbers.
-fn lesser(a: usize, b: usize) -> usize
+pub(crate) fn lesser(a: usize, b: usize) -> usize
     ensures { λ r. ⌜ r ≡ min a b ⌝ }
 {
     if a < b { a } else { b }

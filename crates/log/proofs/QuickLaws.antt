@@ -1,0 +1,261 @@
+-- What passes the quick test of records is a record.
+-- Assumes nothing.
+use Prim.Native.Nat.{ℕ, _+_, _-_, _*_, _/_, _%_, _^_, _<_, _≤_}
+use mathlib.Core.Path.{_≡_, refl, sym, _∙_, ap}
+use mathlib.Core.Bool.{Bool, true, false, cond, _&&_, _||_, and-eq-true-iff}
+use mathlib.Core.List.{List}
+use native.Mathlib.Omega.{arith}
+use native.Mathlib.Numerals.{add-one}
+use native.Mathlib.Nat.{add-zero}
+use lib.Dec.{eqb, leb, ltb}
+use lib.ListN.{length, getD}
+use borrow.Author.Tests.{leb-true, ltb-true, ltb-false, eqb-true, eqb-false, eq-eqb, ne-eqb, lt-ltb}
+use Rattle.num.specs.Bytes.{number, part}
+use Rattle.num.specs.Search.{allUpTo}
+use Rattle.num.proofs.SearchLaws.{all-at, all-intro}
+use Rattle.settings.specs.declared.Settings.{Settings}
+use Rattle.packet.specs.declared.RowPacket.the-variants.{Prer}
+use Rattle.packet.specs.declared.RowDecoded.{RowDecoded}
+use Rattle.packet.specs.declared.RowDecoded.the-variants.{Row, NoRow}
+use Rattle.packet.specs.declared.ColDecoded.{ColDecoded}
+use Rattle.packet.specs.declared.ColDecoded.the-variants.{Col, NoCol}
+use Rattle.packet.proofs.FieldLaws.{joined}
+use Rattle.packet.specs.Row.{deviceHead, rowFields, rowWord, rowOf, rowDecoded}
+use Rattle.packet.specs.Col.{maskSaid, colOf, colDecoded}
+use Rattle.record.specs.declared.RecordRead.{RecordRead}
+use Rattle.record.specs.Record.{isKnown, rowRecord, colRecord, recordOf, recordRead, wellFormed, recordAt}
+use Rattle.record.proofs.RecordLaws.{field-in, head-in}
+use Rattle.log.specs.Quick.{headAt, wordRight, dataRight}
+
+-- one index more, as a loop takes it
+pub all-next : (f : ℕ → Bool) (n : ℕ) → allUpTo f (n + 1) ≡ (allUpTo f n && f n)
+unfolding allUpTo
+all-next f n = rw add-one
+
+-- one of two tests holds
+or-case : {P : Type 0} (a b : Bool) → (a || b) ≡ true → (a ≡ true → P) → (b ≡ true → P) → P
+or-case true b e f g = f refl
+or-case false b e f g = g e
+
+-- ---- ROW words
+
+abbrev rowKnown : ℕ → ℕ → ℕ → Bool
+rowKnown device rows w = isKnown (rowRecord 0 (rowDecoded device rows w))
+
+row-act : (device rows w : ℕ) → w / 2 ^ 18 ≡ deviceHead device → w / 2 ^ 12 % 2 ≡ 1 → w % 2 ^ 12 < rows → rowKnown device rows w ≡ true
+unfolding rowDecoded rowRecord isKnown
+row-act device rows w a b c = rw (eq-eqb _ _ a, eq-eqb _ _ b, lt-ltb _ _ c)
+
+row-other : (device rows w rop : ℕ) → w / 2 ^ 18 ≡ deviceHead device → w % 2 ^ 13 ≡ rop → rop < 2 ^ 12
+    → ((bank : ℕ) → isKnown (rowRecord 0 (rowOf bank rop)) ≡ true) → rowKnown device rows w ≡ true
+unfolding rowDecoded
+row-other device rows w rop a b l k =
+    let m : w / 2 ^ 12 % 2 ≡ 1 → ⊥ = λ e. omega arith in
+    let r : w % 2 ^ 12 ≡ rop = omega arith in
+    rw (eq-eqb _ _ a, ne-eqb _ _ m, r) (k (w / 2 ^ 13 % 32))
+
+pub row-says : (device rows w head r : ℕ) → head ≡ rowWord device (Prer 0) → r ≡ rows
+    → (eqb (w / 2 ^ 18) (head / 2 ^ 18) && ((leb 4096 (w % 2 ^ 13) && ltb (w % 2 ^ 13) (4096 + r)) || ((eqb (w % 2 ^ 13) 0x600 || eqb (w % 2 ^ 13) 0x0C0) || eqb (w % 2 ^ 13) 0x540))) ≡ true
+    → rowKnown device rows w ≡ true
+unfolding rowWord rowFields rowOf rowRecord isKnown
+row-says device rows w head r eh er e =
+    let low = w % 2 ^ 13 in
+    let p = and-eq-true-iff (eqb (w / 2 ^ 18) (head / 2 ^ 18)) _ .0 e in
+    let q = eqb-true (w / 2 ^ 18) (head / 2 ^ 18) (p .0) in
+    let d : w / 2 ^ 18 ≡ deviceHead device = omega arith in
+    let op : (rop : ℕ) → rop < 2 ^ 12 → ((bank : ℕ) → isKnown (rowRecord 0 (rowOf bank rop)) ≡ true) → eqb low rop ≡ true → rowKnown device rows w ≡ true
+    = λ rop l k t. row-other device rows w rop d (eqb-true low rop t) l k in
+    or-case (leb 4096 low && ltb low (4096 + r)) _ (p .1)
+    (λ t.
+    let a = and-eq-true-iff (leb 4096 low) (ltb low (4096 + r)) .0 t in
+    let b = leb-true 4096 low (a .0) in
+    let c = ltb-true low (4096 + r) (a .1) in
+    row-act device rows w d (omega arith) (omega arith))
+    (λ t. or-case (eqb low 0x600 || eqb low 0x0C0) (eqb low 0x540) t
+    (λ u. or-case (eqb low 0x600) (eqb low 0x0C0) u (op 0x600 (omega arith) (λ bank. refl)) (op 0x0C0 (omega arith) (λ bank. refl)))
+    (op 0x540 (omega arith) (λ bank. refl)))
+
+-- ---- COL words
+
+abbrev colKnown : ℕ → ℕ → ℕ → Bool
+colKnown device columns w = isKnown (colRecord 0 (colDecoded device columns w))
+
+-- M and the bits below it say a mask
+mask-says : (device w : ℕ) → ((leb 0x10000 (w % 2 ^ 17) && ltb (w % 2 ^ 17) 0x1FFFF) || eqb (w % 2 ^ 17) (device * 2048)) ≡ true
+    → maskSaid device (w / 2 ^ 16 % 2) (w % 2 ^ 16) ≡ true
+unfolding maskSaid
+mask-says device w e =
+    or-case (leb 0x10000 (w % 2 ^ 17) && ltb (w % 2 ^ 17) 0x1FFFF) _ e
+    (λ t.
+    let a = and-eq-true-iff (leb 0x10000 (w % 2 ^ 17)) (ltb (w % 2 ^ 17) 0x1FFFF) .0 t in
+    let b = leb-true 0x10000 (w % 2 ^ 17) (a .0) in
+    let c = ltb-true (w % 2 ^ 17) 0x1FFFF (a .1) in
+    let m : w / 2 ^ 16 % 2 ≡ 1 = omega arith in
+    let l : w % 2 ^ 16 < 0xFFFF = omega arith in
+    rw (eq-eqb _ _ m, lt-ltb _ _ l))
+    (λ t. go (eqb (w / 2 ^ 16 % 2) 1) refl (eqb-true (w % 2 ^ 17) (device * 2048) t))
+  where
+    go : (x : Bool) → eqb (w / 2 ^ 16 % 2) 1 ≡ x → w % 2 ^ 17 ≡ device * 2048 → cond x (ltb (w % 2 ^ 16) 0xFFFF) (eqb (w % 2 ^ 16) (device * 2 ^ 11)) ≡ true
+    go true q s = let m = eqb-true (w / 2 ^ 16 % 2) 1 q in lt-ltb (w % 2 ^ 16) 0xFFFF (omega arith)
+    go false q s = let m = eqb-false (w / 2 ^ 16 % 2) 1 q in eq-eqb (w % 2 ^ 16) (device * 2 ^ 11) (omega arith)
+
+-- fields of a word that is a multiple
+even : (x d : ℕ) → x ≡ d * 2 ^ 6 → x % 2 ≡ 0
+even x d e = omega arith
+
+bank-0 : (x d : ℕ) → x ≡ d * 2 ^ 5 → x % 32 ≡ 0
+bank-0 x d e = omega arith
+
+column-0 : (x d : ℕ) → x ≡ d * 2 ^ 13 → x % 128 ≡ 0
+column-0 x d e = omega arith
+
+col-nocop : (device columns w : ℕ) → w / 2 ^ 17 ≡ (32 + device) * 2 ^ 17 → maskSaid device (w / 2 ^ 16 % 2) (w % 2 ^ 16) ≡ true → colKnown device columns w ≡ true
+unfolding colDecoded colOf colRecord isKnown
+col-nocop device columns w h said =
+    let a : w / 2 ^ 34 ≡ 2 ^ 5 + device = omega (arith, joined 17 17 w) in
+    let cop : w / 2 ^ 17 % 2 ^ 4 ≡ 0 = omega arith in
+    let zb : w / 2 ^ 17 % 2 ^ 11 ≡ 0 = omega arith in
+    let zk : w / 2 ^ 17 % 2 ^ 12 ≡ 0 = omega arith in
+    let b' : w / 2 ^ 28 ≡ (32 + device) * 2 ^ 6 = omega (arith, joined 17 11 w) in
+    let k' : w / 2 ^ 29 ≡ (32 + device) * 2 ^ 5 = omega (arith, joined 17 12 w) in
+    let c' : w / 2 ^ 21 ≡ (32 + device) * 2 ^ 13 = omega (arith, joined 17 4 w) in
+    rw (eq-eqb _ _ a, eq-eqb _ 0 (even (w / 2 ^ 28) (32 + device) b'), said, cop, bank-0 (w / 2 ^ 29) (32 + device) k', column-0 (w / 2 ^ 21) (32 + device) c')
+
+col-access : (device columns w cop : ℕ) → w / 2 ^ 34 ≡ 32 + device → w / 2 ^ 21 % 256 < 128 → w / 2 ^ 21 % 256 < columns → w / 2 ^ 17 % 16 ≡ cop
+    → ((bank column mask : ℕ) → column < columns → isKnown (colRecord 0 (colOf columns bank column cop mask)) ≡ true)
+    → maskSaid device (w / 2 ^ 16 % 2) (w % 2 ^ 16) ≡ true → colKnown device columns w ≡ true
+unfolding colDecoded
+col-access device columns w cop h g l e k said =
+    let a : w / 2 ^ 34 ≡ 2 ^ 5 + device = omega arith in
+    let b : w / 2 ^ 28 % 2 ≡ 0 = omega arith in
+    let column : w / 2 ^ 21 % 128 < columns = omega arith in
+    rw (eq-eqb _ _ a, eq-eqb _ _ b, said, e) (k _ _ _ column)
+
+wr-known : (columns bank column mask : ℕ) → column < columns → isKnown (colRecord 0 (colOf columns bank column 1 mask)) ≡ true
+unfolding colOf colRecord isKnown
+wr-known columns bank column mask l = rw (lt-ltb _ _ l)
+
+rd-known : (columns bank column mask : ℕ) → column < columns → isKnown (colRecord 0 (colOf columns bank column 3 mask)) ≡ true
+unfolding colOf colRecord isKnown
+rd-known columns bank column mask l = rw (lt-ltb _ _ l)
+
+pub col-says : (device columns w d d2 n : ℕ) → d ≡ device → d2 ≡ device → n ≡ columns
+    → (((leb 0x10000 (w % 2 ^ 17) && ltb (w % 2 ^ 17) 0x1FFFF) || eqb (w % 2 ^ 17) (d2 * 2048))
+    && (eqb (w / 2 ^ 17) ((32 + d) * 2 ^ 17) || (eqb (w / 2 ^ 34) (32 + d)
+    && ((ltb (w / 2 ^ 21 % 256) 128 && ltb (w / 2 ^ 21 % 256) n) && (eqb (w / 2 ^ 17 % 16) 1 || eqb (w / 2 ^ 17 % 16) 3))))) ≡ true
+    → colKnown device columns w ≡ true
+col-says device columns w d d2 n ed ed2 en e =
+    let e' = rw (ed, ed2, en) at e in
+    let column = w / 2 ^ 21 % 256 in
+    let cop = w / 2 ^ 17 % 16 in
+    let p = and-eq-true-iff _ _ .0 e' in
+    let said = mask-says device w (p .0) in
+    or-case (eqb (w / 2 ^ 17) ((32 + device) * 2 ^ 17)) _ (p .1)
+    (λ t. col-nocop device columns w (eqb-true _ _ t) said)
+    (λ t.
+    let a = and-eq-true-iff (eqb (w / 2 ^ 34) (32 + device)) _ .0 t in
+    let b = and-eq-true-iff (ltb column 128 && ltb column columns) (eqb cop 1 || eqb cop 3) .0 (a .1) in
+    let c = and-eq-true-iff (ltb column 128) (ltb column columns) .0 (b .0) in
+    let h = eqb-true (w / 2 ^ 34) (32 + device) (a .0) in
+    let g = ltb-true column 128 (c .0) in
+    let l = ltb-true column columns (c .1) in
+    or-case (eqb cop 1) (eqb cop 3) (b .1)
+    (λ u. col-access device columns w 1 h g l (eqb-true cop 1 u) (wr-known columns) said)
+    (λ u. col-access device columns w 3 h g l (eqb-true cop 3 u) (rd-known columns) said))
+
+-- ---- records
+
+-- whether the fields of a record say one, by the tests of its kind and fields
+shape : Bool → Bool → Bool → Bool → Bool → Bool → Bool → Bool
+shape d z n r rk c ck = cond d z (cond n (cond r rk (cond c ck false)) false)
+
+known-cond : (b : Bool) (x y : RecordRead) → isKnown (cond b x y) ≡ cond b (isKnown x) (isKnown y)
+known-cond true x y = refl
+known-cond false x y = refl
+
+cond-same : (b : Bool) → cond b true false ≡ b
+cond-same true = refl
+cond-same false = refl
+
+row-any : (at : ℕ) (d : RowDecoded) → isKnown (rowRecord at d) ≡ isKnown (rowRecord 0 d)
+unfolding rowRecord isKnown
+row-any at NoRow = refl
+row-any at (Row p) = refl
+
+col-any : (at : ℕ) (d : ColDecoded) → isKnown (colRecord at d) ≡ isKnown (colRecord 0 d)
+unfolding colRecord isKnown
+col-any at NoCol = refl
+col-any at (Col p) = refl
+
+known-shape : (s : Settings) (at kind w a b : ℕ)
+    → isKnown (recordOf s at kind w a b) ≡ shape (eqb kind 2) (eqb w 0) (eqb a 0 && eqb b 0) (eqb kind 0) (rowKnown (s .device) (s .rows) w) (eqb kind 1) (colKnown (s .device) (s .columns) w)
+unfolding recordOf isKnown shape
+known-shape s at kind w a b = rw (known-cond, known-cond, known-cond, known-cond, known-cond, cond-same, row-any, col-any)
+
+-- fields without data that say a record are those of one kind
+kind-small : (s : Settings) (kind w : ℕ) → isKnown (recordOf s 0 kind w 0 0) ≡ true → kind ≤ 2
+unfolding shape
+kind-small s kind w e = go (eqb kind 2) refl (eqb kind 0) refl (eqb kind 1) refl (sym (known-shape s 0 kind w 0 0) ∙ e)
+  where
+    go : (x : Bool) → eqb kind 2 ≡ x → (y : Bool) → eqb kind 0 ≡ y → (z : Bool) → eqb kind 1 ≡ z
+        → shape x (eqb w 0) true y (rowKnown (s .device) (s .rows) w) z (colKnown (s .device) (s .columns) w) ≡ true → kind ≤ 2
+    go true p y q z r k = let h = eqb-true kind 2 p in omega arith
+    go false p true q z r k = let h = eqb-true kind 0 q in omega arith
+    go false p false q true r k = let h = eqb-true kind 1 r in omega arith
+    go false p false q false r k = absurd (let z : _≡_ {A = ℕ} 0 1 = cc in omega arith)
+
+-- data as the kind has it leave a record one
+data-says : (d n z r rk c ck : Bool) → (d || n) ≡ true → shape d z true r rk c ck ≡ shape d z n r rk c ck
+unfolding shape
+data-says true n z r rk c ck e = refl
+data-says false n z r rk c ck e = rw e
+
+-- a word by its kind
+pub word-says : (s : Settings) (head w : ℕ) (row col : Bool) → (row ≡ true → rowKnown (s .device) (s .rows) w ≡ true) → (col ≡ true → colKnown (s .device) (s .columns) w ≡ true)
+    → (((eqb head 0 && row) || (eqb head 1 && col)) || (eqb head 2 && eqb w 0)) ≡ true → isKnown (recordOf s 0 head w 0 0) ≡ true
+unfolding shape
+word-says s head w row col hr hc e =
+    or-case ((eqb head 0 && row) || (eqb head 1 && col)) (eqb head 2 && eqb w 0) e
+    (λ t. or-case (eqb head 0 && row) (eqb head 1 && col) t
+    (λ u. let p = and-eq-true-iff (eqb head 0) row .0 u in rw (known-shape s 0 head w 0 0, eqb-true head 0 (p .0), hr (p .1)))
+    (λ u. let p = and-eq-true-iff (eqb head 1) col .0 u in rw (known-shape s 0 head w 0 0, eqb-true head 1 (p .0), hc (p .1))))
+    (λ t. let p = and-eq-true-iff (eqb head 2) (eqb w 0) .0 t in rw (known-shape s 0 head w 0 0, p .0, p .1))
+
+-- a record whose word and data are right
+pub record-says : (s : Settings) (l : List ℕ) (at : ℕ) → at + 32 ≤ length l → getD l (at + 4) 0 < 256
+    → wordRight s l at ≡ true → dataRight l at ≡ true → wellFormed s (part l at 32) ≡ true
+unfolding wellFormed recordRead
+record-says s l at h g w d =
+    let x = headAt l at in
+    let k = kind-small s x (number (part l (at + 8) 8)) w in
+    let e = head-in l at x h g refl in
+    let spare : number (part (part l at 32) 5 3) ≡ 0 = omega arith in
+    let kind : number (part (part l at 32) 4 1) ≡ x = omega arith in
+    rw (
+      eq-eqb _ 0 spare,
+      kind,
+      field-in l at 8 8 (omega arith),
+      field-in l at 16 8 (omega arith),
+      field-in l at 24 8 (omega arith),
+      known-shape s (number (part (part l at 32) 0 4)) x (number (part l (at + 8) 8)) (number (part l (at + 16) 8)) (number (part l (at + 24) 8)),
+    )
+    (sym (data-says _ _ _ _ _ _ _ d) ∙ sym (known-shape s 0 x (number (part l (at + 8) 8)) 0 0) ∙ w)
+
+pub parts-say : (s : Settings) (l : List ℕ) (i n : ℕ) → 32 * (i + n) ≤ length l → ((x : ℕ) → getD l x 0 < 256)
+    → allUpTo (λ j. dataRight l (32 * (i + j))) n ≡ true → allUpTo (λ j. wordRight s l (32 * (i + j))) n ≡ true
+    → allUpTo (λ j. wellFormed s (recordAt l (i + j))) n ≡ true
+parts-say s l i n h g d w =
+    all-intro (λ j. wellFormed s (recordAt l (i + j))) n
+    (λ j k. record-says s l (32 * (i + j)) (omega arith) (g (32 * (i + j) + 4)) (all-at (λ j. wordRight s l (32 * (i + j))) n j w k) (all-at (λ j. dataRight l (32 * (i + j))) n j d k))
+
+-- a part more of a list that has no bad record so far
+pub part-more : (s : Settings) (l : List ℕ) (i n : ℕ) → ((k : ℕ) → k < i → wellFormed s (recordAt l k) ≡ true)
+    → allUpTo (λ j. wellFormed s (recordAt l (i + j))) n ≡ true → (k : ℕ) → k < i + n → wellFormed s (recordAt l k) ≡ true
+part-more s l i n h a k b = go (ltb k i) refl
+  where
+    go : (t : Bool) → ltb k i ≡ t → wellFormed s (recordAt l k) ≡ true
+    go true q = h k (ltb-true k i q)
+    go false q =
+        let m = ltb-false k i q in
+        let e : i + (k - i) ≡ k = omega arith in
+        rw e at (all-at (λ j. wellFormed s (recordAt l (i + j))) n (k - i) a (omega arith))

@@ -1,0 +1,41 @@
+-- `log::quick::col_right` meets its contract: a word that passes is that of a packet.
+use Rattle.log.proofs.QuickLaws.{col-says}
+use borrow.Author.Needs.{needs}
+use Rattle.log.proofs.quick.col_right.Statement.{statement}
+use Rattle.log.proofs.quick.col_right.Tie as tie
+
+wide32-requires : tie.Need-wide32-requires
+wide32-requires c κs = search needs
+
+add-head : tie.Need-add-head
+add-head c = search needs
+
+wide32-requires-2 : tie.Need-wide32-requires-2
+wide32-requires-2 c κs = search needs
+
+mul-mask : tie.Need-mul-mask
+mul-mask c = search needs
+
+wide32-requires-3 : tie.Need-wide32-requires-3
+wide32-requires-3 c κs = search needs
+
+mul-result : tie.Need-mul-result
+mul-result c = search needs
+
+returns : tie.Need-returns
+returns c =
+    let a = c .before .before .before .args in
+    let d = c .before .before .wide32 in
+    col-says (a .device) (a .columns) (a .w) (d .result) (c .before .wide322 .result) (c .wide323 .result) (d .ensures .0) (c .before .wide322 .ensures .0) (c .wide323 .ensures .0)
+
+pub col-right-spec : {M : Type 1} → statement M
+col-right-spec =
+    tie.close
+    (tie.spec
+    wide32-requires
+    add-head
+    wide32-requires-2
+    mul-mask
+    wide32-requires-3
+    mul-result
+    returns)
