@@ -1,0 +1,79 @@
+-- Laws of a stream: what its calls count, that every planner reached is valid, and one more request.
+-- Assumes nothing.
+use Prim.Native.Nat.{ℕ, zero, suc, _+_, _-_, _*_, _/_, _≤_}
+use mathlib.Core.Path.{_≡_, refl, _∙_}
+use mathlib.Core.Bool.{Bool, true, false, cond}
+use mathlib.Core.List.{List, []}
+use lib.Dec.{leb}
+use lib.ListN.{length, take, drop}
+use native.Mathlib.Omega.{arith}
+use native.Mathlib.Numerals.{add-one}
+use Rattle.num.specs.Bytes.{Bytes}
+use Rattle.num.proofs.PartLaws.{Bytes-part}
+use Rattle.settings.specs.declared.Settings.{Settings}
+use Rattle.record.specs.declared.Record.{Record}
+use Rattle.record.specs.declared.Refusal.the-variants.{Horizon, Full}
+use Rattle.record.specs.declared.RequestRead.{RequestRead}
+use Rattle.record.specs.declared.RequestRead.the-variants.{Refused as RefusedRequest, Accepted}
+use Rattle.record.specs.Request.{requestRead}
+use Rattle.rules.specs.Neighbour.{split}
+use Rattle.rules.proofs.NeighbourLaws.{split-neighbours}
+use Rattle.plan.specs.declared.PlannerState.{PlannerState}
+use Rattle.plan.specs.declared.Outcome.{Outcome}
+use Rattle.plan.specs.declared.Outcome.the-variants.{Refused, Made}
+use Rattle.plan.specs.Planner.{plannerValid}
+use Rattle.plan.specs.Plan.{planned}
+use Rattle.plan.specs.Call.{timely, outcomeOf, outcomeBy, planOutcome, isMade, draftBy, planNext, planRecords, planRoom}
+use Rattle.plan.proofs.Bound.{most}
+use Rattle.plan.proofs.Valid.{fresh-valid, next-valid}
+use Rattle.stream.specs.Stream.{countOf, requestAt, plannerAt, recordsUpTo, roomUpTo}
+
+-- an answer counts the records, of which there are at most 17
+Counted : Outcome → List Record → Type 0
+Counted o l = (countOf o ≡ length (cond (isMade o) l [])) × (countOf o ≤ 17)
+
+counted-by : (s : Settings) (p : PlannerState) → plannerValid s split p ≡ true → (x : RequestRead) (room : ℕ) → Counted (outcomeBy s split p x room) (draftBy s split p x .records)
+unfolding Counted outcomeBy outcomeOf draftBy countOf isMade
+counted-by s p v (RefusedRequest why) room = (refl, omega arith)
+counted-by s p v (Accepted q) room = go (timely s (planned s split q p)) (leb (length (planned s split q p .records)) (room / 32))
+  where
+    l : List Record
+    l = planned s split q p .records
+
+    go : (a b : Bool) → Counted (cond a (cond b (Made (length l)) (Refused Full)) (Refused Horizon)) l
+    go true true = (refl, most s p v q)
+    go true false = (refl, omega arith)
+    go false b = (refl, omega arith)
+
+pub call-counted : (s : Settings) (p : PlannerState) → plannerValid s split p ≡ true → (request : List ℕ) (room : ℕ) {o : Outcome} → o ≡ planOutcome s split p request room
+    → (countOf o ≡ length (planRecords s split p request room)) × (countOf o ≤ 17)
+unfolding Counted planOutcome planRecords
+call-counted s p v request room e = rw e (counted-by s p v (requestRead s request) room)
+
+module _ (s : Settings) (requests : List ℕ) (room : ℕ) where
+  pub planner-valid : Bytes requests → (i : ℕ) → plannerValid s split (plannerAt s requests room i) ≡ true
+  unfolding plannerAt
+  planner-valid w zero = fresh-valid s split
+  planner-valid w (suc i) =
+      next-valid s split split-neighbours (plannerAt s requests room i) (requestAt requests i) room (Bytes-part requests (24 * i) 24 w) (planner-valid w i)
+
+-- the request that is lent for turn i
+abbrev lent : List ℕ → ℕ → List ℕ
+lent requests i = take (24 * i + 24 - 24 * i) (drop (24 * i) requests)
+
+lent-is : (requests : List ℕ) (i : ℕ) → lent requests i ≡ requestAt requests i
+lent-is requests i = let n : 24 * i + 24 - 24 * i ≡ 24 = omega arith in rw n
+
+module _ (s : Settings) (requests start room : List ℕ) (i : ℕ) (k : length room ≡ length start) {p : PlannerState} (e : p ≡ plannerAt s requests (length start) i) where
+  pub planner-next : {q : PlannerState} → q ≡ planNext s split p (lent requests i) (length room) → q ≡ plannerAt s requests (length start) (i + 1)
+  unfolding plannerAt
+  planner-next h = h ∙ rw (add-one, e, lent-is requests i, k)
+
+  pub records-next : {r n : ℕ} → r ≡ recordsUpTo s requests (length start) i → n ≡ length (planRecords s split p (lent requests i) (length room))
+      → r + n ≡ recordsUpTo s requests (length start) (i + 1)
+  unfolding recordsUpTo
+  records-next h m = rw (h, m, add-one, e, lent-is requests i, k)
+
+  pub room-next : {l : List ℕ} → room ≡ roomUpTo s requests start i → l ≡ planRoom s split p (lent requests i) room → l ≡ roomUpTo s requests start (i + 1)
+  unfolding roomUpTo
+  room-next h m = m ∙ rw (add-one, e, lent-is requests i, h)

@@ -1,0 +1,56 @@
+-- A stream of requests, each planned by the planner that the last one left, all into the same room.
+-- Assumes nothing.
+use Prim.Native.Nat.{ℕ, zero, suc, _+_, _*_, _/_}
+use mathlib.Core.List.{List}
+use lib.ListN.{length}
+use Rattle.num.specs.Bytes.{part}
+use Rattle.settings.specs.declared.Settings.{Settings}
+use Rattle.settings.specs.declared.SettingsRead.{SettingsRead}
+use Rattle.settings.specs.declared.SettingsRead.the-variants.{Refused as RefusedSettings, Accepted}
+use Rattle.settings.specs.Settings.{settingsRead}
+use Rattle.rules.specs.Neighbour.{split}
+use Rattle.plan.specs.declared.PlannerState.{PlannerState}
+use Rattle.plan.specs.declared.Outcome.{Outcome}
+use Rattle.plan.specs.declared.Outcome.the-variants.{Refused, Made}
+use Rattle.plan.specs.Planner.{freshPlanner}
+use Rattle.plan.specs.Call.{planNext, planRecords, planRoom}
+
+-- the records that a call has made
+unfoldable pub countOf : Outcome → ℕ
+countOf (Refused why) = 0
+countOf (Made n) = n
+
+-- request i of a stream
+abbrev pub requestAt : List ℕ → ℕ → List ℕ
+requestAt requests i = part requests (24 * i) 24
+
+-- the planner and the number of records after the first n requests, each with a room of so many bytes
+unfoldable pub plannerAt : Settings → List ℕ → ℕ → ℕ → PlannerState
+plannerAt s requests room zero = freshPlanner
+plannerAt s requests room (suc n) = planNext s split (plannerAt s requests room n) (requestAt requests n) room
+
+unfoldable pub recordsUpTo : Settings → List ℕ → ℕ → ℕ → ℕ
+recordsUpTo s requests room zero = 0
+recordsUpTo s requests room (suc n) =
+    recordsUpTo s requests room n + length (planRecords s split (plannerAt s requests room n) (requestAt requests n) room)
+
+-- the room after them: the records of each from its start on
+unfoldable pub roomUpTo : Settings → List ℕ → List ℕ → ℕ → List ℕ
+roomUpTo s requests room zero = room
+roomUpTo s requests room (suc n) =
+    planRoom s split (plannerAt s requests (length room) n) (requestAt requests n) (roomUpTo s requests room n)
+
+-- the whole stream, nothing where the settings are refused
+unfoldable pub recordsUnder : SettingsRead → List ℕ → ℕ → ℕ
+recordsUnder RefusedSettings requests room = 0
+recordsUnder (Accepted s) requests room = recordsUpTo s requests room (length requests / 24)
+
+unfoldable pub roomUnder : SettingsRead → List ℕ → List ℕ → List ℕ
+roomUnder RefusedSettings requests room = room
+roomUnder (Accepted s) requests room = roomUpTo s requests room (length requests / 24)
+
+unfoldable pub streamRecords : List ℕ → List ℕ → List ℕ → ℕ
+streamRecords settings requests room = recordsUnder (settingsRead settings) requests (length room)
+
+unfoldable pub streamRoom : List ℕ → List ℕ → List ℕ → List ℕ
+streamRoom settings requests room = roomUnder (settingsRead settings) requests room
