@@ -7,4 +7,3 @@ pub mod ListThenLog
 pub mod CopyLaws
 pub mod BadLaws
 pub mod RoundTrip
-pub mod QuickLaws

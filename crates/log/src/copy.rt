@@ -21,7 +21,7 @@ fn encode_answer(s: Settings, list: &[u8], room: usize) -> Copied
         return Copied::Refused(Refusal::Length);
     }
     let n = list.len() / 32;
-    let bad = crate::quick::first_bad(s, list);
+    let bad = scan::first_bad(s, list);
     if bad != n {
         return Copied::Refused(Refusal::Word(bad as u64));
     }

@@ -1,7 +1,6 @@
 // Blocks of 512 bytes, and logs of them (document 01, "Blocks").
 mod block;
 pub mod copy;
-mod quick;
 pub mod read;
 mod sum;
 mod write;

@@ -30,20 +30,13 @@ pub(crate) fn write_block(b: &mut [u8], k: u32, recs: &[u8])
     num::put_u32(b, 508, num::wide32(check));
 }
 
-// The lesser of two numbers.
-pub(crate) fn lesser(a: usize, b: usize) -> usize
-    ensures { λ r. ⌜ r ≡ min a b ⌝ }
-{
-    if a < b { a } else { b }
-}
-
 // Writes block k of the log of a list.
 fn write_at(log: &mut [u8], k: usize, list: &[u8])
     requires { ⌜ (512 * k + 512 ≤ length (now log)) × (480 * k ≤ length (now list)) × (k < 2 ^ 32) ⌝ }
     ensures { λ _. ⌜ now (log .exit) ≡ splice (now (log .entry)) (512 * k) (block k (part (now (list .entry)) (480 * k) 480)) ⌝ }
 {
     let from = 480 * k;
-    let end = lesser(from + 480, list.len());
+    let end = scan::lesser(from + 480, list.len());
     let at = 512 * k;
     let next = at + 512;
     write_block(&mut log[at..next], k as u32, &list[from..end]);

@@ -1,8 +1,8 @@
 -- `log::quick::word_right` meets its contract: each kind has the test of its words.
-use Rattle.log.proofs.QuickLaws.{word-says}
+use Rattle.scan.proofs.QuickLaws.{word-says}
 use borrow.Author.Needs.{needs}
-use Rattle.log.proofs.quick.word_right.Statement.{statement}
-use Rattle.log.proofs.quick.word_right.Tie as tie
+use Rattle.scan.proofs.word_right.Statement.{statement}
+use Rattle.scan.proofs.word_right.Tie as tie
 
 row-right-requires : tie.Need-row-right-requires
 row-right-requires c κs = search needs

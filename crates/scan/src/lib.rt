@@ -2,13 +2,13 @@
 // kinds and commands follow no pattern.
 ghost use mathlib.Core.Path.{_≡_};
 ghost use mathlib.Core.Bool.{true};
-ghost use Prim.Native.Nat.{_+_, _*_, _≤_};
+ghost use Prim.Native.Nat.{_+_, _*_, _≤_, min};
 ghost use lib.ListN.{length};
 ghost use Rattle.num.specs.Search.{allUpTo};
 ghost use Rattle.packet.specs.Row.{rowDecoded};
 ghost use Rattle.packet.specs.Col.{colDecoded};
 ghost use Rattle.record.specs.Record.{isKnown, rowRecord, colRecord, recordOf, wellFormed, recordAt, firstBad};
-ghost use Rattle.log.specs.Quick.{wordRight, dataRight};
+ghost use Rattle.scan.specs.Quick.{wordRight, dataRight};
 use packet::RowPacket;
 use settings::Settings;
 
@@ -96,14 +96,21 @@ fn part_right(s: Settings, list: &[u8], i: usize, n: usize) -> bool
     data & words_right(s, list, i, n)
 }
 
+// The lesser of two numbers.
+pub fn lesser(a: usize, b: usize) -> usize
+    ensures { λ r. ⌜ r ≡ min a b ⌝ }
+{
+    if a < b { a } else { b }
+}
+
 // The first bad record of a list, or the number of whole records; 15 records pass the quick test at a time.
-pub(crate) fn first_bad(s: Settings, list: &[u8]) -> usize
+pub fn first_bad(s: Settings, list: &[u8]) -> usize
     ensures { λ r. ⌜ r ≡ firstBad s (now (list .entry)) ⌝ }
 {
     let n = list.len() / 32;
     let mut i = 0;
     while i < n {
-        let m = crate::write::lesser(15, n - i);
+        let m = lesser(15, n - i);
         if part_right(s, list, i, m) {
             i += m;
         } else {

@@ -1,8 +1,8 @@
 -- `log::quick::col_right` meets its contract: a word that passes is that of a packet.
-use Rattle.log.proofs.QuickLaws.{col-says}
+use Rattle.scan.proofs.QuickLaws.{col-says}
 use borrow.Author.Needs.{needs}
-use Rattle.log.proofs.quick.col_right.Statement.{statement}
-use Rattle.log.proofs.quick.col_right.Tie as tie
+use Rattle.scan.proofs.col_right.Statement.{statement}
+use Rattle.scan.proofs.col_right.Tie as tie
 
 wide32-requires : tie.Need-wide32-requires
 wide32-requires c κs = search needs

@@ -4,11 +4,11 @@ use mathlib.Core.Bool.{_&&_}
 use Prim.Native.Nat.{_+_, _-_, _*_, _≤_}
 use native.Mathlib.Omega.{arith}
 use Rattle.num.specs.Search.{allUpTo}
-use Rattle.log.specs.Quick.{dataRight}
-use Rattle.log.proofs.QuickLaws.{all-next}
+use Rattle.scan.specs.Quick.{dataRight}
+use Rattle.scan.proofs.QuickLaws.{all-next}
 use borrow.Author.Needs.{needs}
-use Rattle.log.proofs.quick.datas_right.Statement.{statement}
-use Rattle.log.proofs.quick.datas_right.Tie as tie
+use Rattle.scan.proofs.datas_right.Statement.{statement}
+use Rattle.scan.proofs.datas_right.Tie as tie
 
 abbrev Inv-loop : tie.InvT-loop
 Inv-loop list i n right₀ k₀ right k = (k ≤ n) × (right ≡ allUpTo (λ j. dataRight list (32 * (i + j))) k)

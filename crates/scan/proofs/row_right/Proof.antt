@@ -1,8 +1,8 @@
 -- `log::quick::row_right` meets its contract: a word that passes is that of a packet.
-use Rattle.log.proofs.QuickLaws.{row-says}
+use Rattle.scan.proofs.QuickLaws.{row-says}
 use borrow.Author.Needs.{needs}
-use Rattle.log.proofs.quick.row_right.Statement.{statement}
-use Rattle.log.proofs.quick.row_right.Tie as tie
+use Rattle.scan.proofs.row_right.Statement.{statement}
+use Rattle.scan.proofs.row_right.Tie as tie
 
 row-word-requires : tie.Need-row-word-requires
 row-word-requires c κs = search needs

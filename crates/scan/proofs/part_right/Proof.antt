@@ -2,10 +2,10 @@
 use mathlib.Core.Path.{sym, _∙_}
 use mathlib.Core.Bool.{and-eq-true-iff}
 use native.Mathlib.Omega.{arith}
-use Rattle.log.proofs.QuickLaws.{parts-say}
+use Rattle.scan.proofs.QuickLaws.{parts-say}
 use borrow.Author.Needs.{needs}
-use Rattle.log.proofs.quick.part_right.Statement.{statement}
-use Rattle.log.proofs.quick.part_right.Tie as tie
+use Rattle.scan.proofs.part_right.Statement.{statement}
+use Rattle.scan.proofs.part_right.Tie as tie
 
 datas-right-requires : tie.Need-datas-right-requires
 datas-right-requires c κs = search needs

@@ -4,11 +4,11 @@ use mathlib.Core.Bool.{true, _&&_, and-eq-true-iff}
 use Prim.Native.Nat.{_+_, _-_, _*_, _≤_}
 use native.Mathlib.Omega.{arith}
 use Rattle.num.specs.Search.{allUpTo}
-use Rattle.log.specs.Quick.{wordRight}
-use Rattle.log.proofs.QuickLaws.{all-next}
+use Rattle.scan.specs.Quick.{wordRight}
+use Rattle.scan.proofs.QuickLaws.{all-next}
 use borrow.Author.Needs.{needs}
-use Rattle.log.proofs.quick.words_right.Statement.{statement}
-use Rattle.log.proofs.quick.words_right.Tie as tie
+use Rattle.scan.proofs.words_right.Statement.{statement}
+use Rattle.scan.proofs.words_right.Tie as tie
 
 abbrev Inv-loop : tie.InvT-loop
 Inv-loop s list i n right₀ k₀ right k = (k ≤ n) × (right ≡ true → allUpTo (λ j. wordRight s list (32 * (i + j))) k ≡ true)

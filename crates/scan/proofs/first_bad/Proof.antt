@@ -5,10 +5,10 @@ use Prim.Native.Nat.{ℕ, _-_, _<_, _≤_}
 use native.Mathlib.Omega.{arith}
 use Rattle.num.proofs.SearchLaws.{first-none}
 use Rattle.record.specs.Record.{wellFormed, firstBad, recordAt}
-use Rattle.log.proofs.QuickLaws.{part-more}
+use Rattle.scan.proofs.QuickLaws.{part-more}
 use borrow.Author.Needs.{needs}
-use Rattle.log.proofs.quick.first_bad.Statement.{statement}
-use Rattle.log.proofs.quick.first_bad.Tie as tie
+use Rattle.scan.proofs.first_bad.Statement.{statement}
+use Rattle.scan.proofs.first_bad.Tie as tie
 
 abbrev Inv-loop : tie.InvT-loop
 Inv-loop s list n i₀ i = (i ≤ n) × ((k : ℕ) → k < i → wellFormed s (recordAt list k) ≡ true)

@@ -1,7 +1,7 @@
 -- `log::quick::data_right` meets its contract: the three numbers are those of the record.
 use borrow.Author.Needs.{needs}
-use Rattle.log.proofs.quick.data_right.Statement.{statement}
-use Rattle.log.proofs.quick.data_right.Tie as tie
+use Rattle.scan.proofs.data_right.Statement.{statement}
+use Rattle.scan.proofs.data_right.Tie as tie
 
 add-u32-at : tie.Need-add-u32-at
 add-u32-at c = search needs
