@@ -16,8 +16,8 @@ use Rattle.settings.specs.declared.Settings.{Settings}
 use Rattle.record.specs.declared.Record.{Record}
 use native.Mathlib.Numerals.{add-one}
 use Rattle.record.specs.Record.{recordRead, recordAt, recordsIn, recordFits, wellFormed, firstBad}
-use Rattle.log.specs.Block.{used, blocksIn, blockAt, firstBadBlock, listOf}
-use Rattle.log.proofs.ListThenLog.{recordsAt, used-most, used-full, length-list, list-blocks, part-list}
+use Rattle.blocks.specs.Block.{used, blocksIn, blockAt, firstBadBlock, listOf}
+use Rattle.blocks.proofs.ListThenLog.{recordsAt, used-most, used-full, length-list, list-blocks, part-list}
 use Rattle.rules.specs.Neighbour.{split}
 use Rattle.rules.specs.Broken.{recordOf}
 use Rattle.rules.specs.Channel.{after}

@@ -12,7 +12,7 @@ use Rattle.record.specs.declared.RecordRead.{RecordRead}
 use Rattle.record.specs.declared.RecordRead.the-variants.{NoRecord, Known}
 use Rattle.record.specs.declared.Refusal.the-variants.{Word, Rule, Block, Length}
 use Rattle.record.specs.Record.{recordRead, recordAt, recordsIn, firstBad}
-use Rattle.log.specs.Block.{blocksIn, firstBadBlock, listOf}
+use Rattle.blocks.specs.Block.{blocksIn, firstBadBlock, listOf}
 use Rattle.rules.specs.Neighbour.{split}
 use Rattle.rules.specs.Broken.{ruleAt, firstBroken}
 use Rattle.checker.specs.declared.Judged.{Judged}

@@ -43,7 +43,7 @@ pub fn check_log(s: Settings, log: &[u8]) -> Judged
     if block != log.len() / 512 {
         return Judged::Refused(Refusal::Block(block as u64));
     }
-    let n = log::read::records_in(log);
+    let n = blocks::read::records_in(log);
     let bad = found.record;
     if bad != n {
         return Judged::Refused(Refusal::Word(bad as u64));

@@ -12,9 +12,9 @@ use Rattle.num.proofs.PartLaws.{part-left, part-right, length-part-le}
 use Rattle.num.proofs.SearchLaws.{first-same, first-le, first-join}
 use Rattle.settings.specs.declared.Settings.{Settings}
 use Rattle.record.specs.Record.{wellFormed, recordAt, recordsIn, firstBad}
-use Rattle.log.specs.Block.{used, blocksIn, blockAt, firstBadBlock, listUpTo}
-use Rattle.log.proofs.BlockLaws.{list-next}
-use Rattle.log.proofs.ListThenLog.{length-upTo}
+use Rattle.blocks.specs.Block.{used, blocksIn, blockAt, firstBadBlock, listUpTo}
+use Rattle.blocks.proofs.BlockLaws.{list-next}
+use Rattle.blocks.proofs.ListThenLog.{length-upTo}
 
 -- a list whose first n records are l
 bad-append : (s : Settings) (l r : List ℕ) (n : ℕ) → length l ≡ 32 * n

@@ -1,9 +1,3 @@
-pub mod BlockLaws
-pub mod WriteLaws
-pub mod ReadLaws
-pub mod OneBlock
-pub mod LogThenList
-pub mod ListThenLog
 pub mod CopyLaws
 pub mod BadLaws
 pub mod RoundTrip

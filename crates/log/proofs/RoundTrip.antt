@@ -12,10 +12,10 @@ use Rattle.settings.specs.declared.Settings.{Settings}
 use Rattle.record.specs.declared.Refusal.{Refusal}
 use Rattle.record.specs.Record.{recordsIn}
 use Rattle.log.specs.declared.Copied.the-variants.{Refused, Count}
-use Rattle.log.specs.Block.{logOf, blocksIn, listOf}
+use Rattle.blocks.specs.Block.{logOf, blocksIn, listOf}
 use Rattle.log.specs.Log.{copied, encodeAnswer, encodeLog, decodeAnswer, decodeLog}
-use Rattle.log.proofs.LogThenList.{log-whole, log-right, log-then-list}
-use Rattle.log.proofs.ListThenLog.{list-whole, list-blocks, blocks-most, list-then-log}
+use Rattle.blocks.proofs.LogThenList.{log-whole, log-right, log-then-list}
+use Rattle.blocks.proofs.ListThenLog.{list-whole, list-blocks, blocks-most, list-then-log}
 use Rattle.log.proofs.CopyLaws.{encoded, decoded}
 
 -- a list that was encoded, in however much room, is decoded from its log into any list that has room for it

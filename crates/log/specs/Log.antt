@@ -12,7 +12,7 @@ use Rattle.record.specs.declared.Refusal.the-variants.{Full, Word, Block, Lengt
 use Rattle.record.specs.Record.{firstBad, recordsIn}
 use Rattle.log.specs.declared.Copied.{Copied}
 use Rattle.log.specs.declared.Copied.the-variants.{Refused, Count}
-use Rattle.log.specs.Block.{blockCount, logOf, blocksIn, firstBadBlock, listOf}
+use Rattle.blocks.specs.Block.{blockCount, logOf, blocksIn, firstBadBlock, listOf}
 
 -- the lent buffer after a call: what was made goes to its start, and "a refusal changes no lent buffer"
 unfoldable pub copied : Copied → List ℕ → List ℕ → List ℕ

@@ -6,7 +6,7 @@ ghost use lib.Dec.{eqb};
 ghost use lib.ListN.{length};
 ghost use Rattle.num.specs.Bytes.{part};
 ghost use Rattle.record.specs.Record.{firstBad};
-ghost use Rattle.log.specs.Block.{used, blocksIn, blockAt, firstBadBlock, listOf};
+ghost use Rattle.blocks.specs.Block.{used, blocksIn, blockAt, firstBadBlock, listOf};
 ghost use Rattle.log.specs.Log.{encodeAnswer, encodeLog, decodeAnswer, decodeLog};
 use crate::Copied;
 use crate::Faults;
@@ -38,7 +38,7 @@ pub fn encode(s: Settings, list: &[u8], log: &mut [u8]) -> Copied
 {
     let answer = encode_answer(s, list, log.len());
     if let Copied::Count(_) = answer {
-        crate::write::write_log(list, log);
+        blocks::write::write_log(list, log);
     }
     answer
 }
@@ -49,7 +49,7 @@ fn bad_in_block(s: Settings, log: &[u8], k: usize) -> usize
     ensures { λ r. ⌜ r ≡ firstBad s (part (blockAt (now (log .entry)) k) 0 (32 * used (blockAt (now (log .entry)) k))) ⌝ }
 {
     let at = 512 * k;
-    let end = at + 32 * crate::read::used_at(log, k);
+    let end = at + 32 * blocks::read::used_at(log, k);
     record::records::first_bad(s, &log[at..end])
 }
 
@@ -73,7 +73,7 @@ pub fn faults(s: Settings, log: &[u8]) -> Faults
     let mut bad = 0;
     let mut k = 0;
     while k < n {
-        if !crate::block::right_at(log, k) {
+        if !blocks::right_at(log, k) {
             return Faults {
                 block: k,
                 record: bad,
@@ -99,7 +99,7 @@ fn decode_answer(s: Settings, log: &[u8], room: usize) -> Copied
     if found.block != log.len() / 512 {
         return Copied::Refused(Refusal::Block(found.block as u64));
     }
-    let n = crate::read::records_in(log);
+    let n = blocks::read::records_in(log);
     if found.record != n {
         return Copied::Refused(Refusal::Word(found.record as u64));
     }
@@ -115,7 +115,7 @@ pub fn decode(s: Settings, log: &[u8], list: &mut [u8]) -> Copied
 {
     let answer = decode_answer(s, log, list.len());
     if let Copied::Count(_) = answer {
-        crate::read::read_list(log, list);
+        blocks::read::read_list(log, list);
     }
     answer
 }

@@ -1,9 +1,5 @@
-// Blocks of 512 bytes, and logs of them (document 01, "Blocks").
-mod block;
+// Logs: a list of records to blocks and back (document 01, "Blocks").
 pub mod copy;
-pub mod read;
-mod sum;
-mod write;
 
 use record::Refusal;
 

@@ -1,4 +1,4 @@
--- `log::quick::col_right` meets its contract: a word that passes is that of a packet.
+-- `scan::col_right` meets its contract: a word that passes is that of a packet.
 use Rattle.scan.proofs.QuickLaws.{col-says}
 use borrow.Author.Needs.{needs}
 use Rattle.scan.proofs.col_right.Statement.{statement}

@@ -1,4 +1,4 @@
--- `log::quick::data_right` meets its contract: the three numbers are those of the record.
+-- `scan::data_right` meets its contract: the three numbers are those of the record.
 use borrow.Author.Needs.{needs}
 use Rattle.scan.proofs.data_right.Statement.{statement}
 use Rattle.scan.proofs.data_right.Tie as tie

@@ -1,4 +1,4 @@
--- `log::quick::datas_right` meets its contract: after k turns the first k records have data by their kinds.
+-- `scan::datas_right` meets its contract: after k turns the first k records have data by their kinds.
 use mathlib.Core.Path.{_≡_, sym, _∙_, ap₂}
 use mathlib.Core.Bool.{_&&_}
 use Prim.Native.Nat.{_+_, _-_, _*_, _≤_}

@@ -1,4 +1,4 @@
--- `log::quick::first_bad` meets its contract: every record of the parts passed so far is well formed.
+-- `scan::first_bad` meets its contract: every record of the parts passed so far is well formed.
 use mathlib.Core.Path.{_≡_, _∙_, sym}
 use mathlib.Core.Bool.{true}
 use Prim.Native.Nat.{ℕ, _-_, _<_, _≤_}

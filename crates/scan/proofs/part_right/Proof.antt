@@ -1,4 +1,4 @@
--- `log::quick::part_right` meets its contract: a record whose word and data are right is one.
+-- `scan::part_right` meets its contract: a record whose word and data are right is one.
 use mathlib.Core.Path.{sym, _∙_}
 use mathlib.Core.Bool.{and-eq-true-iff}
 use native.Mathlib.Omega.{arith}

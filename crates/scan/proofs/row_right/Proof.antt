@@ -1,4 +1,4 @@
--- `log::quick::row_right` meets its contract: a word that passes is that of a packet.
+-- `scan::row_right` meets its contract: a word that passes is that of a packet.
 use Rattle.scan.proofs.QuickLaws.{row-says}
 use borrow.Author.Needs.{needs}
 use Rattle.scan.proofs.row_right.Statement.{statement}

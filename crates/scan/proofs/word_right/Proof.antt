@@ -1,4 +1,4 @@
--- `log::quick::word_right` meets its contract: each kind has the test of its words.
+-- `scan::word_right` meets its contract: each kind has the test of its words.
 use Rattle.scan.proofs.QuickLaws.{word-says}
 use borrow.Author.Needs.{needs}
 use Rattle.scan.proofs.word_right.Statement.{statement}

@@ -1,4 +1,4 @@
--- `log::quick::words_right` meets its contract: after k turns the first k records may have their words.
+-- `scan::words_right` meets its contract: after k turns the first k records may have their words.
 use mathlib.Core.Path.{_≡_, refl, _∙_}
 use mathlib.Core.Bool.{true, _&&_, and-eq-true-iff}
 use Prim.Native.Nat.{_+_, _-_, _*_, _≤_}

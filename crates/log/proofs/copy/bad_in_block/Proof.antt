@@ -2,8 +2,8 @@
 use Prim.Native.Nat.{_+_, _-_, _*_}
 use mathlib.Core.Path.{_≡_}
 use native.Mathlib.Omega.{arith}
-use Rattle.log.specs.Block.{used, blockAt}
-use Rattle.log.proofs.ReadLaws.{used-part}
+use Rattle.blocks.specs.Block.{used, blockAt}
+use Rattle.blocks.proofs.ReadLaws.{used-part}
 use borrow.Author.Needs.{needs}
 use Rattle.log.proofs.copy.bad_in_block.Statement.{statement}
 use Rattle.log.proofs.copy.bad_in_block.Tie as tie

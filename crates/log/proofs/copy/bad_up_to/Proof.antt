@@ -2,7 +2,7 @@
 use Prim.Native.Nat.{_*_}
 use native.Mathlib.Omega.{arith}
 use borrow.Author.Tests.{eq-eqb, ne-eqb}
-use Rattle.log.specs.Block.{used, blockAt}
+use Rattle.blocks.specs.Block.{used, blockAt}
 use Rattle.log.proofs.BadLaws.{bad-most}
 use borrow.Author.Needs.{needs}
 use Rattle.log.proofs.copy.bad_up_to.Statement.{statement}

@@ -3,7 +3,7 @@ use mathlib.Core.Path.{_∙_, sym}
 use native.Mathlib.Omega.{arith}
 use Rattle.log.specs.Log.{decodeLog, copied}
 use Rattle.log.proofs.CopyLaws.{decoded}
-use Rattle.log.proofs.ListThenLog.{list-whole}
+use Rattle.blocks.proofs.ListThenLog.{list-whole}
 use borrow.Author.Needs.{needs}
 use Rattle.log.proofs.copy.decode.Statement.{statement}
 use Rattle.log.proofs.copy.decode.Tie as tie

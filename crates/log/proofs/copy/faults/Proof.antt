@@ -10,8 +10,8 @@ use borrow.Author.Tests.{not-true, not-false}
 use Rattle.num.specs.Search.{firstFalse}
 use Rattle.num.proofs.SearchLaws.{first-at, first-none}
 use Rattle.record.specs.Record.{firstBad}
-use Rattle.log.specs.Block.{blockRight, blocksIn, blockAt, firstBadBlock, listUpTo, listOf}
-use Rattle.log.proofs.OneBlock.{Right, right-of}
+use Rattle.blocks.specs.Block.{blockRight, blocksIn, blockAt, firstBadBlock, listUpTo, listOf}
+use Rattle.blocks.proofs.OneBlock.{Right, right-of}
 use Rattle.log.proofs.BadLaws.{bad-next}
 use borrow.Author.Needs.{needs}
 use Rattle.log.proofs.copy.faults.Statement.{statement}

@@ -1,0 +1,6 @@
+pub mod BlockLaws
+pub mod WriteLaws
+pub mod ReadLaws
+pub mod OneBlock
+pub mod LogThenList
+pub mod ListThenLog

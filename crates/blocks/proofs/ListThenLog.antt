@@ -1,0 +1,167 @@
+-- A log whose blocks are all right: how many records each block has, the length of the list that the log keeps, and that
+-- this list encodes back to the same log.
+-- Assumes nothing.
+use Prim.Native.Nat.{ℕ, zero, suc, _+_, _*_, _/_, _%_, _^_, _<_, _≤_}
+use mathlib.Core.Path.{_≡_, refl, sym, _∙_, ap, ap₂}
+use mathlib.Core.List.{List, [], _++_}
+use mathlib.Core.Logic.{_⊎_, ⊎-elim}
+use native.Mathlib.Nat.{eq-or-lt-of-le, le-of-suc-le-suc}
+use native.Mathlib.Omega.{arith}
+use lib.Dec.{eqb}
+use lib.ListN.{length, take, length-append}
+use lib.Seq.{take-add, take-all}
+use borrow.Author.Tests.{ne-eqb}
+use Rattle.num.specs.Bytes.{part, Bytes}
+use Rattle.num.proofs.SearchLaws.{first-before}
+use Rattle.num.proofs.PartLaws.{length-part, part-all, part-left, part-seam, Bytes-part, Bytes-append, Bytes-zeros, number-fits}
+use Rattle.blocks.specs.Block.{block, blockCount, logUpTo, logOf, blockAt, used, blocksIn, firstBadBlock, listUpTo, listOf}
+use Rattle.blocks.proofs.BlockLaws.{list-next, rightAt}
+use Rattle.blocks.proofs.OneBlock.{Right, right-of, block-back}
+
+-- the used records of block k of a log
+abbrev pub recordsAt : List ℕ → ℕ → List ℕ
+recordsAt log k = part (blockAt log k) 0 (32 * used (blockAt log k))
+
+Bytes-upTo : (log : List ℕ) → Bytes log → (n : ℕ) → Bytes (listUpTo log n)
+unfolding listUpTo
+Bytes-upTo log h zero = Bytes-zeros 0
+Bytes-upTo log h (suc n) =
+    Bytes-append (listUpTo log n) (recordsAt log n) (Bytes-upTo log h n)
+    (Bytes-part (blockAt log n) 0 (32 * used (blockAt log n)) (Bytes-part log (512 * n) 512 h))
+
+pub Bytes-list : (log : List ℕ) → Bytes log → Bytes (listOf log)
+unfolding listOf
+Bytes-list log h = Bytes-upTo log h (blocksIn log)
+
+-- an empty log keeps an empty list
+pub list-none : (log : List ℕ) → blocksIn log ≡ 0 → listOf log ≡ []
+unfolding listOf listUpTo
+list-none log e = rw e
+
+module _ (log : List ℕ) (good : firstBadBlock log ≡ blocksIn log) where
+  -- ---- each block
+
+  pub right-at : (k : ℕ) → k < blocksIn log → Right k (eqb (k + 1) (blocksIn log)) (blockAt log k)
+  unfolding firstBadBlock
+  right-at k h =
+      right-of k (eqb (k + 1) (blocksIn log)) (blockAt log k) (first-before (rightAt log) (blocksIn log) k (omega arith))
+
+  length-blockAt : (k : ℕ) → k < blocksIn log → length (blockAt log k) ≡ 512
+  length-blockAt k h = length-part log (512 * k) 512 (omega arith)
+
+  -- "records used 4 (1 to 15)"
+  pub used-some : (k : ℕ) → k < blocksIn log → 1 ≤ used (blockAt log k)
+  used-some k h = right-at k h .used-some
+
+  pub used-most : (k : ℕ) → k < blocksIn log → used (blockAt log k) ≤ 15
+  used-most k h = right-at k h .used-most
+
+  -- "Only the last block may be short."
+  pub used-full : (k : ℕ) → k + 1 < blocksIn log → used (blockAt log k) ≡ 15
+  used-full k h =
+      let n : k + 1 ≡ blocksIn log → ⊥ = λ e. omega arith in
+      right-at k (omega arith) .used-full (ne-eqb (k + 1) (blocksIn log) n)
+
+  -- "block number 4 (from 0)": so there are at most 2^32 blocks
+  pub blocks-most : Bytes log → blocksIn log ≤ 2 ^ 32
+  blocks-most hb = go (blocksIn log) refl
+    where
+      go : (m : ℕ) → blocksIn log ≡ m → m ≤ 2 ^ 32
+      go zero e = omega arith
+      go (suc m) e =
+          let b : List ℕ = blockAt log m in
+          let r = right-at m (omega arith) .number-is in
+          let s = length-blockAt m (omega arith) in
+          let w = number-fits b 480 4 (Bytes-part log (512 * m) 512 hb) (omega arith) in
+          omega arith
+
+  pub length-records : (k : ℕ) → k < blocksIn log → length (recordsAt log k) ≡ 32 * used (blockAt log k)
+  length-records k h =
+      let s = length-blockAt k h in
+      let u = used-most k h in
+      length-part (blockAt log k) 0 (32 * used (blockAt log k)) (omega arith)
+
+  -- ---- the list
+
+  -- blocks before the last are full
+  pub length-upTo : (n : ℕ) → n < blocksIn log → length (listUpTo log n) ≡ 480 * n
+  unfolding listUpTo
+  length-upTo zero h = refl
+  length-upTo (suc n) h =
+      let i = length-upTo n (omega arith) in
+      let u = used-full n (omega arith) in
+      let r = length-records n (omega arith) in
+      simp (length-append, i, r) (omega arith)
+
+  pub length-next : (n : ℕ) → n < blocksIn log → length (listUpTo log (n + 1)) ≡ 32 * (15 * n + used (blockAt log n))
+  length-next n h =
+      let i = length-upTo n h in
+      let r = length-records n h in
+      rw (list-next log n, length-append, i, r) (omega arith)
+
+  -- the length of the list, with m blocks before the last
+  pub length-list : (m : ℕ) → blocksIn log ≡ m + 1 → length (listOf log) ≡ 32 * (15 * m + used (blockAt log m))
+  unfolding listOf
+  length-list m e = rw e (length-next m (omega arith))
+
+  pub list-whole : length (listOf log) % 32 ≡ 0
+  list-whole = go (blocksIn log) refl
+    where
+      go : (m : ℕ) → blocksIn log ≡ m → length (listOf log) % 32 ≡ 0
+      go zero e = rw (list-none log e)
+      go (suc m) e = let l = length-list m (omega arith) in omega arith
+
+  -- the list takes as many blocks as the log has
+  pub list-blocks : blockCount (length (listOf log) / 32) ≡ blocksIn log
+  list-blocks = go (blocksIn log) refl
+    where
+      go : (m : ℕ) → blocksIn log ≡ m → blockCount (length (listOf log) / 32) ≡ blocksIn log
+      go zero e = rw (list-none log e, e)
+      go (suc m) e =
+          let l = length-list m (omega arith) in
+          let s = used-some m (omega arith) in
+          let t = used-most m (omega arith) in
+          omega arith
+
+  -- the records of block k stand from 15 × k on
+  part-upTo : (n k : ℕ) → n ≤ blocksIn log → k < n → part (listUpTo log n) (480 * k) 480 ≡ recordsAt log k
+  unfolding listUpTo
+  part-upTo zero k h l = absurd (omega arith)
+  part-upTo (suc n) k h l = go (λ m. part-upTo n k (omega arith) m) (eq-or-lt-of-le (le-of-suc-le-suc l))
+    where
+      go : (k < n → part (listUpTo log n) (480 * k) 480 ≡ recordsAt log k) → (k ≡ n) ⊎ (k < n)
+          → part (listUpTo log n ++ recordsAt log n) (480 * k) 480 ≡ recordsAt log k
+      go ih =
+          let e = length-upTo n (omega arith) in
+          let r = length-records n (omega arith) in
+          let u = used-most n (omega arith) in
+          ⊎-elim
+          (λ q. rw q (part-seam (listUpTo log n) (recordsAt log n) (480 * n) 480 e ∙ part-all (recordsAt log n) 480 (omega arith)))
+          (λ m. part-left (listUpTo log n) (recordsAt log n) (480 * k) 480 (omega arith) ∙ ih m)
+
+  pub part-list : (k : ℕ) → k < blocksIn log → part (listOf log) (480 * k) 480 ≡ recordsAt log k
+  unfolding listOf
+  part-list k h = part-upTo (blocksIn log) k (omega arith) h
+
+  -- ---- back to the log
+
+  logUpTo-list : Bytes log → (n : ℕ) → n ≤ blocksIn log → logUpTo (listOf log) n ≡ take (512 * n) log
+  unfolding logUpTo
+  logUpTo-list hb zero h = refl
+  logUpTo-list hb (suc n) h =
+      let m : n < blocksIn log = omega arith in
+      let e : 512 * n + 512 ≡ 512 * suc n = omega arith in
+      let b : List ℕ = blockAt log n in
+      let p : block n (part (listOf log) (480 * n) 480) ≡ b =
+      ap (block n) (part-list n m)
+      ∙ block-back n (eqb (n + 1) (blocksIn log)) b (length-blockAt n m) (Bytes-part log (512 * n) 512 hb) (right-at n m)
+      in
+      ap₂ _++_ (logUpTo-list hb n (omega arith)) p ∙ sym (take-add (512 * n) 512 log) ∙ ap (λ (i : ℕ). take i log) e
+
+-- a log of whole blocks that are all right encodes back to the same bytes
+pub list-then-log : (log : List ℕ) → Bytes log → length log % 512 ≡ 0 → firstBadBlock log ≡ blocksIn log → logOf (listOf log) ≡ log
+unfolding logOf
+list-then-log log hb hw good =
+    ap (logUpTo (listOf log)) (list-blocks log good)
+    ∙ logUpTo-list log good hb (blocksIn log) (omega arith)
+    ∙ take-all (512 * blocksIn log) log (omega arith)
