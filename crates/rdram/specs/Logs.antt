@@ -3,6 +3,7 @@
 use Prim.Native.Nat.{ℕ}
 use mathlib.Core.List.{List}
 use lib.ListN.{length}
+use Rattle.settings.specs.declared.Settings.{Settings}
 use Rattle.settings.specs.declared.SettingsRead.{SettingsRead}
 use Rattle.settings.specs.declared.SettingsRead.the-variants.{Refused, Accepted}
 use Rattle.settings.specs.Settings.{settingsRead}
@@ -18,32 +19,24 @@ unfoldable pub copyAnswer : Copied → CopyAnswer
 copyAnswer (copied.Refused r) = record { number = answerOf r .number; place = answerOf r .place; count = 0 }
 copyAnswer (copied.Count n) = record { number = 0; place = 0; count = n }
 
--- 1 for settings out of range, then what encoding under the settings answers; the log changes only in an accepted call
-unfoldable pub encodeUnder : SettingsRead → List ℕ → ℕ → CopyAnswer
-encodeUnder Refused list room = copyAnswer (copied.Refused refusal.Settings)
-encodeUnder (Accepted s) list room = copyAnswer (encodeAnswer s list room)
+-- 1 for settings out of range, then what the call answers under the settings
+unfoldable pub copyUnder : (Settings → Copied) → SettingsRead → CopyAnswer
+copyUnder answer Refused = copyAnswer (copied.Refused refusal.Settings)
+copyUnder answer (Accepted s) = copyAnswer (answer s)
 
-unfoldable pub encodedUnder : SettingsRead → List ℕ → List ℕ → List ℕ
-encodedUnder Refused list log = log
-encodedUnder (Accepted s) list log = encodeLog s list log
+-- the lent buffer, which changes only in an accepted call
+unfoldable pub copiedUnder : (Settings → List ℕ) → List ℕ → SettingsRead → List ℕ
+copiedUnder new old Refused = old
+copiedUnder new old (Accepted s) = new s
 
 unfoldable pub logEncodeAnswer : List ℕ → List ℕ → List ℕ → CopyAnswer
-logEncodeAnswer settings list log = encodeUnder (settingsRead settings) list (length log)
+logEncodeAnswer settings list log = copyUnder (λ s. encodeAnswer s list (length log)) (settingsRead settings)
 
 unfoldable pub logEncoded : List ℕ → List ℕ → List ℕ → List ℕ
-logEncoded settings list log = encodedUnder (settingsRead settings) list log
-
--- the same for decoding, and the list
-unfoldable pub decodeUnder : SettingsRead → List ℕ → ℕ → CopyAnswer
-decodeUnder Refused log room = copyAnswer (copied.Refused refusal.Settings)
-decodeUnder (Accepted s) log room = copyAnswer (decodeAnswer s log room)
-
-unfoldable pub decodedUnder : SettingsRead → List ℕ → List ℕ → List ℕ
-decodedUnder Refused log list = list
-decodedUnder (Accepted s) log list = decodeLog s log list
+logEncoded settings list log = copiedUnder (λ s. encodeLog s list log) log (settingsRead settings)
 
 unfoldable pub logDecodeAnswer : List ℕ → List ℕ → List ℕ → CopyAnswer
-logDecodeAnswer settings log list = decodeUnder (settingsRead settings) log (length list)
+logDecodeAnswer settings log list = copyUnder (λ s. decodeAnswer s log (length list)) (settingsRead settings)
 
 unfoldable pub logDecoded : List ℕ → List ℕ → List ℕ → List ℕ
-logDecoded settings log list = decodedUnder (settingsRead settings) log list
+logDecoded settings log list = copiedUnder (λ s. decodeLog s log list) list (settingsRead settings)

@@ -7,9 +7,9 @@ use mathlib.Core.List.{List}
 use native.Mathlib.Omega.{arith}
 use native.Mathlib.Numerals.{add-one}
 use native.Mathlib.Nat.{add-zero}
-use lib.Dec.{eqb, leb, ltb}
+use lib.Dec.{eqb, ltb}
 use lib.ListN.{length, getD}
-use borrow.Author.Tests.{leb-true, ltb-true, ltb-false, eqb-true, eqb-false, eq-eqb, ne-eqb, lt-ltb}
+use borrow.Author.Tests.{ltb-true, ltb-false, eqb-true, eqb-false, eq-eqb, ne-eqb, lt-ltb}
 use Rattle.num.specs.Bytes.{number, part}
 use Rattle.num.specs.Search.{allUpTo}
 use Rattle.num.proofs.SearchLaws.{all-at, all-intro}
@@ -54,26 +54,41 @@ row-other device rows w rop a b l k =
     let r : w % 2 ^ 12 ≡ rop = omega arith in
     rw (eq-eqb _ _ a, ne-eqb _ _ m, r) (k (w / 2 ^ 13 % 32))
 
-pub row-says : (device rows w head r : ℕ) → head ≡ rowWord device (Prer 0) → r ≡ rows
-    → (eqb (w / 2 ^ 18) (head / 2 ^ 18) && ((leb 4096 (w % 2 ^ 13) && ltb (w % 2 ^ 13) (4096 + r)) || ((eqb (w % 2 ^ 13) 0x600 || eqb (w % 2 ^ 13) 0x0C0) || eqb (w % 2 ^ 13) 0x540))) ≡ true
-    → rowKnown device rows w ≡ true
+-- the difference of a word without its bank and the device's
+row-fields : (w head y : ℕ) → head < 2 ^ 64 → (y + head / 2 ^ 18 * 2 ^ 18) % 2 ^ 64 ≡ w / 2 ^ 18 * 2 ^ 18 + w % 2 ^ 13 → y < 2 ^ 13
+    → (w / 2 ^ 18 ≡ head / 2 ^ 18) × (w % 2 ^ 13 ≡ y)
+row-fields w head y b e l =
+    let f : y + head / 2 ^ 18 * 2 ^ 18 ≡ w / 2 ^ 18 * 2 ^ 18 + w % 2 ^ 13 = omega arith in
+    (omega arith, omega arith)
+
+act-fields : (w x rows : ℕ) → w % 2 ^ 13 ≡ x + 4096 → x < 4096 → x < rows → (w / 2 ^ 12 % 2 ≡ 1) × (w % 2 ^ 12 < rows)
+act-fields w x rows e l m = (omega arith, omega arith)
+
+pub row-says : (device rows w head r y x : ℕ) → head ≡ rowWord device (Prer 0) → head < 2 ^ 64 → r ≡ rows
+    → (y + head / 2 ^ 18 * 2 ^ 18) % 2 ^ 64 ≡ w / 2 ^ 18 * 2 ^ 18 + w % 2 ^ 13 → (x + 4096) % 2 ^ 64 ≡ y
+    → ((((ltb x 4096 && ltb x r) || eqb y 0x600) || eqb y 0x0C0) || eqb y 0x540) ≡ true → rowKnown device rows w ≡ true
 unfolding rowWord rowFields rowOf rowRecord isKnown
-row-says device rows w head r eh er e =
-    let low = w % 2 ^ 13 in
-    let p = and-eq-true-iff (eqb (w / 2 ^ 18) (head / 2 ^ 18)) _ .0 e in
-    let q = eqb-true (w / 2 ^ 18) (head / 2 ^ 18) (p .0) in
-    let d : w / 2 ^ 18 ≡ deviceHead device = omega arith in
-    let op : (rop : ℕ) → rop < 2 ^ 12 → ((bank : ℕ) → isKnown (rowRecord 0 (rowOf bank rop)) ≡ true) → eqb low rop ≡ true → rowKnown device rows w ≡ true
-    = λ rop l k t. row-other device rows w rop d (eqb-true low rop t) l k in
-    or-case (leb 4096 low && ltb low (4096 + r)) _ (p .1)
-    (λ t.
-    let a = and-eq-true-iff (leb 4096 low) (ltb low (4096 + r)) .0 t in
-    let b = leb-true 4096 low (a .0) in
-    let c = ltb-true low (4096 + r) (a .1) in
-    row-act device rows w d (omega arith) (omega arith))
-    (λ t. or-case (eqb low 0x600 || eqb low 0x0C0) (eqb low 0x540) t
-    (λ u. or-case (eqb low 0x600) (eqb low 0x0C0) u (op 0x600 (omega arith) (λ bank. refl)) (op 0x0C0 (omega arith) (λ bank. refl)))
-    (op 0x540 (omega arith) (λ bank. refl)))
+row-says device rows w head r y x eh hh er ey ex e =
+    let top : head / 2 ^ 18 ≡ deviceHead device = omega arith in
+    let op : (rop : ℕ) → rop < 2 ^ 12 → ((bank : ℕ) → isKnown (rowRecord 0 (rowOf bank rop)) ≡ true) → eqb y rop ≡ true → rowKnown device rows w ≡ true = λ rop l k t.
+    let q = eqb-true y rop t in
+    let f = row-fields w head y hh ey (omega arith) in
+    row-other device rows w rop (f .0 ∙ top) (f .1 ∙ q) l k
+    in
+    or-case (((ltb x 4096 && ltb x r) || eqb y 0x600) || eqb y 0x0C0) (eqb y 0x540) e
+    (λ t. or-case ((ltb x 4096 && ltb x r) || eqb y 0x600) (eqb y 0x0C0) t
+    (λ u. or-case (ltb x 4096 && ltb x r) (eqb y 0x600) u
+    (λ v.
+    let a = and-eq-true-iff (ltb x 4096) (ltb x r) .0 v in
+    let b = ltb-true x 4096 (a .0) in
+    let c = ltb-true x r (a .1) in
+    let g : y ≡ x + 4096 = omega arith in
+    let f = row-fields w head y hh ey (omega arith) in
+    let h = act-fields w x rows (f .1 ∙ g) b (rw er at c) in
+    row-act device rows w (f .0 ∙ top) (h .0) (h .1))
+    (op 0x600 (omega arith) (λ bank. refl)))
+    (op 0x0C0 (omega arith) (λ bank. refl)))
+    (op 0x540 (omega arith) (λ bank. refl))
 
 -- ---- COL words
 
@@ -81,15 +96,14 @@ abbrev colKnown : ℕ → ℕ → ℕ → Bool
 colKnown device columns w = isKnown (colRecord 0 (colDecoded device columns w))
 
 -- M and the bits below it say a mask
-mask-says : (device w : ℕ) → ((leb 0x10000 (w % 2 ^ 17) && ltb (w % 2 ^ 17) 0x1FFFF) || eqb (w % 2 ^ 17) (device * 2048)) ≡ true
+mask-says : (device w y : ℕ) → (y + 0x10000) % 2 ^ 64 ≡ w % 2 ^ 17 → (ltb y 0xFFFF || eqb (w % 2 ^ 17) (device * 2048)) ≡ true
     → maskSaid device (w / 2 ^ 16 % 2) (w % 2 ^ 16) ≡ true
 unfolding maskSaid
-mask-says device w e =
-    or-case (leb 0x10000 (w % 2 ^ 17) && ltb (w % 2 ^ 17) 0x1FFFF) _ e
+mask-says device w y ey e =
+    or-case (ltb y 0xFFFF) _ e
     (λ t.
-    let a = and-eq-true-iff (leb 0x10000 (w % 2 ^ 17)) (ltb (w % 2 ^ 17) 0x1FFFF) .0 t in
-    let b = leb-true 0x10000 (w % 2 ^ 17) (a .0) in
-    let c = ltb-true (w % 2 ^ 17) 0x1FFFF (a .1) in
+    let a = ltb-true y 0xFFFF t in
+    let b : w % 2 ^ 17 ≡ y + 0x10000 = omega arith in
     let m : w / 2 ^ 16 % 2 ≡ 1 = omega arith in
     let l : w % 2 ^ 16 < 0xFFFF = omega arith in
     rw (eq-eqb _ _ m, lt-ltb _ _ l))
@@ -139,17 +153,17 @@ rd-known : (columns bank column mask : ℕ) → column < columns → isKnown (co
 unfolding colOf colRecord isKnown
 rd-known columns bank column mask l = rw (lt-ltb _ _ l)
 
-pub col-says : (device columns w d d2 n : ℕ) → d ≡ device → d2 ≡ device → n ≡ columns
-    → (((leb 0x10000 (w % 2 ^ 17) && ltb (w % 2 ^ 17) 0x1FFFF) || eqb (w % 2 ^ 17) (d2 * 2048))
+pub col-says : (device columns w d d2 n y : ℕ) → d ≡ device → d2 ≡ device → n ≡ columns → (y + 0x10000) % 2 ^ 64 ≡ w % 2 ^ 17
+    → ((ltb y 0xFFFF || eqb (w % 2 ^ 17) (d2 * 2048))
     && (eqb (w / 2 ^ 17) ((32 + d) * 2 ^ 17) || (eqb (w / 2 ^ 34) (32 + d)
     && ((ltb (w / 2 ^ 21 % 256) 128 && ltb (w / 2 ^ 21 % 256) n) && (eqb (w / 2 ^ 17 % 16) 1 || eqb (w / 2 ^ 17 % 16) 3))))) ≡ true
     → colKnown device columns w ≡ true
-col-says device columns w d d2 n ed ed2 en e =
+col-says device columns w d d2 n y ed ed2 en ey e =
     let e' = rw (ed, ed2, en) at e in
     let column = w / 2 ^ 21 % 256 in
     let cop = w / 2 ^ 17 % 16 in
     let p = and-eq-true-iff _ _ .0 e' in
-    let said = mask-says device w (p .0) in
+    let said = mask-says device w y ey (p .0) in
     or-case (eqb (w / 2 ^ 17) ((32 + device) * 2 ^ 17)) _ (p .1)
     (λ t. col-nocop device columns w (eqb-true _ _ t) said)
     (λ t.

@@ -12,15 +12,15 @@ ghost use Rattle.scan.specs.Quick.{wordRight, dataRight};
 use packet::RowPacket;
 use settings::Settings;
 
-// Whether a ROW word says a packet.
+// Whether a ROW word says a packet; the word without its bank is compared with the device's.
 fn row_right(device: u32, rows: u32, w: u64) -> bool
     ensures { λ r. ⌜ (r ≡ true → isKnown (rowRecord 0 (rowDecoded device rows w)) ≡ true) ⌝ }
 {
-    let head = packet::row::row_word(device, RowPacket::Prer { bank: 0 }) / 262144;
-    let low = w % 8192;
-    let act = (4096 <= low) & (low < 4096 + num::wide32(rows));
-    let other = (low == 0x600) | (low == 0x0C0) | (low == 0x540);
-    (w / 262144 == head) & (act | other)
+    let head = packet::row::row_word(device, RowPacket::Prer { bank: 0 }) / 262144 * 262144;
+    let low = std::num::wrapping_sub_u64(w / 262144 * 262144 + w % 8192, head);
+    let row = std::num::wrapping_sub_u64(low, 4096);
+    let act = (row < 4096) & (row < num::wide32(rows));
+    act | (low == 0x600) | (low == 0x0C0) | (low == 0x540)
 }
 
 // Whether a COL word says a packet; the bit above the column is a zero, so column and zero are one number below 128.
@@ -29,7 +29,8 @@ fn col_right(device: u32, columns: u32, w: u64) -> bool
 {
     let head = 32 + num::wide32(device);
     let low = w % 0x2_0000;
-    let mask = ((0x1_0000 <= low) & (low < 0x1_FFFF)) | (low == num::wide32(device) * 2048);
+    let sent = std::num::wrapping_sub_u64(low, 0x1_0000);
+    let mask = (sent < 0xFFFF) | (low == num::wide32(device) * 2048);
     let cop = w / 0x2_0000 % 16;
     let column = w / 0x20_0000 % 256;
     let access = (column < 128) & (column < num::wide32(columns)) & ((cop == 1) | (cop == 3));

@@ -10,6 +10,9 @@ wide32-requires c κs = search needs
 add-head : tie.Need-add-head
 add-head c = search needs
 
+wrapping-sub-u64-requires : tie.Need-wrapping-sub-u64-requires
+wrapping-sub-u64-requires c κs = search needs
+
 wide32-requires-2 : tie.Need-wide32-requires-2
 wide32-requires-2 c κs = search needs
 
@@ -24,9 +27,10 @@ mul-result c = search needs
 
 returns : tie.Need-returns
 returns c =
-    let a = c .before .before .before .args in
-    let d = c .before .before .wide32 in
-    col-says (a .device) (a .columns) (a .w) (d .result) (c .before .wide322 .result) (c .wide323 .result) (d .ensures .0) (c .before .wide322 .ensures .0) (c .wide323 .ensures .0)
+    let y = c .before .before .wrapping-sub-u64 in
+    let d = c .before .before .before .wide32 in
+    let a = c .before .before .before .before .args in
+    col-says (a .device) (a .columns) (a .w) (d .result) (c .before .wide322 .result) (c .wide323 .result) (y .result) (d .ensures .0) (c .before .wide322 .ensures .0) (c .wide323 .ensures .0) (y .ensures)
 
 pub col-right-spec : {M : Type 1} → statement M
 col-right-spec =
@@ -34,6 +38,7 @@ col-right-spec =
     (tie.spec
     wide32-requires
     add-head
+    wrapping-sub-u64-requires
     wide32-requires-2
     mul-mask
     wide32-requires-3

@@ -1,6 +1,6 @@
 -- `rdram_log_encode` meets its contract: each arm is a case of the definition.
 use mathlib.Core.Path.{_∙_, sym}
-use Rattle.rdram.specs.Logs.{logEncodeAnswer, logEncoded, encodeUnder, encodedUnder}
+use Rattle.rdram.specs.Logs.{logEncodeAnswer, logEncoded, copyUnder, copiedUnder}
 use borrow.Author.Needs.{needs}
 use Rattle.rdram.proofs.logs.rdram_log_encode.Statement.{statement}
 use Rattle.rdram.proofs.logs.rdram_log_encode.Tie as tie
@@ -24,7 +24,7 @@ copy-answer-requires-2 : tie.Need-copy-answer-requires-2
 copy-answer-requires-2 c κs = search needs
 
 returns : tie.Need-returns
-unfolding logEncodeAnswer logEncoded encodeUnder encodedUnder
+unfolding logEncodeAnswer logEncoded copyUnder copiedUnder
 returns c =
     let e = sym (c .before .before .before .read-settings .ensures) ∙ c .before .enum-told .given .1 in
     (rw e (c .copy-answer .ensures), rw e)
@@ -33,7 +33,7 @@ same-length : tie.Need-same-length
 same-length c = search needs
 
 returns-2 : tie.Need-returns-2
-unfolding logEncodeAnswer logEncoded encodeUnder encodedUnder
+unfolding logEncodeAnswer logEncoded copyUnder copiedUnder
 returns-2 c =
     let d = c .before .before .before in
     let e = sym (d .before .before .before .before .before .read-settings .ensures) ∙ d .before .before .before .s .given .1 in
