@@ -25,7 +25,7 @@ use Rattle.plan.specs.Planner.{plannerValid}
 use Rattle.plan.specs.Plan.{planned}
 use Rattle.plan.specs.Call.{timely, outcomeOf, outcomeBy, planOutcome, isMade, draftBy, planNext, planRecords, planRoom}
 use Rattle.plan.proofs.Bound.{most}
-use Rattle.plan.proofs.Valid.{fresh-valid, next-valid}
+use Rattle.plan.proofs.Valid.{next-valid}
 use Rattle.stream.specs.Stream.{countOf, requestAt, plannerAt, recordsUpTo, roomUpTo}
 
 -- an answer counts the records, of which there are at most 17
@@ -50,12 +50,12 @@ pub call-counted : (s : Settings) (p : PlannerState) → plannerValid s split p 
 unfolding Counted planOutcome planRecords
 call-counted s p v request room e = rw e (counted-by s p v (requestRead s request) room)
 
-module _ (s : Settings) (requests : List ℕ) (room : ℕ) where
-  pub planner-valid : Bytes requests → (i : ℕ) → plannerValid s split (plannerAt s requests room i) ≡ true
+module _ (s : Settings) (start : PlannerState) (requests : List ℕ) (room : ℕ) where
+  pub planner-valid : plannerValid s split start ≡ true → Bytes requests → (i : ℕ) → plannerValid s split (plannerAt s start requests room i) ≡ true
   unfolding plannerAt
-  planner-valid w zero = fresh-valid s split
-  planner-valid w (suc i) =
-      next-valid s split split-neighbours (plannerAt s requests room i) (requestAt requests i) room (Bytes-part requests (24 * i) 24 w) (planner-valid w i)
+  planner-valid v w zero = v
+  planner-valid v w (suc i) =
+      next-valid s split split-neighbours (plannerAt s start requests room i) (requestAt requests i) room (Bytes-part requests (24 * i) 24 w) (planner-valid v w i)
 
 -- the request that is lent for turn i
 abbrev lent : List ℕ → ℕ → List ℕ
@@ -64,16 +64,16 @@ lent requests i = take (24 * i + 24 - 24 * i) (drop (24 * i) requests)
 lent-is : (requests : List ℕ) (i : ℕ) → lent requests i ≡ requestAt requests i
 lent-is requests i = let n : 24 * i + 24 - 24 * i ≡ 24 = omega arith in rw n
 
-module _ (s : Settings) (requests start room : List ℕ) (i : ℕ) (k : length room ≡ length start) {p : PlannerState} (e : p ≡ plannerAt s requests (length start) i) where
-  pub planner-next : {q : PlannerState} → q ≡ planNext s split p (lent requests i) (length room) → q ≡ plannerAt s requests (length start) (i + 1)
+module _ (s : Settings) (start : PlannerState) (requests first room : List ℕ) (i : ℕ) (k : length room ≡ length first) {p : PlannerState} (e : p ≡ plannerAt s start requests (length first) i) where
+  pub planner-next : {q : PlannerState} → q ≡ planNext s split p (lent requests i) (length room) → q ≡ plannerAt s start requests (length first) (i + 1)
   unfolding plannerAt
   planner-next h = h ∙ rw (add-one, e, lent-is requests i, k)
 
-  pub records-next : {r n : ℕ} → r ≡ recordsUpTo s requests (length start) i → n ≡ length (planRecords s split p (lent requests i) (length room))
-      → r + n ≡ recordsUpTo s requests (length start) (i + 1)
+  pub records-next : {r n : ℕ} → r ≡ recordsUpTo s start requests (length first) i → n ≡ length (planRecords s split p (lent requests i) (length room))
+      → r + n ≡ recordsUpTo s start requests (length first) (i + 1)
   unfolding recordsUpTo
   records-next h m = rw (h, m, add-one, e, lent-is requests i, k)
 
-  pub room-next : {l : List ℕ} → room ≡ roomUpTo s requests start i → l ≡ planRoom s split p (lent requests i) room → l ≡ roomUpTo s requests start (i + 1)
+  pub room-next : {l : List ℕ} → room ≡ roomUpTo s start requests first i → l ≡ planRoom s split p (lent requests i) room → l ≡ roomUpTo s start requests first (i + 1)
   unfolding roomUpTo
   room-next h m = m ∙ rw (add-one, e, lent-is requests i, h)

@@ -24,30 +24,30 @@ countOf (Made n) = n
 abbrev pub requestAt : List ℕ → ℕ → List ℕ
 requestAt requests i = part requests (24 * i) 24
 
--- the planner and the number of records after the first n requests, each with a room of so many bytes
-unfoldable pub plannerAt : Settings → List ℕ → ℕ → ℕ → PlannerState
-plannerAt s requests room zero = freshPlanner
-plannerAt s requests room (suc n) = planNext s split (plannerAt s requests room n) (requestAt requests n) room
+-- the planner and the number of records after the first n requests of planner p, each with a room of so many bytes
+unfoldable pub plannerAt : Settings → PlannerState → List ℕ → ℕ → ℕ → PlannerState
+plannerAt s p requests room zero = p
+plannerAt s p requests room (suc n) = planNext s split (plannerAt s p requests room n) (requestAt requests n) room
 
-unfoldable pub recordsUpTo : Settings → List ℕ → ℕ → ℕ → ℕ
-recordsUpTo s requests room zero = 0
-recordsUpTo s requests room (suc n) =
-    recordsUpTo s requests room n + length (planRecords s split (plannerAt s requests room n) (requestAt requests n) room)
+unfoldable pub recordsUpTo : Settings → PlannerState → List ℕ → ℕ → ℕ → ℕ
+recordsUpTo s p requests room zero = 0
+recordsUpTo s p requests room (suc n) =
+    recordsUpTo s p requests room n + length (planRecords s split (plannerAt s p requests room n) (requestAt requests n) room)
 
 -- the room after them: the records of each from its start on
-unfoldable pub roomUpTo : Settings → List ℕ → List ℕ → ℕ → List ℕ
-roomUpTo s requests room zero = room
-roomUpTo s requests room (suc n) =
-    planRoom s split (plannerAt s requests (length room) n) (requestAt requests n) (roomUpTo s requests room n)
+unfoldable pub roomUpTo : Settings → PlannerState → List ℕ → List ℕ → ℕ → List ℕ
+roomUpTo s p requests room zero = room
+roomUpTo s p requests room (suc n) =
+    planRoom s split (plannerAt s p requests (length room) n) (requestAt requests n) (roomUpTo s p requests room n)
 
--- the whole stream, nothing where the settings are refused
+-- the whole stream of a fresh planner, nothing where the settings are refused
 unfoldable pub recordsUnder : SettingsRead → List ℕ → ℕ → ℕ
 recordsUnder RefusedSettings requests room = 0
-recordsUnder (Accepted s) requests room = recordsUpTo s requests room (length requests / 24)
+recordsUnder (Accepted s) requests room = recordsUpTo s freshPlanner requests room (length requests / 24)
 
 unfoldable pub roomUnder : SettingsRead → List ℕ → List ℕ → List ℕ
 roomUnder RefusedSettings requests room = room
-roomUnder (Accepted s) requests room = roomUpTo s requests room (length requests / 24)
+roomUnder (Accepted s) requests room = roomUpTo s freshPlanner requests room (length requests / 24)
 
 unfoldable pub streamRecords : List ℕ → List ℕ → List ℕ → ℕ
 streamRecords settings requests room = recordsUnder (settingsRead settings) requests (length room)

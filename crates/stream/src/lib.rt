@@ -4,6 +4,8 @@ ghost use mathlib.Core.Bool.{true};
 ghost use Prim.Native.Nat.{_/_};
 ghost use lib.ListN.{length};
 ghost use Rattle.settings.specs.Settings.{valid};
+ghost use Rattle.rules.specs.Neighbour.{split};
+ghost use Rattle.plan.specs.Planner.{plannerValid};
 ghost use Rattle.stream.specs.Stream.{countOf, recordsUpTo, roomUpTo, streamRecords, streamRoom};
 use plan::Outcome;
 use planner::Planner;
@@ -21,13 +23,15 @@ fn count_of(outcome: Outcome) -> u64
 }
 
 // How many records the requests of a stream make, each planned by the planner that the last one left, all into the same room.
-pub fn plan_stream(s: Settings, requests: &[u8], room: &mut [u8]) -> u64
+// Apart from where the planner is made, so that the compiler copies it whole from turn to turn.
+pub fn plan_stream(start: Planner, s: Settings, requests: &[u8], room: &mut [u8]) -> u64
     requires { ⌜ valid s ≡ true ⌝ }
-    ensures { λ r. ⌜ r ≡ recordsUpTo s (now (requests .entry)) (length (now (room .entry))) (length (now (requests .entry)) / 24) ⌝ }
-    ensures { λ _. ⌜ now (room .exit) ≡ roomUpTo s (now (requests .entry)) (now (room .entry)) (length (now (requests .entry)) / 24) ⌝ }
+    requires { ⌜ plannerValid s split (start .state) ≡ true ⌝ }
+    ensures { λ r. ⌜ r ≡ recordsUpTo s (start .state) (now (requests .entry)) (length (now (room .entry))) (length (now (requests .entry)) / 24) ⌝ }
+    ensures { λ _. ⌜ now (room .exit) ≡ roomUpTo s (start .state) (now (requests .entry)) (now (room .entry)) (length (now (requests .entry)) / 24) ⌝ }
 {
     let n = requests.len() / 24;
-    let mut p = Planner::fresh();
+    let mut p = start;
     let mut records = 0;
     let mut i = 0;
     while i < n {
@@ -35,21 +39,20 @@ pub fn plan_stream(s: Settings, requests: &[u8], room: &mut [u8]) -> u64
         let to = from + 24;
         let planned = p.plan(s, &requests[from..to], room);
         let outcome = planned.outcome;
-        let next = planned.planner;
-        p = next;
+        p = planned.planner;
         records += count_of(outcome);
         i += 1;
     }
     records
 }
 
-// The same for a host: 0 where the settings are refused.
+// The same for a host, of a fresh planner: 0 where the settings are refused.
 #[no_mangle]
 pub extern "C" fn rdram_bench_plan(settings: &[u8], requests: &[u8], room: &mut [u8]) -> u64
     ensures { λ r. ⌜ (r ≡ streamRecords (now (settings .entry)) (now (requests .entry)) (now (room .entry))) × (now (room .exit) ≡ streamRoom (now (settings .entry)) (now (requests .entry)) (now (room .entry))) ⌝ }
 {
     match settings::read::read_settings(settings) {
         SettingsRead::Refused => 0,
-        SettingsRead::Accepted(s) => plan_stream(s, requests, room),
+        SettingsRead::Accepted(s) => plan_stream(Planner::fresh(), s, requests, room),
     }
 }

@@ -2,8 +2,12 @@
 //! `bench_plan [REQUESTS [RUNS [STREAM]]]`.
 //!
 //! The rivals take the same bytes as the C call, and test, decode and encode the planner's 740 bytes
-//! each time. Further rows have the rivals without bytes: they keep their planner between calls.
+//! each time. Further rows have the rivals without bytes: they keep their planner between calls. With
+//! the feature by-value, rows have the library's planner by value too.
 
+#[cfg(feature = "by-value")]
+#[path = "common/by_value.rs"]
+mod by_value;
 mod common;
 mod rivals;
 
@@ -178,5 +182,7 @@ fn main() {
             plain_kept,
             Some(tuned_kept),
         );
+        #[cfg(feature = "by-value")]
+        by_value::row(&size, name, requests);
     }
 }

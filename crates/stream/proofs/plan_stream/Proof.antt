@@ -12,18 +12,15 @@ use Rattle.stream.proofs.plan_stream.Tie as tie
 
 abbrev Inv-loop : tie.InvT-loop
 Inv-loop s requests room₀ n p₀ records₀ i₀ room p records i =
-    (i ≤ n) × (p .state ≡ plannerAt s requests (length room₀) i) × (records ≡ recordsUpTo s requests (length room₀) i) × (records ≤ 17 * i)
-    × (room ≡ roomUpTo s requests room₀ i) × (length room ≡ length room₀)
+    (i ≤ n) × (p .state ≡ plannerAt s (p₀ .state) requests (length room₀) i) × (records ≡ recordsUpTo s (p₀ .state) requests (length room₀) i) × (records ≤ 17 * i)
+    × (room ≡ roomUpTo s (p₀ .state) requests room₀ i) × (length room ≡ length room₀)
 
 abbrev μ-loop : tie.MeasureT-loop
 μ-loop s requests room₀ n p₀ records₀ i₀ room p records i = n - i
 
-fresh-requires : tie.Need-fresh-requires Inv-loop μ-loop
-fresh-requires c κs = search needs
-
 loop-holds : tie.Need-loop-holds Inv-loop μ-loop
 unfolding plannerAt recordsUpTo roomUpTo
-loop-holds c = (omega arith, c .fresh .ensures, refl, omega arith, refl, refl)
+loop-holds c = (omega arith, refl, refl, omega arith, refl, refl)
 
 mul-from : tie.Need-mul-from Inv-loop μ-loop
 mul-from c = search needs
@@ -43,9 +40,9 @@ part-plan-end c = search needs
 plan-requires : tie.Need-plan-requires Inv-loop μ-loop
 plan-requires c κs =
     let k = c .before .before .before .loop in
-    let z = c .before .before .before .before .before .before .before in
-    let w : Bytes (z .args .requests .now) = λ i _. omega (arith, c .before .before .before .before .before .before .shared-slice-known .given i) in
-    (z .pre, rw (k .inv .1) (planner-valid (z .args .s) (z .args .requests .now) (length (z .args .room .now)) w (k .i)))
+    let z = c .before .before .before .before .before .before in
+    let w : Bytes (z .args .requests .now) = λ i _. omega (arith, c .before .before .before .before .before .shared-slice-known .given i) in
+    (z .pre .0, rw (k .inv .1) (planner-valid (z .args .s) (z .args .start .state) (z .args .requests .now) (length (z .args .room .now)) (z .pre .1) w (k .i)))
 
 count-of-requires : tie.Need-count-of-requires Inv-loop μ-loop
 count-of-requires c κs = search needs
@@ -54,9 +51,9 @@ add-records : tie.Need-add-records Inv-loop μ-loop
 add-records c =
     let l = c .before .before .before .before in
     let k = l .before .before .before .before .loop in
-    let z = l .before .before .before .before .before .before .before .before in
-    let w : Bytes (z .args .requests .now) = λ i _. omega (arith, l .before .before .before .before .before .before .before .shared-slice-known .given i) in
-    let v = planner-valid (z .args .s) (z .args .requests .now) (length (z .args .room .now)) w (k .i) in
+    let z = l .before .before .before .before .before .before .before in
+    let w : Bytes (z .args .requests .now) = λ i _. omega (arith, l .before .before .before .before .before .before .shared-slice-known .given i) in
+    let v = planner-valid (z .args .s) (z .args .start .state) (z .args .requests .now) (length (z .args .room .now)) (z .pre .1) w (k .i) in
     let m = call-counted (z .args .s) (k .p .state) (rw (k .inv .1) v) _ _ (l .plan .ensures .0) in
     omega (arith, m .1, c .count-of .ensures, k .inv .0, k .inv .3)
 
@@ -70,19 +67,20 @@ loop-again : tie.Need-loop-again Inv-loop μ-loop
 loop-again c =
     let l = c .before .before .before .before in
     let k = l .before .before .before .before .loop in
-    let z = l .before .before .before .before .before .before .before .before in
+    let z = l .before .before .before .before .before .before .before in
     let s = z .args .s in
     let requests = z .args .requests .now in
-    let start = z .args .room .now in
-    let w : Bytes requests = λ i _. omega (arith, l .before .before .before .before .before .before .before .shared-slice-known .given i) in
-    let v = planner-valid s requests (length start) w (k .i) in
+    let start = z .args .start .state in
+    let first = z .args .room .now in
+    let w : Bytes requests = λ i _. omega (arith, l .before .before .before .before .before .before .shared-slice-known .given i) in
+    let v = planner-valid s start requests (length first) (z .pre .1) w (k .i) in
     let m = call-counted s (k .p .state) (rw (k .inv .1) v) _ _ (l .plan .ensures .0) in
     let q = l .plan .ensures .1 in (
       search needs,
-      planner-next s requests start (k .room) (k .i) (k .inv .5) (k .inv .1) (q .0),
-      records-next s requests start (k .room) (k .i) (k .inv .5) (k .inv .1) (k .inv .2) (c .count-of .ensures ∙ m .0),
+      planner-next s start requests first (k .room) (k .i) (k .inv .5) (k .inv .1) (q .0),
+      records-next s start requests first (k .room) (k .i) (k .inv .5) (k .inv .1) (k .inv .2) (c .count-of .ensures ∙ m .0),
       omega (arith, m .1, c .count-of .ensures, k .inv .3),
-      room-next s requests start (k .room) (k .i) (k .inv .5) (k .inv .1) (k .inv .4) (q .1),
+      room-next s start requests first (k .room) (k .i) (k .inv .5) (k .inv .1) (k .inv .4) (q .1),
       l .plan .kept .1 .1 .1 .0 ∙ k .inv .5,
     )
 
@@ -92,7 +90,7 @@ same-length c = c .before .loop .inv .5
 returns : tie.Need-returns Inv-loop μ-loop
 returns c =
     let k = c .before .loop in
-    let n : k .i ≡ length (c .before .before .before .before .before .args .requests .now) / 24 = omega (arith, k .inv .0) in
+    let n : k .i ≡ length (c .before .before .before .before .args .requests .now) / 24 = omega (arith, k .inv .0) in
     (rw n at (k .inv .2), rw n at (k .inv .4))
 
 pub plan-stream-spec : {M : Type 1} → statement M
@@ -101,7 +99,6 @@ plan-stream-spec =
     (tie.spec
     Inv-loop
     μ-loop
-    fresh-requires
     loop-holds
     mul-from
     add-to

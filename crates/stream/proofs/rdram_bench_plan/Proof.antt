@@ -1,6 +1,8 @@
 -- `rdram_bench_plan` meets its contract: each arm is a case of the definition.
 use mathlib.Core.Path.{_≡_, refl, sym, _∙_}
 use Rattle.settings.proofs.SettingsLaws.{accepted-valid}
+use Rattle.rules.specs.Neighbour.{split}
+use Rattle.plan.proofs.Valid.{fresh-valid}
 use Rattle.stream.specs.Stream.{recordsUnder, roomUnder, streamRecords, streamRoom}
 use borrow.Author.Needs.{needs}
 use Rattle.stream.proofs.rdram_bench_plan.Statement.{statement}
@@ -15,10 +17,15 @@ enum-told c = search needs
 enum-known-s : tie.Need-enum-known-s
 enum-known-s c = search needs
 
+fresh-requires : tie.Need-fresh-requires
+fresh-requires c κs = search needs
+
 plan-stream-requires : tie.Need-plan-stream-requires
 plan-stream-requires c κs =
-    let d = c .before .before .before .before in
-    accepted-valid (d .before .before .before .before .args .settings .now) _ (sym (d .read-settings .ensures) ∙ c .before .before .s .given .1)
+    let d = c .before .before .before .before .before in (
+      accepted-valid (d .before .before .before .before .args .settings .now) _ (sym (d .read-settings .ensures) ∙ c .before .before .before .s .given .1),
+      rw (c .before .fresh .ensures) (fresh-valid _ split),
+    )
 
 returns : tie.Need-returns
 unfolding streamRecords recordsUnder streamRoom roomUnder
@@ -31,8 +38,18 @@ returns-2 : tie.Need-returns-2
 unfolding streamRecords recordsUnder streamRoom roomUnder
 returns-2 c =
     let d = c .before .before in
-    rw (sym (d .before .before .before .before .before .read-settings .ensures) ∙ d .before .before .before .s .given .1) (d .plan-stream .ensures)
+    let e = sym (d .before .before .before .before .before .before .read-settings .ensures) ∙ d .before .before .before .before .s .given .1 in
+    rw e (rw (d .before .before .fresh .ensures) at (d .plan-stream .ensures))
 
 pub rdram-bench-plan-spec : {M : Type 1} → statement M
 rdram-bench-plan-spec =
-    tie.close (tie.spec read-settings-requires enum-told enum-known-s plan-stream-requires returns same-length returns-2)
+    tie.close
+    (tie.spec
+    read-settings-requires
+    enum-told
+    enum-known-s
+    fresh-requires
+    plan-stream-requires
+    returns
+    same-length
+    returns-2)
