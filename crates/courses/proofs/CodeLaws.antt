@@ -3,28 +3,29 @@
 use Prim.Native.Nat.{ℕ, _+_, _≤_, _<_}
 use mathlib.Core.Path.{_≡_, refl, sym, ap, _∙_}
 use mathlib.Core.Bool.{Bool, true, false, not, _&&_, _||_, cond}
-use mathlib.Core.List.{List, [], _∷_, _++_}
-use lib.Dec.{leb, ltb, leb·zero}
-use lib.ListN.{length, length-append, getD}
+use mathlib.Core.List.{List, [], _∷_, _++_, append-assoc}
+use lib.Dec.{eqb, leb, ltb, leb·zero}
+use lib.ListN.{length, length-append, getD, set}
 use borrow.Author.Tests.{lt-ltb}
 use native.Mathlib.Omega.{arith}
-use Rattle.packet.specs.declared.RowPacket.the-variants.{Act, Refa, Refp}
+use Rattle.packet.specs.declared.RowPacket.the-variants.{Act, Prer, Refa, Refp}
 use Rattle.packet.specs.declared.ColPacket.the-variants.{Nocop, Wr, Rd}
 use Rattle.record.specs.declared.Record.{Record}
 use Rattle.record.specs.declared.Place.{Place}
 use Rattle.rules.specs.Neighbour.{Relation, split, near}
 use Rattle.rules.specs.Packets.{isPacket}
+use Rattle.rules.specs.History.{isClosed}
 use Rattle.rules.specs.Channel.{idle, stateOf, waitingOf}
 use Rattle.validity.specs.Valid.{apart}
 use Rattle.channel.specs.declared.Held.{Held}
-use Rattle.channel.specs.View.{slotOf}
+use Rattle.channel.specs.View.{lowOf, highOf, slotOf}
 use Rattle.plan.specs.declared.PlannerState.{PlannerState}
 use Rattle.plan.specs.Plan.{rowPacket, colPacket, openOn, hits}
 use Rattle.courses.specs.declared.Entry.{Entry}
 use Rattle.courses.specs.declared.Course.{Course}
-use Rattle.courses.specs.Course.{Holds, Extends, allPackets, closings, firstNear, lastNear, heldIn, fullMask, nocop, clearing, opening, isOpenAt, rdAt, readCourse, wrAt, writeMask, writeCourse, refreshCourse, drainCourse}
-use Rattle.courses.proofs.ListedLaws.{extends-more, holds-more, packets-append}
-use Rattle.courses.proofs.ShortLaws.{closings-packets, closings-same, clearing-range, ranged-short, clearing-short, range-in, drain-short}
+use Rattle.courses.specs.Course.{Holds, Extends, allPackets, closing, closings, threeOf, heldIn, fullMask, nocop, clearing, opening, isOpenAt, rdAt, readCourse, wrAt, writeMask, writeCourse, refreshCourse, drainCourse}
+use Rattle.courses.proofs.ListedLaws.{Filled, filled-put, extends-more, holds-more, packets-append}
+use Rattle.courses.proofs.ShortLaws.{bit-le, closings-packets, closings-same, clearing-short, drain-short, showsAt, clearing-three}
 
 -- ---- one packet more
 
@@ -45,12 +46,37 @@ one-more-of c r e q x u = rw x at u
 
 -- ---- a bank and its neighbours
 
-module _ (p : PlannerState) (b first last : ℕ) (h : Held) (n : Course) (m : b < 32) (e : first ≡ firstNear b) (f : last ≡ lastNear b) (g : h ≡ heldIn p) (k : Holds n []) where
-  pub clearing-asks : ((first ≤ last + 1) × (last + 1 ≤ 32)) × (n .count + length (closings (stateOf (p .channel)) (h .bank) (p .mask) (leb first) (last + 1)) ≤ 17)
-  clearing-asks = rw (e, f, g) (range-in p b m, omega (arith, k .count, ranged-short p b m))
+-- one of them, as it is read
+pub shows-at : (p : PlannerState) (x k : ℕ) (o : Bool) → k ≡ slotOf x → o ≡ (ltb x 32 && not (isClosed (getD (p .channel .banks) k idle .bank))) → o ≡ showsAt p x
+shows-at p x k o e f = f ∙ rw e (go (ltb x 32) refl)
+  where
+    go : (t : Bool) → ltb x 32 ≡ t → t && not (isClosed (getD (p .channel .banks) (cond t x 0) idle .bank)) ≡ t && not (isClosed (getD (p .channel .banks) x idle .bank))
+    go true q = refl
+    go false q = refl
 
-  pub clearing-holds : (r : Course) → Extends n (closings (stateOf (p .channel)) (h .bank) (p .mask) (leb first) (last + 1)) r → Holds r (clearing split p b)
-  clearing-holds r x = rw (clearing-range p b m) (holds-more n r [] _ k (rw (e, f, g) at x) (omega (arith, ranged-short p b m)))
+-- the packets of one bank, stored one after the other
+pub bank-put : (w mask x : ℕ) (sent : Bool) (l : List Entry) (n : ℕ) (a : List Record) → Filled l n a → n < 16 → (e f : Entry) (t : Bool) (i m j k : ℕ)
+    → e .record ≡ colPacket (Nocop mask) → t ≡ sent && eqb x w → i ≡ cond t 1 0 → m ≡ n + i → f .record ≡ rowPacket (Prer x) → j ≡ cond sent 1 0 → k ≡ m + j
+    → Filled (set (set l n e) m f) k (a ++ cond sent (closing w mask x) [])
+bank-put w mask x sent l n a h r e f t i m j k p q u v y z o =
+    let s : Filled (set l n e) m (a ++ cond t (colPacket (Nocop mask) ∷ []) []) = filled-put l n a h (omega arith) e _ t i m p u v in
+    let d : Filled (set (set l n e) m f) k (a ++ cond t (colPacket (Nocop mask) ∷ []) [] ++ cond sent (rowPacket (Prer x) ∷ []) []) =
+    filled-put (set l n e) m (a ++ cond t (colPacket (Nocop mask) ∷ []) []) s (omega (arith, bit-le t)) f _ sent j k y z o
+    in
+    rw (append-assoc a (cond t (colPacket (Nocop mask) ∷ []) []) (cond sent (rowPacket (Prer x) ∷ []) []), q, joined sent (eqb x w)) at d
+  where
+    joined : (c d : Bool) → cond (c && d) (colPacket (Nocop mask) ∷ []) [] ++ cond c (rowPacket (Prer x) ∷ []) []
+        ≡ cond c (cond d (colPacket (Nocop mask) ∷ rowPacket (Prer x) ∷ []) (rowPacket (Prer x) ∷ [])) []
+    joined true true = refl
+    joined true false = refl
+    joined false d = refl
+
+pub filled-holds : (l : List Entry) (n : ℕ) (a : List Record) → Filled l n a → n ≤ 17 → Holds (record { entries = l; count = n }) a
+filled-holds l n a f h = record { count = f .count; fits = omega (arith, f .count); same = f .same }
+
+pub clearing-holds : (p : PlannerState) (b : ℕ) → b < 32 → (w : ℕ) (low own high : Bool) (r : Course) → Holds r (threeOf w (p .mask) b low own high) → w ≡ heldIn p .bank
+    → low ≡ showsAt p (lowOf b) → own ≡ showsAt p b → high ≡ showsAt p (highOf b) → Holds r (clearing split p b)
+clearing-holds p b m w low own high r h g x y z = rw (clearing-three p b m) (rw (g, x, y, z) at h)
 
 module _ (p : PlannerState) (at : Place) (m : at .bank < 32) where
   pub opening-short : length (opening split p at) ≤ 5

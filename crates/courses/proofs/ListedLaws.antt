@@ -2,12 +2,12 @@
 -- Assumes nothing.
 use Prim.Native.Nat.{ℕ, zero, suc, _+_, _≤_, _<_}
 use mathlib.Core.Path.{_≡_, refl, sym, ap, _∙_}
-use mathlib.Core.Bool.{Bool, true, false, _&&_, and-eq-true-iff}
+use mathlib.Core.Bool.{Bool, true, false, cond, _&&_, and-eq-true-iff}
 use mathlib.Core.List.{List, [], _∷_, _++_, map, map-append, append-nil, append-assoc}
 use native.Mathlib.Numerals.{add-one}
 use native.Mathlib.Omega.{arith}
-use lib.ListN.{length, length-append, length-map, take, getD, set}
-use lib.Seq.{take-suc, take-suc-set, length-take-le}
+use lib.ListN.{length, length-append, length-map, length-set, take, getD, set}
+use lib.Seq.{take-suc, take-suc-set, take-set-le, length-take-le}
 use Rattle.packet.specs.declared.RowPacket.the-variants.{Act}
 use Rattle.record.specs.declared.Record.{Record}
 use Rattle.record.specs.declared.Record.the-variants.{RowAt}
@@ -33,6 +33,31 @@ records-more l n d h = rw (add-one, take-suc l n d h) (map-append (λ (e : Entry
 
 pub length-records : (l : List Entry) (n : ℕ) → n ≤ length l → length (recordsIn (take n l)) ≡ n
 length-records l n h = length-map (take n l) (λ (e : Entry). e .record) ∙ length-take-le n l h
+
+-- ---- stores that count where a packet is sent
+
+-- the first n entries are these records
+pub record Filled (l : List Entry) (n : ℕ) (a : List Record) : Type 0 where
+  pub wide : length l ≡ 17
+  pub count : n ≡ length a
+  pub same : recordsIn (take n l) ≡ a
+
+pub filled-put : (l : List Entry) (n : ℕ) (a : List Record) → Filled l n a → n < 17 → (e : Entry) (q : Record) (t : Bool) (k m : ℕ) → e .record ≡ q → k ≡ cond t 1 0 → m ≡ n + k
+    → Filled (set l n e) m (a ++ cond t (q ∷ []) [])
+filled-put l n a f h e q true k m x y z =
+    let i : m ≡ n + 1 = z ∙ ap (λ (v : ℕ). n + v) y in
+    record {
+      wide = length-set l n e ∙ f .wide;
+      count = rw (length-append a (q ∷ [])) (omega (arith, f .count));
+      same = rw i (records-set l n e (omega (arith, f .wide)) ∙ rw (f .same, x));
+    }
+filled-put l n a f h e q false k m x y z =
+    let i : m ≡ n = z ∙ omega (arith, y) in
+    record {
+      wide = length-set l n e ∙ f .wide;
+      count = rw (append-nil a) (i ∙ f .count);
+      same = rw (i, append-nil a, take-set-le n l n e (omega arith)) (f .same);
+    }
 
 -- ---- courses that go on
 

@@ -30,7 +30,7 @@ use Rattle.channel.proofs.NearLaws.{Beside, own, low, high, near-beside, near-o
 use Rattle.plan.specs.declared.PlannerState.{PlannerState}
 use Rattle.plan.specs.Plan.{rowPacket, colPacket}
 use Rattle.plan.proofs.Bound.{count, count-pairs}
-use Rattle.courses.specs.Course.{allPackets, closing, closingIf, closings, firstNear, lastNear, heldIn, clearing, opening, readCourse, writeCourse, refreshCourse, drainCourse}
+use Rattle.courses.specs.Course.{allPackets, closing, closingIf, closings, threeOf, firstNear, lastNear, heldIn, clearing, opening, readCourse, writeCourse, refreshCourse, drainCourse}
 use Rattle.courses.proofs.ListedLaws.{packets-append}
 
 -- ---- how many
@@ -53,7 +53,7 @@ bit-up w n = go (ltb w n) refl
     go true e = let l : w < n = ltb-true w n e in rw (lt-ltb w (suc n) (omega arith)) (omega arith)
     go false e = omega arith
 
-bit-le : (t : Bool) → cond t 1 0 ≤ 1
+pub bit-le : (t : Bool) → cond t 1 0 ≤ 1
 bit-le true = omega arith
 bit-le false = omega arith
 
@@ -224,16 +224,13 @@ module _ (p : PlannerState) (b : ℕ) (m : b < 32) where
       and-all true = refl
       and-all false = refl
 
-  pub ranged-short : length (closings (stateOf (p .channel)) (heldIn p .bank) (p .mask) (leb (firstNear b)) (lastNear b + 1)) ≤ 4
+  ranged-short : length ranged ≤ 4
   ranged-short =
       let n = near-three b in
       omega (arith, closings-length (stateOf (p .channel)) (heldIn p .bank) (p .mask) (leb (firstNear b)) (lastNear b + 1), count-from (λ x. not (isClosed (stateOf (p .channel) x))) (firstNear b) (lastNear b + 1), bit-le (ltb (heldIn p .bank) (lastNear b + 1)))
 
   pub clearing-short : length (clearing split p b) ≤ 4
   clearing-short = rw clearing-range ranged-short
-
-  pub range-in : (firstNear b ≤ lastNear b + 1) × (lastNear b + 1 ≤ 32)
-  range-in = (near-three b .0, near-three b .2 m)
 
 -- ---- all banks closed
 
@@ -289,3 +286,57 @@ closing-fits state w mask from to x n before l h e a b =
     ap length (closings-open state w mask (leb from) x (le-leb from x l) e) ∙ length-append (closings state w mask (leb from) x) (closing w mask x)
     in
     omega arith
+
+-- ---- the packets of a bank and its neighbours, one bank after the other
+
+module _ (state : ℕ → Bank) (w mask from : ℕ) where
+  abbrev shut : ℕ → List Record
+  shut x = cond (not (isClosed (state x))) (closing w mask x) []
+
+  closings-step : (x : ℕ) → from ≤ x → closings state w mask (leb from) (x + 1) ≡ closings state w mask (leb from) x ++ shut x
+  unfolding closings
+  closings-step x h = rw (add-one x, le-leb from x h)
+
+  closings-first : closings state w mask (leb from) (from + 1) ≡ shut from
+  closings-first = closings-step from (omega arith) ∙ rw (closings-none state w mask from)
+
+-- whether there is a bank x, and it is not closed
+abbrev pub showsAt : PlannerState → ℕ → Bool
+showsAt p x = ltb x 32 && not (isClosed (stateOf (p .channel) x))
+
+module _ (p : PlannerState) (b : ℕ) (m : b < 32) where
+  abbrev state : ℕ → Bank
+  state = stateOf (p .channel)
+
+  pub clearing-three : clearing split p b ≡ threeOf (heldIn p .bank) (p .mask) b (showsAt p (lowOf b)) (showsAt p b) (showsAt p (highOf b))
+  clearing-three = clearing-range p b m ∙ rw (lt-ltb b 32 m) (go (eqb (b % 16) 0) (eqb (b % 16) 15) refl refl)
+    where
+      w : ℕ
+      w = heldIn p .bank
+
+      own : List Record
+      own = shut state w (p .mask) 0 b
+
+      low-is : (x : ℕ) → x + 1 ≡ b → closings state w (p .mask) (leb x) (b + 1) ≡ cond (ltb x 32 && not (isClosed (state x))) (closing w (p .mask) x) [] ++ own
+      low-is x e =
+          let f : closings state w (p .mask) (leb x) b ≡ cond (not (isClosed (state x))) (closing w (p .mask) x) [] = rw e at (closings-first state w (p .mask) x) in
+          closings-step state w (p .mask) x b (omega arith) ∙ rw (f, lt-ltb x 32 (omega arith))
+
+      go : (t u : Bool) → eqb (b % 16) 0 ≡ t → eqb (b % 16) 15 ≡ u
+          → closings state w (p .mask) (leb (cond t b (b - 1))) (cond u b (b + 1) + 1)
+          ≡ cond (ltb (cond t 32 (b - 1)) 32 && not (isClosed (state (cond t 32 (b - 1))))) (closing w (p .mask) (cond t 32 (b - 1))) []
+          ++ own
+          ++ cond (ltb (cond u 32 (b + 1)) 32 && not (isClosed (state (cond u 32 (b + 1))))) (closing w (p .mask) (cond u 32 (b + 1))) []
+      go true true e f = absurd (let i = eqb-true (b % 16) 0 e in let j = eqb-true (b % 16) 15 f in omega arith)
+      go true false e f =
+          let n : b % 16 ≡ 15 → ⊥ = eqb-false (b % 16) 15 f in
+          closings-step state w (p .mask) b (b + 1) (omega arith)
+          ∙ rw (closings-first state w (p .mask) b, lt-ltb (b + 1) 32 (omega arith))
+      go false true e f =
+          let n : b % 16 ≡ 0 → ⊥ = eqb-false (b % 16) 0 e in
+          low-is (b - 1) (omega arith) ∙ sym (append-nil _)
+      go false false e f =
+          let n : b % 16 ≡ 0 → ⊥ = eqb-false (b % 16) 0 e in
+          let o : b % 16 ≡ 15 → ⊥ = eqb-false (b % 16) 15 f in
+          closings-step state w (p .mask) (b - 1) (b + 1) (omega arith)
+          ∙ rw (low-is (b - 1) (omega arith), lt-ltb (b + 1) 32 (omega arith))

@@ -21,7 +21,7 @@ use Rattle.rules.specs.Packets.{isPacket}
 use Rattle.rules.specs.History.{isClosed}
 use Rattle.rules.specs.Channel.{idle, stateOf, waitingOf}
 use Rattle.channel.specs.declared.Held.{Held}
-use Rattle.channel.specs.View.{heldOf}
+use Rattle.channel.specs.View.{lowOf, highOf, heldOf}
 use Rattle.plan.specs.declared.PlannerState.{PlannerState}
 use Rattle.plan.specs.Plan.{Draft, rowPacket, colPacket, openOn, hits, sent}
 use Rattle.courses.specs.declared.Entry.{Entry}
@@ -68,6 +68,10 @@ module _ (state : ℕ → Bank) (w mask : ℕ) where
   unfoldable pub closings : (ℕ → Bool) → ℕ → List Record
   closings pick zero = []
   closings pick (suc n) = closings pick n ++ closingIf pick n
+
+-- for a bank and its neighbours, each where it is not closed
+abbrev pub threeOf : ℕ → ℕ → ℕ → Bool → Bool → Bool → List Record
+threeOf w mask b low own high = cond low (closing w mask (lowOf b)) [] ++ cond own (closing w mask b) [] ++ cond high (closing w mask (highOf b)) []
 
 -- ---- requests
 

@@ -1,16 +1,19 @@
 // The packets of a request in their order, decided by the state before its first packet. They have no instant yet.
 ghost use mathlib.Core.Path.{_≡_};
-ghost use mathlib.Core.Bool.{true, cond, _&&_};
+ghost use mathlib.Core.Bool.{true, cond, not, _&&_};
 ghost use mathlib.Core.List.{List, [], _∷_};
 ghost use Prim.Native.Nat.{_+_, _≤_, _<_};
-ghost use lib.Dec.{leb};
+ghost use lib.Dec.{leb, ltb};
 ghost use lib.ListN.{length};
 ghost use Rattle.rules.specs.Neighbour.{split};
+ghost use Rattle.rules.specs.History.{isClosed};
 ghost use Rattle.rules.specs.Channel.{stateOf, waitingOf};
 ghost use Rattle.validity.specs.Valid.{apart};
 ghost use Rattle.plan.specs.Plan.{rowPacket, colPacket, openOn, hits};
-ghost use Rattle.courses.specs.Course.{Holds, Extends, bankAt, closing, closings, firstNear, lastNear, fullMask, clearing, opening, rdAt, wrAt, readCourse, writeMask, writeCourse, refreshCourse, drainCourse};
+ghost use Rattle.courses.specs.Course.{Holds, Extends, bankAt, closing, closings, threeOf, fullMask, clearing, opening, rdAt, wrAt, readCourse, writeMask, writeCourse, refreshCourse, drainCourse};
+use channel::beside::high_of;
 use channel::beside::is_near;
+use channel::beside::low_of;
 use channel::beside::slot_of;
 use channel::views::held_of;
 use channel::views::is_closed;
@@ -107,18 +110,44 @@ fn closings(before: Course, banks: [BankTrack; 32], w: u32, mask: u32, from: u32
     c
 }
 
-// The first and the last bank near a bank.
-fn first_near(b: u32) -> u32
-    ensures { λ r. ⌜ r ≡ firstNear b ⌝ }
+// Whether there is a bank x, and it is not closed.
+fn shows(x: u32, t: BankTrack) -> bool
+    ensures { λ r. ⌜ r ≡ (ltb x 32 && not (isClosed (t .bank))) ⌝ }
 {
-    if b % 16 == 0 { b } else { b - 1 }
+    num::both(x < 32, !is_closed(t))
 }
 
-fn last_near(b: u32) -> u32
-    requires { ⌜ b < 32 ⌝ }
-    ensures { λ r. ⌜ r ≡ lastNear b ⌝ }
+fn step(yes: bool) -> usize
+    ensures { λ r. ⌜ (r ≡ cond yes 1 0) × (r ≤ 1) ⌝ }
 {
-    if b % 16 == 15 { b } else { b + 1 }
+    if yes { 1 } else { 0 }
+}
+
+// Closes those of bank b and its neighbours that are not closed. Each packet is stored, and counted where it is sent.
+fn three(w: u32, mask: u32, b: u32, low: bool, own: bool, high: bool) -> Course
+    ensures { λ r. ⌜ Holds r (threeOf w mask b low own high) ⌝ }
+{
+    let nocop = col_packet(ColPacket::Nocop { mask: mask });
+    let below = low_of(b);
+    let above = high_of(b);
+    let c = none();
+    let mut entries = c.entries;
+    entries[0] = nocop;
+    let n1 = step(num::both(low, below == w));
+    entries[n1] = row_packet(RowPacket::Prer { bank: below });
+    let n2 = n1 + step(low);
+    entries[n2] = nocop;
+    let n3 = n2 + step(num::both(own, b == w));
+    entries[n3] = row_packet(RowPacket::Prer { bank: b });
+    let n4 = n3 + step(own);
+    entries[n4] = nocop;
+    let n5 = n4 + step(num::both(high, above == w));
+    entries[n5] = row_packet(RowPacket::Prer { bank: above });
+    let n6 = n5 + step(high);
+    Course {
+        entries: entries,
+        count: n6,
+    }
 }
 
 // Closes a bank and its neighbours.
@@ -127,16 +156,20 @@ fn clearing(p: PlannerState, b: u32) -> Course
     ensures { λ r. ⌜ Holds r (clearing split p b) ⌝ }
 {
     let ch = p.channel;
-    let banks = ch.banks;
     let buffer = ch.buffer;
     let h = held_of(buffer);
-    closings(
-        none(),
-        banks,
+    let below = low_of(b);
+    let above = high_of(b);
+    let low = ch.banks[slot_of(below)];
+    let own = ch.banks[slot_of(b)];
+    let high = ch.banks[slot_of(above)];
+    three(
         h.bank,
         p.mask,
-        first_near(b),
-        last_near(b) + 1,
+        b,
+        shows(below, low),
+        shows(b, own),
+        shows(above, high),
     )
 }
 

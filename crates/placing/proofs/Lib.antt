@@ -1,3 +1,3 @@
-pub mod ArrivalLaws
 pub mod TimeLaws
+pub mod ArrivalLaws
 pub mod PlaceLaws

@@ -6,7 +6,7 @@ use mathlib.Core.Bool.{Bool, true, false, not, _&&_}
 use mathlib.Core.List.{List, [], _∷_, _++_}
 use lib.Dec.{leb}
 use lib.ListN.{length, length-set, take, drop, getD, set, take-append-drop, List·getD-map}
-use lib.Seq.{take-suc, take-length, getD-take, getD-set-other}
+use lib.Seq.{take-suc, take-length, getD-take, getD-set-other, set-getD}
 use borrow.Author.Tests.{le-leb, leb-true}
 use native.Mathlib.Numerals.{add-one}
 use native.Mathlib.Omega.{arith}
@@ -89,6 +89,12 @@ pub stores-are : (v : View) (h : Held) (banks : List BankTrack) (spot p low left
     → z ≡ changed (sideNext v) right (getD (set (set banks p x) d y) e idle) → set (set (set banks p x) d y) e z ≡ banksNext v h banks
 unfolding banksNext
 stores-are v h banks spot p low left d high right e x y z a b f lo g i j hi k m n = rw (n, m, k, hi, j, i, g, lo, f, b, a)
+
+-- no neighbour changes where the packet is no PRER or REFP
+pub store-is : (v : View) (h : Held) (banks : List BankTrack) (spot p : ℕ) (x : BankTrack) → v .precharges ≡ false → spot ≡ spotOf v h → p ≡ slotOf spot
+    → x ≡ changed (ownNext v h) spot (getD banks p idle) → set banks p x ≡ banksNext v h banks
+unfolding banksNext
+store-is v h banks spot p x e a b f = rw (f, b, a, e) (sym (set-getD _ 0 idle ∙ set-getD _ 0 idle))
 
 same-state : {a b : Channel} {n m f g x y : ℕ} → a ≡ b → n ≡ m → f ≡ g → x ≡ y
     → _≡_ {A = PlannerState} (record { channel = a; now = record { 0 = n }; refresh = f; mask = x }) (record { channel = b; now = record { 0 = m }; refresh = g; mask = y })

@@ -179,12 +179,14 @@ pub fn place(s: Settings, p: PlannerState, c: Course) -> Draft
         let spot = spot_of(u, h);
         let j = slot_of(spot);
         banks[j] = own_after(u, h, spot, banks[j]);
-        let left = side_of(u, low_of(u.bank));
-        let d = slot_of(left);
-        banks[d] = side_after(u, left, banks[d]);
-        let right = side_of(u, high_of(u.bank));
-        let g = slot_of(right);
-        banks[g] = side_after(u, right, banks[g]);
+        if u.precharges {
+            let left = side_of(u, low_of(u.bank));
+            let d = slot_of(left);
+            banks[d] = side_after(u, left, banks[d]);
+            let right = side_of(u, high_of(u.bank));
+            let g = slot_of(right);
+            banks[g] = side_after(u, right, banks[g]);
+        }
         l = lasts_after(u, l);
         buffer = buffer_after(u, buffer);
     }

@@ -149,20 +149,23 @@ module _ (s : Settings) (mask : ℕ) (bytes : Dualoct) (z : Draft) (x r : Drawn)
         course = λ e. holds-more (x .course) (r .course) (z .records) (dataAt (z .planner) ∷ []) (d .course (early e)) (rw (d .state (early e)) at (k .course e)) (omega arith);
       }
 
-module _ (s : Settings) (p : PlannerState) (v : plannerValid s split p ≡ true) (at : Place) (m : at .bank < 32) (carried : ℕ) (k : carried ≡ writeMask split p at)
-    (c : Course) (h : Holds c (writeCourse split p at carried)) (x : Drawn) (d : Drafted s x (sentFrom s split p (listed c))) where
+-- no write makes more than six packets, whichever mask its WR carries
+module _ (s : Settings) (p : PlannerState) (at : Place) (m : at .bank < 32) (carried : ℕ) where
   abbrev wrote : Draft
-  wrote = sentFrom s split p (writeCourse split p at (writeMask split p at))
+  wrote = sentFrom s split p (writeCourse split p at carried)
 
   short : length (wrote .records) ≤ 6
-  short = omega (arith, all-length s split (writeCourse split p at (writeMask split p at)) (startOf p), write-short p at (writeMask split p at) m)
+  short = omega (arith, all-length s split (writeCourse split p at carried) (startOf p), write-short p at carried m)
 
-  drew : Drafted s x wrote
-  drew = rw (h .same, k) at d
+  module _ (c : Course) (h : Holds c (writeCourse split p at carried)) (x : Drawn) (d : Drafted s x (sentFrom s split p (listed c))) where
+    drew : Drafted s x wrote
+    drew = rw (h .same) at d
 
-  pub load-asks : x .late ≡ false → x .course .count < 17
-  load-asks e = omega (arith, short, drew .course e .count)
+    pub load-asks : x .late ≡ false → x .course .count < 17
+    load-asks e = omega (arith, short, drew .course e .count)
 
-  pub write-drafted : (mask : ℕ) (bytes : Dualoct) (r : Drawn) → Loaded s x mask bytes r → Drafted s r (planned s split (WriteTo at mask bytes) p)
-  write-drafted mask bytes r l =
-      rw (write-sent s split p (valid-inv s split p v) at mask bytes) (loaded-drafted s mask bytes wrote x r drew l (omega (arith, short)))
+    pub write-drafted : plannerValid s split p ≡ true → carried ≡ writeMask split p at → (mask : ℕ) (bytes : Dualoct) (r : Drawn) → Loaded s x mask bytes r
+        → Drafted s r (planned s split (WriteTo at mask bytes) p)
+    write-drafted v k mask bytes r l =
+        rw (write-sent s split p (valid-inv s split p v) at mask bytes)
+        (rw k at (loaded-drafted s mask bytes wrote x r drew l (omega (arith, short))))

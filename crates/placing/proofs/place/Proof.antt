@@ -7,8 +7,9 @@ use lib.ListN.{length}
 use Rattle.rules.specs.Neighbour.{split}
 use Rattle.rules.proofs.Bools.{not-both}
 use Rattle.channel.proofs.JudgeLaws.{length-of-map}
+use Rattle.channel.specs.Steps.{banksNext}
 use Rattle.plan.specs.Plan.{slot}
-use Rattle.placing.proofs.PlaceLaws.{stampedAt, stores-are, sentTo, packetAt, Going, going-start, entry-packet, slot-is, going-late, slot-fits, going-next, going-end}
+use Rattle.placing.proofs.PlaceLaws.{stampedAt, stores-are, store-is, sentTo, packetAt, Going, going-start, entry-packet, slot-is, going-late, slot-fits, going-next, going-end}
 use borrow.Author.Needs.{needs}
 use Rattle.placing.proofs.place.Statement.{statement}
 use Rattle.placing.proofs.place.Tie as tie
@@ -215,21 +216,27 @@ buffer-after-requires : tie.Need-buffer-after-requires Inv-loop μ-loop
 buffer-after-requires c κs = search needs
 
 add-i : tie.Need-add-i Inv-loop μ-loop
-add-i c = omega (arith, c .before .before .before .before .before .before .before .before .before .before .before .before .before .before .before .before .before .before .before .before .before .before .before .before .before .before .before .before .before .before .before .before .before .before .before .loop-test .taken, c .before .before .before .before .before .before .before .before .before .before .before .before .before .before .before .before .before .before .before .before .before .before .before .before .before .before .before .before .before .before .before .before .before .before .before .before .before .before .before .before .before .pre .0)
+add-i c = omega (arith, c .before .before .before .before .before .before .before .before .before .before .before .before .before .before .before .before .before .before .before .before .before .before .before .before .before .before .loop-test .taken, c .before .before .before .before .before .before .before .before .before .before .before .before .before .before .before .before .before .before .before .before .before .before .before .before .before .before .before .before .before .before .before .before .pre .0)
 
 loop-less : tie.Need-loop-less Inv-loop μ-loop
-loop-less c = omega (arith, c .before .before .before .before .before .before .before .before .before .before .before .before .before .before .before .before .before .before .before .before .before .before .before .before .before .before .before .before .before .before .before .before .before .before .before .loop-test .taken, c .before .before .before .before .before .before .before .before .before .before .before .before .before .before .before .before .before .before .before .before .before .before .before .before .before .before .before .before .before .before .before .before .before .before .before .before .before .before .before .before .before .pre .0)
+loop-less c = omega (arith, c .before .before .before .before .before .before .before .before .before .before .before .before .before .before .before .before .before .before .before .before .before .before .before .before .before .before .loop-test .taken, c .before .before .before .before .before .before .before .before .before .before .before .before .before .before .before .before .before .before .before .before .before .before .before .before .before .before .before .before .before .before .before .before .pre .0)
 
 loop-again : tie.Need-loop-again Inv-loop μ-loop
 loop-again c =
-    let z = c .before .before .before .before .before .before .before .before .before .before .before .before .before .before .before .before .before .before .before .before .before .before .before .before .before .before .before .before .before .before .before .before .before .before .before .before .before .before .before .before .before in
-    let k = c .before .before .before .before .before .before .before .before .before .before .before .before .before .before .before .before .before .before .before .before .before .before .before .before .before .before .before .before .before .before .before .before .before .before .before .before .loop in
-    let l = c .before .before .before .before .before .before .before .before .before .before .before .before .before .before .before .before .before .before in
-    let v = c .before .before .before .before .before .before .before .before .before .before .before .before .before .before .before .before .before .before .before .before .before .before .before .before .before .before .before .before .before .before .before .before .before .view-in .result in
-    let stored = stores-are (stampedAt (c .before .before .before .before .before .before .before .before .before .before .before .before .before .before .before .before .before .before .before .slot-for .result) v) (c .before .before .before .before .before .before .before .before .before .before .before .before .before .before .before .before .before .before .before .before .before .before .before .before .before .before .before .before .before .before .before .before .held-of .result) (k .banks) _ _ _ _ _ _ _ _ _ _ _
-    (c .before .before .before .before .before .before .before .before .before .before .before .before .before .before .before .spot-of .ensures) (c .before .before .before .before .before .before .before .before .before .before .before .before .before .before .slot-of5 .ensures .0) (c .before .before .before .before .before .before .before .before .before .before .before .before .own-after .ensures) (c .before .before .before .before .before .before .before .before .before .before .before .low-of2 .ensures) (c .before .before .before .before .before .before .before .before .before .before .side-of .ensures) (c .before .before .before .before .before .before .before .before .before .slot-of6 .ensures .0) (c .before .before .before .before .before .before .before .side-after .ensures) (c .before .before .before .before .before .before .high-of2 .ensures) (c .before .before .before .before .before .side-of2 .ensures) (c .before .before .before .before .slot-of7 .ensures .0) (c .before .before .side-after2 .ensures)
+    let z = c .before .before .before .before .before .before .before .before .before .before .before .before .before .before .before .before .before .before .before .before .before .before .before .before .before .before .before .before .before .before .before .before in
+    let k = c .before .before .before .before .before .before .before .before .before .before .before .before .before .before .before .before .before .before .before .before .before .before .before .before .before .before .before .loop in
+    let l = c .before .before .before .before .before .before .before .before .before in
+    let v = c .before .before .before .before .before .before .before .before .before .before .before .before .before .before .before .before .before .before .before .before .before .before .before .before .view-in .result in
+    let u = stampedAt (c .before .before .before .before .before .before .before .before .before .before .slot-for .result) v in
+    let h = c .before .before .before .before .before .before .before .before .before .before .before .before .before .before .before .before .before .before .before .before .before .before .before .held-of .result in
+    let stored : c .before .before .if3 .banks ≡ banksNext (stampedAt (c .before .before .before .before .before .before .before .before .before .before .slot-for .result) v) h (k .banks) =
+    ⊎-elim
+    (λ w. w .11 ∙ stores-are u h (k .banks) _ _ _ _ _ _ _ _ _ _ _
+    (c .before .before .before .before .before .before .spot-of .ensures) (c .before .before .before .before .before .slot-of5 .ensures .0) (c .before .before .before .own-after .ensures) (w .1 .ensures) (w .2 .ensures) (w .3 .ensures .0) (w .5 .ensures) (w .6 .ensures) (w .7 .ensures) (w .8 .ensures .0) (w .10 .ensures))
+    (λ w. w .1 ∙ store-is u h (k .banks) _ _ _ (w .0 .left) (c .before .before .before .before .before .before .spot-of .ensures) (c .before .before .before .before .before .slot-of5 .ensures .0) (c .before .before .before .own-after .ensures))
+    (c .before .before .if3 .came)
     in
-    going-next (z .args .s) (z .args .p) (z .args .c) (long z) (z .pre .0) (k .banks) (k .l) (k .buffer) (k .now) (k .entries) (k .i) (k .inv) (c .before .before .before .before .before .before .before .before .before .before .before .before .before .before .before .before .before .before .before .before .before .before .before .before .before .before .before .before .before .before .before .before .before .before .before .loop-test .taken) _ (slot-found l) _ (c .before .before .before .before .before .before .before .before .before .before .before .before .before .before .before .before .before .before .before .before .before .before .before .before .before .before .before .before .before .before .before .before .before .view-in .ensures) _ (c .before .before .before .before .before .before .before .before .before .before .before .before .before .before .before .before .before .before .before .before .before .before .before .before .before .before .before .before .before .before .before .before .held-of .ensures) _ (c .before .before .before .before .before .before .before .before .before .before .before .before .before .before .before .before .before .before .is-late .ensures) (c .before .before .before .before .before .before .before .before .before .before .before .before .before .before .before .before .before .if2 .left) _ (c .before .before .before .before .before .before .before .before .before .before .before .before .before .before .before .before .at-instant .ensures) _ _ _ stored (c .before .lasts-after .ensures) (c .buffer-after .ensures)
+    going-next (z .args .s) (z .args .p) (z .args .c) (long z) (z .pre .0) (k .banks) (k .l) (k .buffer) (k .now) (k .entries) (k .i) (k .inv) (c .before .before .before .before .before .before .before .before .before .before .before .before .before .before .before .before .before .before .before .before .before .before .before .before .before .before .loop-test .taken) _ (slot-found l) _ (c .before .before .before .before .before .before .before .before .before .before .before .before .before .before .before .before .before .before .before .before .before .before .before .before .view-in .ensures) _ (c .before .before .before .before .before .before .before .before .before .before .before .before .before .before .before .before .before .before .before .before .before .before .before .held-of .ensures) _ (c .before .before .before .before .before .before .before .before .before .is-late .ensures) (c .before .before .before .before .before .before .before .before .if2 .left) _ (c .before .before .before .before .before .before .before .at-instant .ensures) _ _ _ stored (c .before .lasts-after .ensures) (c .buffer-after .ensures)
 
 draft-of-requires-2 : tie.Need-draft-of-requires-2 Inv-loop μ-loop
 draft-of-requires-2 c κs = search needs

@@ -36,7 +36,7 @@ place-requires-2 c κs = place-asks (c .before .before .before .before .before .
 
 load-requires : tie.Need-load-requires
 unfolding bankIn
-load-requires c κs = load-asks (c .before .before .before .before .before .before .args .s) (c .before .before .before .before .before .before .args .p) (c .before .before .before .before .before .before .pre .0) _ (ltb-true _ _ (rw (c .before .before .before .before .q2 .given .1) at (c .before .before .before .before .before .before .pre .1))) _ (c .before .before .write-mask .ensures) _ (c .before .write-course .ensures) _ (c .place2 .ensures)
+load-requires c κs = load-asks (c .before .before .before .before .before .before .args .s) (c .before .before .before .before .before .before .args .p) _ (ltb-true _ _ (rw (c .before .before .before .before .q2 .given .1) at (c .before .before .before .before .before .before .pre .1))) _ _ (c .before .write-course .ensures) _ (c .place2 .ensures)
 
 enum-told : tie.Need-enum-told
 enum-told c = search needs
@@ -70,7 +70,7 @@ returns c = let z = c .before .before .before .before .before in rw (c .before .
 
 returns-2 : tie.Need-returns-2
 unfolding bankIn
-returns-2 c = let z = c .before .before .before .before .before .before .before in rw (c .before .before .before .before .before .q2 .given .1) (write-drafted (z .args .s) (z .args .p) (z .pre .0) _ (ltb-true _ _ (rw (c .before .before .before .before .before .q2 .given .1) at (z .pre .1))) _ (c .before .before .before .write-mask .ensures) _ (c .before .before .write-course .ensures) _ (c .before .place2 .ensures) _ _ _ (c .load .ensures))
+returns-2 c = let z = c .before .before .before .before .before .before .before in rw (c .before .before .before .before .before .q2 .given .1) (write-drafted (z .args .s) (z .args .p) _ (ltb-true _ _ (rw (c .before .before .before .before .before .q2 .given .1) at (z .pre .1))) _ _ (c .before .before .write-course .ensures) _ (c .before .place2 .ensures) (z .pre .0) (c .before .before .before .write-mask .ensures) _ _ _ (c .load .ensures))
 
 returns-3 : tie.Need-returns-3
 returns-3 c = let z = c .before .before .before .before .before in rw (c .before .before .before .enum-told .given .1) (refresh-drafted (z .args .s) (z .args .p) (z .pre .0) _ _ _ (c .before .before .refresh-course .ensures) (c .before .place3 .ensures) (c .turn .ensures))
