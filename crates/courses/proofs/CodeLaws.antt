@@ -12,6 +12,7 @@ use Rattle.packet.specs.declared.RowPacket.the-variants.{Act, Prer, Refa, Refp}
 use Rattle.packet.specs.declared.ColPacket.the-variants.{Nocop, Wr, Rd}
 use Rattle.record.specs.declared.Record.{Record}
 use Rattle.record.specs.declared.Place.{Place}
+use Rattle.rules.specs.declared.BankTrack.{BankTrack}
 use Rattle.rules.specs.Neighbour.{Relation, split, near}
 use Rattle.rules.specs.Packets.{isPacket}
 use Rattle.rules.specs.History.{isClosed}
@@ -23,9 +24,9 @@ use Rattle.plan.specs.declared.PlannerState.{PlannerState}
 use Rattle.plan.specs.Plan.{rowPacket, colPacket, openOn, hits}
 use Rattle.courses.specs.declared.Entry.{Entry}
 use Rattle.courses.specs.declared.Course.{Course}
-use Rattle.courses.specs.Course.{Holds, Extends, allPackets, closing, closings, threeOf, heldIn, fullMask, nocop, clearing, opening, isOpenAt, rdAt, readCourse, wrAt, writeMask, writeCourse, refreshCourse, drainCourse}
+use Rattle.courses.specs.Course.{Holds, Extends, allPackets, closing, closings, showsIn, threeOf, heldIn, fullMask, nocop, clearing, opening, isOpenAt, rdAt, readCourse, wrAt, writeMask, writeCourse, refreshCourse, drainCourse}
 use Rattle.courses.proofs.ListedLaws.{Filled, filled-put, extends-more, holds-more, packets-append}
-use Rattle.courses.proofs.ShortLaws.{bit-le, closings-packets, closings-same, clearing-short, drain-short, showsAt, clearing-three}
+use Rattle.courses.proofs.ShortLaws.{bit-le, closings-packets, closings-same, clearing-short, drain-short, clearing-three}
 
 -- ---- one packet more
 
@@ -47,12 +48,16 @@ one-more-of c r e q x u = rw x at u
 -- ---- a bank and its neighbours
 
 -- one of them, as it is read
-pub shows-at : (p : PlannerState) (x k : ℕ) (o : Bool) → k ≡ slotOf x → o ≡ (ltb x 32 && not (isClosed (getD (p .channel .banks) k idle .bank))) → o ≡ showsAt p x
-shows-at p x k o e f = f ∙ rw e (go (ltb x 32) refl)
+pub shows-at : (banks : List BankTrack) (x k : ℕ) (o : Bool) → k ≡ slotOf x → o ≡ (ltb x 32 && not (isClosed (getD banks k idle .bank))) → o ≡ showsIn banks x
+shows-at banks x k o e f = f ∙ rw e (go (ltb x 32))
   where
-    go : (t : Bool) → ltb x 32 ≡ t → t && not (isClosed (getD (p .channel .banks) (cond t x 0) idle .bank)) ≡ t && not (isClosed (getD (p .channel .banks) x idle .bank))
-    go true q = refl
-    go false q = refl
+    go : (t : Bool) → t && not (isClosed (getD banks (cond t x 0) idle .bank)) ≡ t && not (isClosed (getD banks x idle .bank))
+    go true = refl
+    go false = refl
+
+pub near-holds : (banks : List BankTrack) (w mask b : ℕ) (low own high : Bool) (r : Course) → Holds r (threeOf w mask b low own high) → low ≡ showsIn banks (lowOf b)
+    → own ≡ showsIn banks b → high ≡ showsIn banks (highOf b) → Holds r (threeOf w mask b (showsIn banks (lowOf b)) (showsIn banks b) (showsIn banks (highOf b)))
+near-holds banks w mask b low own high r h x y z = rw (x, y, z) at h
 
 -- the packets of one bank, stored one after the other
 pub bank-put : (w mask x : ℕ) (sent : Bool) (l : List Entry) (n : ℕ) (a : List Record) → Filled l n a → n < 16 → (e f : Entry) (t : Bool) (i m j k : ℕ)
@@ -74,9 +79,26 @@ bank-put w mask x sent l n a h r e f t i m j k p q u v y z o =
 pub filled-holds : (l : List Entry) (n : ℕ) (a : List Record) → Filled l n a → n ≤ 17 → Holds (record { entries = l; count = n }) a
 filled-holds l n a f h = record { count = f .count; fits = omega (arith, f .count); same = f .same }
 
-pub clearing-holds : (p : PlannerState) (b : ℕ) → b < 32 → (w : ℕ) (low own high : Bool) (r : Course) → Holds r (threeOf w (p .mask) b low own high) → w ≡ heldIn p .bank
-    → low ≡ showsAt p (lowOf b) → own ≡ showsAt p b → high ≡ showsAt p (highOf b) → Holds r (clearing split p b)
-clearing-holds p b m w low own high r h g x y z = rw (clearing-three p b m) (rw (g, x, y, z) at h)
+-- whichever banks are not closed, and whichever bank the write waits in
+pub near-asks : (banks : List BankTrack) (w mask b : ℕ) (c : Course) → Holds c (threeOf w mask b (showsIn banks (lowOf b)) (showsIn banks b) (showsIn banks (highOf b)))
+    → c .count ≤ 6
+near-asks banks w mask b c h = three (lowOf b) b (highOf b) (showsIn banks (lowOf b)) (showsIn banks b) (showsIn banks (highOf b)) (h .count)
+  where
+    one : (x : ℕ) (t u : Bool) → length (cond t (cond u (colPacket (Nocop mask) ∷ rowPacket (Prer x) ∷ []) (rowPacket (Prer x) ∷ [])) []) ≤ 2
+    one x true true = omega arith
+    one x true false = omega arith
+    one x false u = omega arith
+
+    three : (x y z : ℕ) (l o u : Bool) → c .count ≡ length (cond l (closing w mask x) [] ++ cond o (closing w mask y) [] ++ cond u (closing w mask z) []) → c .count ≤ 6
+    three x y z l o u e =
+        let a = length-append (cond l (closing w mask x) [] ++ cond o (closing w mask y) []) (cond u (closing w mask z) []) in
+        let d = length-append (cond l (closing w mask x) []) (cond o (closing w mask y) []) in
+        omega (arith, e, a, d, one x l (eqb x w), one y o (eqb y w), one z u (eqb z w))
+
+pub clearing-holds : (p : PlannerState) (b : ℕ) → b < 32 → (w : ℕ) (r : Course)
+    → Holds r (threeOf w (p .mask) b (showsIn (p .channel .banks) (lowOf b)) (showsIn (p .channel .banks) b) (showsIn (p .channel .banks) (highOf b)))
+    → w ≡ heldIn p .bank → Holds r (clearing split p b)
+clearing-holds p b m w r h g = rw (clearing-three p b m) (rw g at h)
 
 module _ (p : PlannerState) (at : Place) (m : at .bank < 32) where
   pub opening-short : length (opening split p at) ≤ 5

@@ -30,7 +30,7 @@ use Rattle.channel.proofs.NearLaws.{Beside, own, low, high, near-beside, near-o
 use Rattle.plan.specs.declared.PlannerState.{PlannerState}
 use Rattle.plan.specs.Plan.{rowPacket, colPacket}
 use Rattle.plan.proofs.Bound.{count, count-pairs}
-use Rattle.courses.specs.Course.{allPackets, closing, closingIf, closings, threeOf, firstNear, lastNear, heldIn, clearing, opening, readCourse, writeCourse, refreshCourse, drainCourse}
+use Rattle.courses.specs.Course.{allPackets, closing, closingIf, closings, showsIn, threeOf, firstNear, lastNear, heldIn, clearing, opening, readCourse, writeCourse, refreshCourse, drainCourse}
 use Rattle.courses.proofs.ListedLaws.{packets-append}
 
 -- ---- how many
@@ -300,15 +300,11 @@ module _ (state : ℕ → Bank) (w mask from : ℕ) where
   closings-first : closings state w mask (leb from) (from + 1) ≡ shut from
   closings-first = closings-step from (omega arith) ∙ rw (closings-none state w mask from)
 
--- whether there is a bank x, and it is not closed
-abbrev pub showsAt : PlannerState → ℕ → Bool
-showsAt p x = ltb x 32 && not (isClosed (stateOf (p .channel) x))
-
 module _ (p : PlannerState) (b : ℕ) (m : b < 32) where
   abbrev state : ℕ → Bank
   state = stateOf (p .channel)
 
-  pub clearing-three : clearing split p b ≡ threeOf (heldIn p .bank) (p .mask) b (showsAt p (lowOf b)) (showsAt p b) (showsAt p (highOf b))
+  pub clearing-three : clearing split p b ≡ threeOf (heldIn p .bank) (p .mask) b (showsIn (p .channel .banks) (lowOf b)) (showsIn (p .channel .banks) b) (showsIn (p .channel .banks) (highOf b))
   clearing-three = clearing-range p b m ∙ rw (lt-ltb b 32 m) (go (eqb (b % 16) 0) (eqb (b % 16) 15) refl refl)
     where
       w : ℕ

@@ -69,6 +69,10 @@ module _ (state : ℕ → Bank) (w mask : ℕ) where
   closings pick zero = []
   closings pick (suc n) = closings pick n ++ closingIf pick n
 
+-- whether there is a bank x, and it is not closed
+abbrev pub showsIn : List BankTrack → ℕ → Bool
+showsIn banks x = ltb x 32 && not (isClosed (bankAt banks x))
+
 -- for a bank and its neighbours, each where it is not closed
 abbrev pub threeOf : ℕ → ℕ → ℕ → Bool → Bool → Bool → List Record
 threeOf w mask b low own high = cond low (closing w mask (lowOf b)) [] ++ cond own (closing w mask b) [] ++ cond high (closing w mask (highOf b)) []

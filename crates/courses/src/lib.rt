@@ -8,9 +8,10 @@ ghost use lib.ListN.{length};
 ghost use Rattle.rules.specs.Neighbour.{split};
 ghost use Rattle.rules.specs.History.{isClosed};
 ghost use Rattle.rules.specs.Channel.{stateOf, waitingOf};
+ghost use Rattle.channel.specs.View.{lowOf, highOf};
 ghost use Rattle.validity.specs.Valid.{apart};
 ghost use Rattle.plan.specs.Plan.{rowPacket, colPacket, openOn, hits};
-ghost use Rattle.courses.specs.Course.{Holds, Extends, bankAt, closing, closings, threeOf, fullMask, clearing, opening, rdAt, wrAt, readCourse, writeMask, writeCourse, refreshCourse, drainCourse};
+ghost use Rattle.courses.specs.Course.{Holds, Extends, bankAt, closing, closings, showsIn, threeOf, fullMask, opening, rdAt, wrAt, readCourse, writeMask, writeCourse, refreshCourse, drainCourse};
 use channel::beside::high_of;
 use channel::beside::is_near;
 use channel::beside::low_of;
@@ -150,22 +151,18 @@ fn three(w: u32, mask: u32, b: u32, low: bool, own: bool, high: bool) -> Course
     }
 }
 
-// Closes a bank and its neighbours.
-fn clearing(p: PlannerState, b: u32) -> Course
-    requires { ⌜ b < 32 ⌝ }
-    ensures { λ r. ⌜ Holds r (clearing split p b) ⌝ }
+// Closes bank b and its neighbours, by what stands at their indices.
+fn shut_near(banks: [BankTrack; 32], w: u32, mask: u32, b: u32) -> Course
+    ensures { λ r. ⌜ Holds r (threeOf w mask b (showsIn banks (lowOf b)) (showsIn banks b) (showsIn banks (highOf b))) ⌝ }
 {
-    let ch = p.channel;
-    let buffer = ch.buffer;
-    let h = held_of(buffer);
     let below = low_of(b);
     let above = high_of(b);
-    let low = ch.banks[slot_of(below)];
-    let own = ch.banks[slot_of(b)];
-    let high = ch.banks[slot_of(above)];
+    let low = banks[slot_of(below)];
+    let own = banks[slot_of(b)];
+    let high = banks[slot_of(above)];
     three(
-        h.bank,
-        p.mask,
+        w,
+        mask,
         b,
         shows(below, low),
         shows(b, own),
@@ -207,13 +204,16 @@ fn opening(p: PlannerState, at: Place) -> Course
     requires { ⌜ at .bank < 32 ⌝ }
     ensures { λ r. ⌜ Holds r (opening split p at) ⌝ }
 {
-    push(
-        clearing(p, at.bank),
-        row_packet(RowPacket::Act {
-            bank: at.bank,
-            row: at.row,
-        }),
-    )
+    let ch = p.channel;
+    let banks = ch.banks;
+    let buffer = ch.buffer;
+    let h = held_of(buffer);
+    let c = shut_near(banks, h.bank, p.mask, at.bank);
+    let act = row_packet(RowPacket::Act {
+        bank: at.bank,
+        row: at.row,
+    });
+    push(c, act)
 }
 
 // A read.
@@ -283,8 +283,13 @@ pub fn refresh_course(p: PlannerState) -> Course
     requires { ⌜ p .refresh < 32 ⌝ }
     ensures { λ r. ⌜ Holds r (refreshCourse split p) ⌝ }
 {
+    let ch = p.channel;
+    let banks = ch.banks;
+    let buffer = ch.buffer;
+    let h = held_of(buffer);
     let b = p.refresh;
-    let c = push(clearing(p, b), row_packet(RowPacket::Refa { bank: b }));
+    let cleared = shut_near(banks, h.bank, p.mask, b);
+    let c = push(cleared, row_packet(RowPacket::Refa { bank: b }));
     push(c, row_packet(RowPacket::Refp { bank: b }))
 }
 
