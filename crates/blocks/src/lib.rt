@@ -72,7 +72,7 @@ fn sum_right(b: &[u8]) -> bool
 }
 
 // Whether b is block k of a log, and its last block where last says so.
-pub fn block_right(b: &[u8], k: u64, last: bool) -> bool
+pub(crate) fn block_right(b: &[u8], k: u64, last: bool) -> bool
     requires { ⌜ length (now b) ≡ 512 ⌝ }
     ensures { λ r. ⌜ r ≡ blockRight k last (now (b .entry)) ⌝ }
 {

@@ -5,7 +5,7 @@ ghost use lib.ListN.{length};
 ghost use Rattle.blocks.specs.Block.{wordSum};
 
 // The sum of the first n words, modulo 2^32.
-pub fn word_sum(b: &[u8], n: usize) -> u32
+pub(crate) fn word_sum(b: &[u8], n: usize) -> u32
     requires { ⌜ 4 * n ≤ length (now b) ⌝ }
     ensures { λ r. ⌜ r ≡ wordSum (now (b .entry)) n % 2 ^ 32 ⌝ }
 {

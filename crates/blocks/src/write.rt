@@ -20,7 +20,7 @@ fn write_body(b: &mut [u8], k: u32, recs: &[u8])
 }
 
 // Writes block k; its check word is the wrapping negative of the sum of the other words.
-pub fn write_block(b: &mut [u8], k: u32, recs: &[u8])
+pub(crate) fn write_block(b: &mut [u8], k: u32, recs: &[u8])
     requires { ⌜ (length (now b) ≡ 512) × (length (now recs) ≤ 480) ⌝ }
     ensures { λ _. ⌜ now (b .exit) ≡ block k (now (recs .entry)) ⌝ }
 {
