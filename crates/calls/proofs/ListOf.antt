@@ -26,7 +26,7 @@ use Rattle.checker.specs.declared.Judged.{Judged}
 use Rattle.checker.specs.declared.Judged.the-variants.{Passed, Refused}
 use Rattle.checker.specs.Check.{known, recordsUpTo, recordsOf, listAnswer}
 use Rattle.checker.proofs.PassLaws.{isPassed, list-passes}
-use Rattle.rdram.specs.Checks.{checkAnswer, listUnder, listChecked}
+use Rattle.lists.specs.Checks.{checkAnswer, listUnder, listChecked}
 
 module _ (s : Settings) where
   pub length-list : (l : List Record) → length (listBytes s l) ≡ 32 * length l

@@ -18,7 +18,7 @@ use Rattle.model.specs.ModelBytes.{modelBytes}
 use Rattle.runs.specs.Flat.{Fed, flatAfter, flatAnswers}
 use Rattle.by_bytes.specs.declared.PlanAnswer.{PlanAnswer}
 use Rattle.by_bytes.specs.declared.StepAnswer.{StepAnswer}
-use Rattle.rdram.specs.Checks.{listChecked}
+use Rattle.lists.specs.Checks.{listChecked}
 use Rattle.by_bytes.specs.Plans.{planAnswered, planPlanner, planPlaced}
 use Rattle.by_bytes.specs.Models.{stepAnswered, steppedModel, steppedStore, steppedRoom}
 

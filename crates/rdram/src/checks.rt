@@ -1,40 +1,14 @@
 // The checker of lists and logs.
 ghost use mathlib.Core.Path.{_≡_};
-ghost use Rattle.rdram.specs.Checks.{checkAnswer, listChecked, logChecked};
-use crate::CheckAnswer;
-use checker::Judged;
-use record::Refusal;
-use settings::SettingsRead;
-
-fn check_answer(j: Judged) -> CheckAnswer
-    ensures { λ r. ⌜ r ≡ checkAnswer j ⌝ }
-{
-    match j {
-        Judged::Passed => CheckAnswer {
-            number: 0,
-            rule: 0,
-            place: 0,
-        },
-        Judged::Refused(r) => {
-            let a = r.answer();
-            CheckAnswer {
-                number: a.number,
-                rule: a.rule,
-                place: a.place,
-            }
-        }
-    }
-}
+ghost use Rattle.lists.specs.Checks.{listChecked, logChecked};
+use lists::CheckAnswer;
 
 // Judges a list of records.
 #[no_mangle]
 pub extern "C" fn rdram_check(settings: &[u8], list: &[u8]) -> CheckAnswer
     ensures { λ r. ⌜ r ≡ listChecked (now (settings .entry)) (now (list .entry)) ⌝ }
 {
-    match settings::read::read_settings(settings) {
-        SettingsRead::Refused => check_answer(Judged::Refused(Refusal::Settings)),
-        SettingsRead::Accepted(s) => check_answer(checker::check::check_list(s, list)),
-    }
+    lists::checks::check_by(settings, list)
 }
 
 // Judges the list that a log keeps.
@@ -42,8 +16,5 @@ pub extern "C" fn rdram_check(settings: &[u8], list: &[u8]) -> CheckAnswer
 pub extern "C" fn rdram_check_log(settings: &[u8], log: &[u8]) -> CheckAnswer
     ensures { λ r. ⌜ r ≡ logChecked (now (settings .entry)) (now (log .entry)) ⌝ }
 {
-    match settings::read::read_settings(settings) {
-        SettingsRead::Refused => check_answer(Judged::Refused(Refusal::Settings)),
-        SettingsRead::Accepted(s) => check_answer(checker::check::check_log(s, log)),
-    }
+    lists::checks::check_log_by(settings, log)
 }

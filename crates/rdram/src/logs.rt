@@ -1,40 +1,14 @@
 // Lists of records and logs of blocks.
 ghost use mathlib.Core.Path.{_≡_};
-ghost use Rattle.rdram.specs.Logs.{copyAnswer, logEncodeAnswer, logEncoded, logDecodeAnswer, logDecoded};
-use crate::CopyAnswer;
-use log::Copied;
-use record::Refusal;
-use settings::SettingsRead;
-
-fn copy_answer(c: Copied) -> CopyAnswer
-    ensures { λ r. ⌜ r ≡ copyAnswer c ⌝ }
-{
-    match c {
-        Copied::Refused(r) => {
-            let a = r.answer();
-            CopyAnswer {
-                number: a.number,
-                place: a.place,
-                count: 0,
-            }
-        }
-        Copied::Count(n) => CopyAnswer {
-            number: 0,
-            place: 0,
-            count: n,
-        },
-    }
-}
+ghost use Rattle.lists.specs.Logs.{logEncodeAnswer, logEncoded, logDecodeAnswer, logDecoded};
+use lists::CopyAnswer;
 
 // A list of records to the start of a log.
 #[no_mangle]
 pub extern "C" fn rdram_log_encode(settings: &[u8], list: &[u8], log: &mut [u8]) -> CopyAnswer
     ensures { λ r. ⌜ (r ≡ logEncodeAnswer (now (settings .entry)) (now (list .entry)) (now (log .entry))) × (now (log .exit) ≡ logEncoded (now (settings .entry)) (now (list .entry)) (now (log .entry))) ⌝ }
 {
-    match settings::read::read_settings(settings) {
-        SettingsRead::Refused => copy_answer(Copied::Refused(Refusal::Settings)),
-        SettingsRead::Accepted(s) => copy_answer(log::copy::encode(s, list, log)),
-    }
+    lists::logs::encode_by(settings, list, log)
 }
 
 // A log to the start of a list of records.
@@ -42,8 +16,5 @@ pub extern "C" fn rdram_log_encode(settings: &[u8], list: &[u8], log: &mut [u8])
 pub extern "C" fn rdram_log_decode(settings: &[u8], log: &[u8], list: &mut [u8]) -> CopyAnswer
     ensures { λ r. ⌜ (r ≡ logDecodeAnswer (now (settings .entry)) (now (log .entry)) (now (list .entry))) × (now (list .exit) ≡ logDecoded (now (settings .entry)) (now (log .entry)) (now (list .entry))) ⌝ }
 {
-    match settings::read::read_settings(settings) {
-        SettingsRead::Refused => copy_answer(Copied::Refused(Refusal::Settings)),
-        SettingsRead::Accepted(s) => copy_answer(log::copy::decode(s, log, list)),
-    }
+    lists::logs::decode_by(settings, log, list)
 }

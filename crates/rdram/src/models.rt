@@ -4,7 +4,6 @@ ghost use Rattle.by_bytes.specs.Models.{freshModelNumber, freshModelPlaced, ste
 use by_bytes::StepAnswer;
 use by_bytes::models::step_answer;
 use by_bytes::models::step_by;
-use device::Model;
 use model::Stepped;
 use record::Refusal;
 use settings::SettingsRead;
@@ -14,12 +13,7 @@ use settings::SettingsRead;
 pub extern "C" fn rdram_model_fresh(model: &mut [u8]) -> u32
     ensures { λ r. ⌜ (r ≡ freshModelNumber (now (model .entry))) × (now (model .exit) ≡ freshModelPlaced (now (model .entry))) ⌝ }
 {
-    if model.len() != 752 {
-        return 1;
-    }
-    let m = Model::fresh();
-    m.put(model);
-    0
+    fresh::models::put_model(model)
 }
 
 // Takes one record: an RD puts its dualoct at the start of room, a retire writes to the store.

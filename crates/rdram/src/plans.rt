@@ -5,7 +5,6 @@ use by_bytes::PlanAnswer;
 use by_bytes::plans::plan_answer;
 use by_bytes::plans::plan_by;
 use plan::Outcome;
-use planner::Planner;
 use record::Refusal;
 use settings::SettingsRead;
 
@@ -14,12 +13,7 @@ use settings::SettingsRead;
 pub extern "C" fn rdram_planner_fresh(planner: &mut [u8]) -> u32
     ensures { λ r. ⌜ (r ≡ freshNumber (now (planner .entry))) × (now (planner .exit) ≡ freshPlaced (now (planner .entry))) ⌝ }
 {
-    if planner.len() != 740 {
-        return 1;
-    }
-    let p = Planner::fresh();
-    p.put(planner);
-    0
+    fresh::plans::put_planner(planner)
 }
 
 // Plans one request: its records go to the start of room, and planner becomes the next state.

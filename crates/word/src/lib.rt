@@ -1,7 +1,7 @@
 // Packet words in numbers, as C callers give and take them.
 ghost use mathlib.Core.Path.{_≡_};
 ghost use Prim.Native.Nat.{_<_};
-ghost use Rattle.word.specs.Words.{fieldsRight, rowCommand, colCommand, commandCoded, noWordAnswer, whyNoWord, wordAnswer, rowNumbers, colNumbers, noPacket, rowAnswer, colAnswer, packetAnswer};
+ghost use Rattle.word.specs.Words.{fieldsRight, rowCommand, colCommand, commandCoded, noWordAnswer, whyNoWord, wordAnswer, wordEncoded, rowNumbers, colNumbers, noPacket, rowAnswer, colAnswer, packetAnswer, wordDecoded};
 use packet::Coded;
 use packet::ColDecoded;
 use packet::ColPacket;
@@ -9,6 +9,7 @@ use packet::RowDecoded;
 use packet::RowPacket;
 use record::Refusal;
 use settings::Settings;
+use settings::SettingsRead;
 
 // The word of a packet: number is 0, or the refusal's and word 0.
 #[repr(C)]
@@ -79,7 +80,7 @@ fn col_command(command: u32, bank: u32, place: u32, mask: u32) -> ColPacket
 }
 
 // The word of a command with these fields, where it has one under the settings.
-pub fn command_coded(s: Settings, command: u32, bank: u32, place: u32, mask: u32) -> Coded
+fn command_coded(s: Settings, command: u32, bank: u32, place: u32, mask: u32) -> Coded
     requires { ⌜ s .device < 32 ⌝ }
     ensures { λ r. ⌜ r ≡ commandCoded s command bank place mask ⌝ }
 {
@@ -96,7 +97,7 @@ pub fn command_coded(s: Settings, command: u32, bank: u32, place: u32, mask: u32
     Coded::NoWord
 }
 
-pub fn no_word(r: Refusal) -> WordAnswer
+fn no_word(r: Refusal) -> WordAnswer
     ensures { λ w. ⌜ w ≡ noWordAnswer r ⌝ }
 {
     WordAnswer {
@@ -106,7 +107,7 @@ pub fn no_word(r: Refusal) -> WordAnswer
 }
 
 // Why a command with these fields has no word.
-pub fn why_no_word(s: Settings, command: u32, bank: u32, place: u32) -> Refusal
+fn why_no_word(s: Settings, command: u32, bank: u32, place: u32) -> Refusal
     ensures { λ r. ⌜ r ≡ whyNoWord s command bank place ⌝ }
 {
     if 31 < bank {
@@ -122,7 +123,7 @@ pub fn why_no_word(s: Settings, command: u32, bank: u32, place: u32) -> Refusal
     Refusal::Word(0)
 }
 
-pub fn word_answer(why: Refusal, c: Coded) -> WordAnswer
+fn word_answer(why: Refusal, c: Coded) -> WordAnswer
     ensures { λ r. ⌜ r ≡ wordAnswer why c ⌝ }
 {
     match c {
@@ -194,7 +195,7 @@ fn col_numbers(p: ColPacket) -> PacketAnswer
     }
 }
 
-pub fn no_packet(r: Refusal) -> PacketAnswer
+fn no_packet(r: Refusal) -> PacketAnswer
     ensures { λ p. ⌜ p ≡ noPacket r ⌝ }
 {
     PacketAnswer {
@@ -224,7 +225,7 @@ fn col_answer(d: ColDecoded) -> PacketAnswer
     }
 }
 
-pub fn packet_answer(s: Settings, kind: u32, word: u64) -> PacketAnswer
+fn packet_answer(s: Settings, kind: u32, word: u64) -> PacketAnswer
     ensures { λ r. ⌜ r ≡ packetAnswer s kind word ⌝ }
 {
     if kind == 0 {
@@ -234,4 +235,27 @@ pub fn packet_answer(s: Settings, kind: u32, word: u64) -> PacketAnswer
         return col_answer(packet::col::decode_col(s.device, s.columns, word));
     }
     no_packet(Refusal::Word(0))
+}
+
+// The word of a packet under settings as bytes.
+pub fn encode_by(settings: &[u8], command: u32, bank: u32, place: u32, mask: u32) -> WordAnswer
+    ensures { λ r. ⌜ r ≡ wordEncoded (now (settings .entry)) command bank place mask ⌝ }
+{
+    match settings::read::read_settings(settings) {
+        SettingsRead::Refused => no_word(Refusal::Settings),
+        SettingsRead::Accepted(s) => {
+            let why = why_no_word(s, command, bank, place);
+            word_answer(why, command_coded(s, command, bank, place, mask))
+        },
+    }
+}
+
+// The packet of a word under settings as bytes; kind 0 is ROW, 1 COL.
+pub fn decode_by(settings: &[u8], kind: u32, word: u64) -> PacketAnswer
+    ensures { λ r. ⌜ r ≡ wordDecoded (now (settings .entry)) kind word ⌝ }
+{
+    match settings::read::read_settings(settings) {
+        SettingsRead::Refused => no_packet(Refusal::Settings),
+        SettingsRead::Accepted(s) => packet_answer(s, kind, word),
+    }
 }

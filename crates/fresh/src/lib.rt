@@ -1,0 +1,3 @@
+// Fresh states as bytes.
+pub mod models;
+pub mod plans;
