@@ -1,5 +1,4 @@
 // Blocks of 512 bytes (document 01, "Blocks"): whether a block is right, what it keeps, and how it is written.
-pub mod read;
 pub mod sum;
 pub mod write;
 

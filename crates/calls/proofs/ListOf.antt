@@ -24,7 +24,8 @@ use Rattle.plan.specs.Call.{listBytes}
 use Rattle.runs.proofs.DriveLaws.{Every, Coded, length-record}
 use Rattle.checker.specs.declared.Judged.{Judged}
 use Rattle.checker.specs.declared.Judged.the-variants.{Passed, Refused}
-use Rattle.checker.specs.Check.{known, recordsUpTo, recordsOf, listAnswer}
+use Rattle.walk.specs.Walk.{known}
+use Rattle.checker.specs.Check.{recordsUpTo, recordsOf, listAnswer}
 use Rattle.checker.proofs.PassLaws.{isPassed, list-passes}
 use Rattle.lists.specs.Checks.{checkAnswer, listUnder, listChecked}
 

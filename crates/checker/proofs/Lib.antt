@@ -2,4 +2,3 @@ pub mod WalkLaws
 pub mod RuleLaws
 pub mod PassLaws
 pub mod StopLaws
-pub mod TurnLaws

@@ -20,8 +20,9 @@ use Rattle.rules.specs.Broken.{recordOf, ruleAt, firstBroken}
 use Rattle.rules.specs.Checks.{foundAt, firstFound}
 use Rattle.rules.proofs.NeighbourLaws.{split-neighbours}
 use Rattle.rules.proofs.CheckerRight.{checker-right}
+use Rattle.walk.specs.Walk.{known}
 use Rattle.checker.specs.declared.Judged.the-variants.{Passed, Refused}
-use Rattle.checker.specs.Check.{known, ruleAnswer}
+use Rattle.checker.specs.Check.{ruleAnswer}
 
 -- a well formed record fits the settings
 pub known-fits : (s : Settings) (b : List ℕ) → wellFormed s b ≡ true → recordFits s (known (recordRead s b)) ≡ true

@@ -5,7 +5,7 @@ use mathlib.Core.Path.{_≡_, refl, sym, _∙_}
 use mathlib.Core.Bool.{Bool, true, false, _&&_}
 use mathlib.Core.List.{List}
 use native.Mathlib.Omega.{arith}
-use borrow.Author.Tests.{eqb-true, eq-eqb, ne-eqb, lt-ltb, le-ltb}
+use borrow.Author.Tests.{eqb-true, eq-eqb, lt-ltb}
 use lib.Dec.{eqb}
 use Rattle.num.proofs.SearchLaws.{first-at, first-none, first-before, first-le, first-fails}
 use Rattle.settings.specs.declared.Settings.{Settings}
@@ -14,20 +14,18 @@ use Rattle.record.specs.Record.{recordsIn, firstBad}
 use Rattle.rules.proofs.Bools.{not-both, and-left, and-right}
 use Rattle.checker.specs.declared.Judged.the-variants.{Passed, Refused}
 use Rattle.checker.specs.Check.{ruleAnswer}
-use Rattle.checker.specs.Walk.{placeOf, recordsVia, formedVia, foundVia, stopAt, stopOf}
-use Rattle.checker.proofs.WalkLaws.{length-via, via-fits}
+use Rattle.walk.specs.Walk.{placeOf, recordsVia, formedVia, foundVia, stopAt, stopOf}
+use Rattle.walk.proofs.ViaLaws.{length-via}
+use Rattle.walk.proofs.StopLaws.{holds}
+use Rattle.checker.proofs.WalkLaws.{via-fits}
 use Rattle.checker.proofs.RuleLaws.{rule-found, rule-none}
 
 module _ (s : Settings) (blocks : Bool) (b : List ℕ) (n : ℕ) where
-  -- record i is one, and breaks no rule
-  abbrev pub holds : ℕ → Bool
-  holds i = formedVia s blocks b i && eqb (foundVia s blocks b n i) 0
-
   formed-before : (i : ℕ) → i < stopAt s blocks b n → formedVia s blocks b i ≡ true
-  formed-before i h = and-left (formedVia s blocks b i) _ (first-before holds n i h)
+  formed-before i h = and-left (formedVia s blocks b i) _ (first-before (holds s blocks b n) n i h)
 
   found-before : (i : ℕ) → i < stopAt s blocks b n → foundVia s blocks b n i ≡ 0
-  found-before i h = eqb-true _ 0 (and-right (formedVia s blocks b i) (eqb (foundVia s blocks b n i) 0) (first-before holds n i h))
+  found-before i h = eqb-true _ 0 (and-right (formedVia s blocks b i) (eqb (foundVia s blocks b n i) 0) (first-before (holds s blocks b n) n i h))
 
   -- the rule at that place
   rule-at : stopAt s blocks b n < n → formedVia s blocks b (stopAt s blocks b n) ≡ true → stopOf s blocks b n .rule ≡ foundVia s blocks b n (stopAt s blocks b n)
@@ -36,21 +34,7 @@ module _ (s : Settings) (blocks : Bool) (b : List ℕ) (n : ℕ) where
 
   broken-at : stopAt s blocks b n < n → formedVia s blocks b (stopAt s blocks b n) ≡ true → foundVia s blocks b n (stopAt s blocks b n) ≡ 0 → ⊥
   broken-at h f z =
-      not-both (holds (stopAt s blocks b n)) (rw (f, eq-eqb _ 0 z)) (first-fails holds n h)
-
-  -- how the walk is known to have stopped
-  pub stop-end : ((i : ℕ) → i < n → holds i ≡ true) → record { at = n; rule = 0 } ≡ stopOf s blocks b n
-  unfolding stopOf
-  stop-end f = rw (first-none holds n f, le-ltb n n (omega arith))
-
-  pub stop-bad : (i : ℕ) → ((j : ℕ) → j < i → holds j ≡ true) → i < n → formedVia s blocks b i ≡ false → record { at = i; rule = 0 } ≡ stopOf s blocks b n
-  unfolding stopOf
-  stop-bad i f h q = rw (first-at holds n i f h (rw q), q, lt-ltb i n h)
-
-  pub stop-broken : (i m : ℕ) → ((j : ℕ) → j < i → holds j ≡ true) → i < n → formedVia s blocks b i ≡ true → foundVia s blocks b n i ≡ m → (m ≡ 0 → ⊥)
-      → record { at = i; rule = m } ≡ stopOf s blocks b n
-  unfolding stopOf
-  stop-broken i m f h q e z = rw (first-at holds n i f h (rw (q, ne-eqb _ 0 (λ y. z (sym e ∙ y)))), q, lt-ltb i n h, e)
+      not-both (holds s blocks b n (stopAt s blocks b n)) (rw (f, eq-eqb _ 0 z)) (first-fails (holds s blocks b n) n h)
 
   -- no record of n fails
   pub stop-passed : stopAt s blocks b n ≡ n → Passed ≡ ruleAnswer s (recordsVia s blocks b n)
@@ -62,7 +46,7 @@ module _ (s : Settings) (blocks : Bool) (b : List ℕ) (n : ℕ) where
   pub stop-refused : ((i : ℕ) → i < n → formedVia s blocks b i ≡ true) → (stopAt s blocks b n ≡ n → ⊥)
       → Refused (Rule (stopOf s blocks b n .rule) (stopAt s blocks b n)) ≡ ruleAnswer s (recordsVia s blocks b n)
   stop-refused f e =
-      let m = first-le holds n in
+      let m = first-le (holds s blocks b n) n in
       let h : stopAt s blocks b n < n = omega arith in
       let q = f (stopAt s blocks b n) h in
       rule-found s (recordsVia s blocks b n) (via-fits s blocks b n f) (stopAt s blocks b n) (stopOf s blocks b n .rule) found-before (rw (length-via s blocks b n) h) (sym (rule-at h q))
@@ -73,7 +57,7 @@ module _ (s : Settings) (blocks : Bool) (b : List ℕ) (n : ℕ) where
   stop-formed e z = go (formedVia s blocks b (stopAt s blocks b n)) refl
     where
       go : (t : Bool) → formedVia s blocks b (stopAt s blocks b n) ≡ t → formedVia s blocks b (stopAt s blocks b n) ≡ false
-      go true q = let m = first-le holds n in let h : stopAt s blocks b n < n = omega arith in absurd (broken-at h q (sym (rule-at h q) ∙ z))
+      go true q = let m = first-le (holds s blocks b n) n in let h : stopAt s blocks b n < n = omega arith in absurd (broken-at h q (sym (rule-at h q) ∙ z))
       go false q = q
 
 -- of a list: its first bad record

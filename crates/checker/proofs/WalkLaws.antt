@@ -22,24 +22,10 @@ use Rattle.rules.specs.Neighbour.{split}
 use Rattle.rules.specs.Broken.{recordOf}
 use Rattle.rules.specs.Channel.{after}
 use Rattle.rules.specs.Checks.{channelAfter}
-use Rattle.checker.specs.Check.{known, recordsUpTo, recordsOf}
+use Rattle.walk.specs.Walk.{known, placeOf, recordsVia}
+use Rattle.walk.proofs.ViaLaws.{length-via, via-at}
+use Rattle.checker.specs.Check.{recordsUpTo, recordsOf}
 use Rattle.checker.proofs.RuleLaws.{known-fits}
-use Rattle.checker.specs.Walk.{placeOf, recordVia, recordsVia}
-
-pub length-via : (s : Settings) (blocks : Bool) (b : List ℕ) (n : ℕ) → length (recordsVia s blocks b n) ≡ n
-unfolding recordsVia
-length-via s blocks b zero = refl
-length-via s blocks b (suc n) = simp (length-append, length-via s blocks b n) (omega arith)
-
--- record i of the first n
-pub via-at : (s : Settings) (blocks : Bool) (b : List ℕ) (n i : ℕ) (d : Record) → i < n → getD (recordsVia s blocks b n) i d ≡ recordVia s blocks b i
-unfolding recordsVia
-via-at s blocks b zero i d h = absurd (omega arith)
-via-at s blocks b (suc n) i d h =
-    ⊎-elim
-    (λ (e : i ≡ n). rw e (getD-at (recordsVia s blocks b n) (recordVia s blocks b n) [] d n (length-via s blocks b n)))
-    (λ (m : i < n). List·getD-append (recordsVia s blocks b n) _ d i (rw length-via m) ∙ via-at s blocks b n i d m)
-    (eq-or-lt-of-le (le-of-suc-le-suc h))
 
 -- two walks that meet the same bytes meet the same records
 same-via : (s : Settings) (blocks : Bool) (b l : List ℕ) (n : ℕ) → ((i : ℕ) → i < n → part b (placeOf blocks i) 32 ≡ recordAt l i) → recordsVia s blocks b n ≡ recordsUpTo s l n
@@ -88,11 +74,6 @@ pub via-fits : (s : Settings) (blocks : Bool) (b : List ℕ) (n : ℕ) → ((i :
 via-fits s blocks b n h i l =
     let m : i < n = rw length-via at l in
     ap (recordFits s) (via-at s blocks b n i _ m) ∙ known-fits s (part b (placeOf blocks i) 32) (h i m)
-
--- the state after one record more
-pub channel-next : (l : List Record) (i : ℕ) (r : Record) → recordOf l i ≡ r → after split (channelAfter split l i) r ≡ channelAfter split l (i + 1)
-unfolding channelAfter
-channel-next l i r e = rw (add-one, e)
 
 -- the places of a list lie within it, and its records are well formed where none is bad
 pub list-within : (l : List ℕ) (i : ℕ) → i < recordsIn l → placeOf false i + 32 ≤ length l

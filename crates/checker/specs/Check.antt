@@ -7,21 +7,14 @@ use lib.Dec.{eqb}
 use lib.ListN.{length}
 use Rattle.settings.specs.declared.Settings.{Settings}
 use Rattle.record.specs.declared.Record.{Record}
-use Rattle.record.specs.declared.Record.the-variants.{DataOf}
-use Rattle.record.specs.declared.RecordRead.{RecordRead}
-use Rattle.record.specs.declared.RecordRead.the-variants.{NoRecord, Known}
 use Rattle.record.specs.declared.Refusal.the-variants.{Word, Rule, Block, Length}
 use Rattle.record.specs.Record.{recordRead, recordAt, recordsIn, firstBad}
 use Rattle.blocks.specs.Block.{blocksIn, firstBadBlock, listOf}
 use Rattle.rules.specs.Neighbour.{split}
 use Rattle.rules.specs.Broken.{ruleAt, firstBroken}
+use Rattle.walk.specs.Walk.{known}
 use Rattle.checker.specs.declared.Judged.{Judged}
 use Rattle.checker.specs.declared.Judged.the-variants.{Passed, Refused}
-
--- the record that was read; bytes that are none have some record, which nothing asks for
-unfoldable pub known : RecordRead → Record
-known NoRecord = DataOf (record { 0 = 0 }) (record { dqa = 0; dqb = 0 })
-known (Known r) = r
 
 -- the first n records of a list of bytes
 unfoldable pub recordsUpTo : Settings → List ℕ → ℕ → List Record

@@ -2,10 +2,10 @@
 ghost use mathlib.Core.Path.{_≡_};
 ghost use Rattle.checker.specs.Check.{listAnswer, logAnswer};
 use crate::Judged;
-use crate::walk::judge_all;
-use crate::walk::walk;
+use crate::walked::judge_all;
 use record::Refusal;
 use settings::Settings;
+use walk::walk;
 
 // Judges a list of records. One pass tests form and rules; a rule counts only where every record is well formed, so one that
 // breaks a rule asks for a second.
@@ -43,7 +43,7 @@ pub fn check_log(s: Settings, log: &[u8]) -> Judged
     if block != log.len() / 512 {
         return Judged::Refused(Refusal::Block(block as u64));
     }
-    let n = blocks::read::records_in(log);
+    let n = kept::records_in(log);
     let bad = found.record;
     if bad != n {
         return Judged::Refused(Refusal::Word(bad as u64));

@@ -1,6 +1,6 @@
 // The checker of whole lists and whole logs.
 pub mod check;
-pub mod walk;
+mod walked;
 
 use record::Refusal;
 
@@ -8,10 +8,4 @@ use record::Refusal;
 pub enum Judged {
     Passed,
     Refused(Refusal),
-}
-
-// Where a walk over records stopped: its end with rule 0, a record that is none with rule 0, or one that breaks this rule.
-pub struct Stop {
-    pub at: usize,
-    pub rule: u32,
 }

@@ -1,4 +1,2 @@
-pub mod RoomLaws
 pub mod Worked
-pub mod OutcomeLaws
 pub mod ListingLaws

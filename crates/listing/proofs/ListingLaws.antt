@@ -10,7 +10,8 @@ use lib.Dec.{leb, eqb}
 use lib.ListN.{length}
 use Rattle.rules.proofs.Bools.{and-left}
 use Rattle.text.specs.Text.{Put, refusedLine, recordsLine}
-use Rattle.listing.specs.Listing.{recordsUpTo, textUpTo, lengthRight, listing}
+use Rattle.entries.specs.Entries.{recordsUpTo, textUpTo}
+use Rattle.listing.specs.Listing.{lengthRight, listing}
 use Rattle.text.proofs.TextLaws.{put-then}
 
 pub length-fits : (n : ℕ) → lengthRight n ≡ true → n ≤ 65520

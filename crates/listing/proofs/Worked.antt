@@ -28,10 +28,12 @@ use Rattle.plan.specs.Plan.{slot, sent, flushed, closed, closedUpTo, reached, p
 use Rattle.plan.specs.Call.{inTime, timely, outcomeOf, outcomeBy, planOutcome, isMade, draftBy, planNext, planRecords}
 use Rattle.checker.specs.declared.Judged.{Judged}
 use Rattle.checker.specs.declared.Judged.the-variants.{Passed, Refused}
-use Rattle.checker.specs.Check.{known, recordsUpTo as firstRecords, recordsOf, ruleAnswer, recordsAnswer, listAnswer}
+use Rattle.walk.specs.Walk.{known}
+use Rattle.checker.specs.Check.{recordsUpTo as firstRecords, recordsOf, ruleAnswer, recordsAnswer, listAnswer}
 use Rattle.text.specs.Text.{codes, digit, decimalIn, hexFour, dash, maskText, line, rowLine, colLine, recordLine, recordLines, refusedLine, recordsLine}
 use Rattle.settings.specs.Bench.{setOf, setH}
-use Rattle.listing.specs.Listing.{outcomeText, requestText, plannerAt, recordsUpTo, textUpTo, lengthRight, listing}
+use Rattle.entries.specs.Entries.{outcomeText, requestText, plannerAt, recordsUpTo, textUpTo}
+use Rattle.listing.specs.Listing.{lengthRight, listing}
 
 -- ---- requests of 24 bytes
 

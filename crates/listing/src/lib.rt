@@ -1,14 +1,11 @@
 // The listing program (document 01, "Bench runs"). The text is made whole before it is printed, so that one contract,
 // of `put_listing`, says all that is printed; only the reading of the input and the writing of the text are outside.
-mod outcomes;
-mod requests;
-
 ghost use mathlib.Core.Path.{_≡_};
 ghost use Prim.Native.Nat.{_≤_};
 ghost use lib.ListN.{length, take};
 ghost use Rattle.text.specs.Text.{Put};
 ghost use Rattle.listing.specs.Listing.{lengthRight, listingRoom, listing};
-use requests::put_requests;
+use entries::requests::put_requests;
 use text::put_records;
 use text::put_refused;
 

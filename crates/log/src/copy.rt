@@ -49,7 +49,7 @@ fn bad_in_block(s: Settings, log: &[u8], k: usize) -> usize
     ensures { λ r. ⌜ r ≡ firstBad s (part (blockAt (now (log .entry)) k) 0 (32 * used (blockAt (now (log .entry)) k))) ⌝ }
 {
     let at = 512 * k;
-    let end = at + 32 * blocks::read::used_at(log, k);
+    let end = at + 32 * kept::used_at(log, k);
     record::records::first_bad(s, &log[at..end])
 }
 
@@ -99,7 +99,7 @@ fn decode_answer(s: Settings, log: &[u8], room: usize) -> Copied
     if found.block != log.len() / 512 {
         return Copied::Refused(Refusal::Block(found.block as u64));
     }
-    let n = blocks::read::records_in(log);
+    let n = kept::records_in(log);
     if found.record != n {
         return Copied::Refused(Refusal::Word(found.record as u64));
     }
@@ -115,7 +115,7 @@ pub fn decode(s: Settings, log: &[u8], list: &mut [u8]) -> Copied
 {
     let answer = decode_answer(s, log, list.len());
     if let Copied::Count(_) = answer {
-        blocks::read::read_list(log, list);
+        kept::read_list(log, list);
     }
     answer
 }

@@ -48,10 +48,10 @@ fn record_of(s: Settings, at: u32, kind: u32, word: u64, d: Dualoct) -> RecordRe
         return RecordRead::NoRecord;
     }
     if kind == 0 {
-        return row_record(at, packet::row::decode_row(s.device, s.rows, word));
+        return row_record(at, row_words::decode_row(s.device, s.rows, word));
     }
     if kind == 1 {
-        return col_record(at, packet::col::decode_col(s.device, s.columns, word));
+        return col_record(at, col_words::decode_col(s.device, s.columns, word));
     }
     RecordRead::NoRecord
 }
@@ -75,7 +75,7 @@ pub fn read_record(s: Settings, b: &[u8], at: usize) -> RecordRead
 }
 
 // Whether the 32 bytes from a place on are a record under the settings.
-pub fn well_formed(s: Settings, b: &[u8], at: usize) -> bool
+pub(crate) fn well_formed(s: Settings, b: &[u8], at: usize) -> bool
     requires { ⌜ at + 32 ≤ length (now b) ⌝ }
     ensures { λ r. ⌜ r ≡ wellFormed s (part (now (b .entry)) at 32) ⌝ }
 {
@@ -124,7 +124,7 @@ pub fn put_record(s: Settings, out: &mut [u8], at: usize, r: Record)
             at,
             t.0,
             0,
-            packet::row::row_word(s.device, p),
+            row_words::row_word(s.device, p),
             Dualoct { dqa: 0, dqb: 0 },
         ),
         Record::ColAt(t, p) => put_fields(
@@ -132,7 +132,7 @@ pub fn put_record(s: Settings, out: &mut [u8], at: usize, r: Record)
             at,
             t.0,
             1,
-            packet::col::col_word(s.device, p),
+            col_words::col_word(s.device, p),
             Dualoct { dqa: 0, dqb: 0 },
         ),
         Record::DataOf(t, d) => put_fields(out, at, t.0, 2, 0, d),

@@ -16,7 +16,7 @@ use settings::Settings;
 fn row_right(device: u32, rows: u32, w: u64) -> bool
     ensures { λ r. ⌜ (r ≡ true → isKnown (rowRecord 0 (rowDecoded device rows w)) ≡ true) ⌝ }
 {
-    let head = packet::row::row_word(device, RowPacket::Prer { bank: 0 }) / 262144 * 262144;
+    let head = row_words::row_word(device, RowPacket::Prer { bank: 0 }) / 262144 * 262144;
     let low = std::num::wrapping_sub_u64(w / 262144 * 262144 + w % 8192, head);
     let row = std::num::wrapping_sub_u64(low, 4096);
     let act = (row < 4096) & (row < num::wide32(rows));

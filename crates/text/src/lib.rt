@@ -78,7 +78,7 @@ fn put_number(out: &mut [u8], at: usize, n: u32) -> usize
 }
 
 // Puts a line: instant, name, bank, row or column, mask.
-pub fn put_line(
+pub(crate) fn put_line(
     out: &mut [u8],
     at: usize,
     instant: u32,

@@ -86,13 +86,9 @@ fn command_coded(s: Settings, command: u32, bank: u32, place: u32, mask: u32) ->
 {
     if fields_right(command, bank, place, mask) {
         if command <= 3 {
-            return packet::row::encode_row(s.device, s.rows, row_command(command, bank, place));
+            return row_words::encode_row(s.device, s.rows, row_command(command, bank, place));
         }
-        return packet::col::encode_col(
-            s.device,
-            s.columns,
-            col_command(command, bank, place, mask),
-        );
+        return col_words::encode_col(s.device, s.columns, col_command(command, bank, place, mask));
     }
     Coded::NoWord
 }
@@ -229,10 +225,10 @@ fn packet_answer(s: Settings, kind: u32, word: u64) -> PacketAnswer
     ensures { λ r. ⌜ r ≡ packetAnswer s kind word ⌝ }
 {
     if kind == 0 {
-        return row_answer(packet::row::decode_row(s.device, s.rows, word));
+        return row_answer(row_words::decode_row(s.device, s.rows, word));
     }
     if kind == 1 {
-        return col_answer(packet::col::decode_col(s.device, s.columns, word));
+        return col_answer(col_words::decode_col(s.device, s.columns, word));
     }
     no_packet(Refusal::Word(0))
 }

@@ -5,10 +5,10 @@ use native.Mathlib.Omega.{arith}
 use borrow.Author.Tests.{eq-eqb, ne-eqb}
 use Rattle.record.specs.declared.Refusal.the-variants.{Word, Rule}
 use Rattle.record.specs.Record.{recordsIn}
-use Rattle.checker.specs.declared.Stop.{Stop}
+use Rattle.walk.specs.declared.Stop.{Stop}
 use Rattle.checker.specs.declared.Judged.the-variants.{Refused}
 use Rattle.checker.specs.Check.{listAnswer, recordsAnswer, ruleAnswer}
-use Rattle.checker.specs.Walk.{stopOf}
+use Rattle.walk.specs.Walk.{stopOf}
 use Rattle.checker.proofs.WalkLaws.{list-via, list-within, list-formed}
 use Rattle.checker.proofs.StopLaws.{stop-passed, stop-refused, list-bad, list-good}
 use borrow.Author.Needs.{needs}

@@ -11,7 +11,8 @@ use Rattle.num.specs.Bytes.{part}
 use Rattle.settings.specs.declared.Settings.{Settings}
 use Rattle.record.specs.declared.Record.{Record}
 use Rattle.record.specs.Record.{recordRead}
-use Rattle.checker.specs.Check.{known, recordsUpTo as firstRecords}
+use Rattle.walk.specs.Walk.{known}
+use Rattle.checker.specs.Check.{recordsUpTo as firstRecords}
 use Rattle.text.specs.Text.{Put, writeBank, writeColumn, recordLines}
 use Rattle.settings.specs.Bench.{setH}
 use Rattle.text.proofs.LineLaws.{bankAfter, columnAfter, bank-next, column-next, line-next}

@@ -1,6 +1,6 @@
 -- `record_at` meets its contract: each arm is a case of the definition.
 use mathlib.Core.Path.{_∙_, sym}
-use Rattle.checker.specs.Check.{known}
+use Rattle.walk.specs.Walk.{known}
 use borrow.Author.Needs.{needs}
 use Rattle.text.proofs.lines.record_at.Statement.{statement}
 use Rattle.text.proofs.lines.record_at.Tie as tie

@@ -1,0 +1,3 @@
+// The text of each request of an input.
+mod outcomes;
+pub mod requests;

@@ -1,0 +1,3 @@
+pub mod ViaLaws
+pub mod StopLaws
+pub mod TurnLaws
