@@ -90,7 +90,7 @@ impl Planner {
         ensures { λ r. ⌜ r .planner .state ≡ planNext s split (self .state) (now (request .entry)) (length (now (room .entry))) ⌝ }
         ensures { λ _. ⌜ now (room .exit) ≡ planRoom s split (self .state) (now (request .entry)) (now (room .entry)) ⌝ }
     {
-        match record::requests::read_request(s, request) {
+        match requests::read_request(s, request) {
             RequestRead::Refused(why) => Planned {
                 planner: self,
                 outcome: Outcome::Refused(why),

@@ -1,7 +1,6 @@
 // Records of 32 bytes, requests of 24 bytes, and the refusals of every call.
 pub mod records;
 pub mod refusals;
-pub mod requests;
 
 use packet::ColPacket;
 use packet::RowPacket;

@@ -8,10 +8,10 @@ use lib.Dec.{eqb}
 use lib.ListN.{getD}
 use Rattle.num.specs.Search.{allUpTo}
 use Rattle.num.proofs.SearchLaws.{all-turn, all-false}
 use Rattle.record.specs.Request.{kindOf, usesByte, spareRight}
 use borrow.Author.Needs.{needs}
-use Rattle.record.proofs.requests.spare_right.Statement.{statement}
-use Rattle.record.proofs.requests.spare_right.Tie as tie
+use Rattle.requests.proofs.spare_right.Statement.{statement}
+use Rattle.requests.proofs.spare_right.Tie as tie
 
 -- the definition's test of byte k
 abbrev test : List ℕ → ℕ → Bool

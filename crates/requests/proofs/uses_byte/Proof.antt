@@ -1,9 +1,9 @@
 -- `uses_byte` meets its contract: the tests are the definition's, in their order.
 use borrow.Author.Tests.{eq-eqb, ne-eqb, le-leb, lt-leb}
 use Rattle.record.specs.Request.{usesByte}
 use borrow.Author.Needs.{needs}
-use Rattle.record.proofs.requests.uses_byte.Statement.{statement}
-use Rattle.record.proofs.requests.uses_byte.Tie as tie
+use Rattle.requests.proofs.uses_byte.Statement.{statement}
+use Rattle.requests.proofs.uses_byte.Tie as tie
 
 returns : tie.Need-returns
 unfolding usesByte

@@ -1,10 +1,10 @@
 -- `read_request` meets its contract: length, kind and spare bytes are tested in the definition's order.
 use mathlib.Core.Path.{sym, _∙_}
 use borrow.Author.Tests.{eq-eqb, ne-eqb, le-leb, lt-leb}
 use Rattle.record.specs.Request.{requestRead}
 use borrow.Author.Needs.{needs}
-use Rattle.record.proofs.requests.read_request.Statement.{statement}
-use Rattle.record.proofs.requests.read_request.Tie as tie
+use Rattle.requests.proofs.read_request.Statement.{statement}
+use Rattle.requests.proofs.read_request.Tie as tie
 
 returns : tie.Need-returns
 unfolding requestRead

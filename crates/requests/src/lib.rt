@@ -1,12 +1,12 @@
 // Requests as bytes.
 ghost use mathlib.Core.Path.{_≡_};
 ghost use lib.ListN.{length};
 ghost use Rattle.record.specs.Request.{usesByte, spareRight, placeOf, placed, requestOf, requestRead};
-use crate::Dualoct;
-use crate::Place;
-use crate::Refusal;
-use crate::Request;
-use crate::RequestRead;
+use record::Dualoct;
+use record::Place;
+use record::Refusal;
+use record::Request;
+use record::RequestRead;
 use settings::Settings;
 
 // Whether a kind uses byte i of a request.

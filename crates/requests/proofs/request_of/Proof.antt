@@ -1,9 +1,9 @@
 -- `request_of` meets its contract: the tests of the kind are the definition's, and the fields are read at their places.
 use borrow.Author.Tests.{eq-eqb, ne-eqb}
 use Rattle.record.specs.Request.{requestOf}
 use borrow.Author.Needs.{needs}
-use Rattle.record.proofs.requests.request_of.Statement.{statement}
-use Rattle.record.proofs.requests.request_of.Tie as tie
+use Rattle.requests.proofs.request_of.Statement.{statement}
+use Rattle.requests.proofs.request_of.Tie as tie
 
 shared-slice-read-kind : tie.Need-shared-slice-read-kind
 shared-slice-read-kind c = search needs

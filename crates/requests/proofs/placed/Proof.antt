@@ -1,8 +1,8 @@
 -- `placed` meets its contract: the tests are the definition's, in their order.
 use borrow.Author.Tests.{lt-ltb, le-ltb}
 use Rattle.record.specs.Request.{placed}
-use Rattle.record.proofs.requests.placed.Statement.{statement}
-use Rattle.record.proofs.requests.placed.Tie as tie
+use Rattle.requests.proofs.placed.Statement.{statement}
+use Rattle.requests.proofs.placed.Tie as tie
 
 returns : tie.Need-returns
 unfolding placed

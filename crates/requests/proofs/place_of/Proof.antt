@@ -1,7 +1,7 @@
 -- `place_of` meets its contract: each field is read at its place.
 use borrow.Author.Needs.{needs}
-use Rattle.record.proofs.requests.place_of.Statement.{statement}
-use Rattle.record.proofs.requests.place_of.Tie as tie
+use Rattle.requests.proofs.place_of.Statement.{statement}
+use Rattle.requests.proofs.place_of.Tie as tie
 
 shared-slice-read-wide : tie.Need-shared-slice-read-wide
 shared-slice-read-wide c = search needs
