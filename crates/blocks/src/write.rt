@@ -12,11 +12,11 @@ fn write_body(b: &mut [u8], k: u32, recs: &[u8])
     ensures { λ _. ⌜ now (b .exit) ≡ splice (now (b .entry)) 0 (blockBody k (now (recs .entry))) ⌝ }
 {
     let n = recs.len();
-    num::put_bytes(b, 0, recs);
-    num::put_zeros(b, n, 480 - n);
-    num::put_u32(b, 480, num::wide32(k));
-    num::put_u32(b, 484, (n / 32) as u64);
-    num::put_zeros(b, 488, 20);
+    puts::put_bytes(b, 0, recs);
+    puts::put_zeros(b, n, 480 - n);
+    puts::put_u32(b, 480, num::wide32(k));
+    puts::put_u32(b, 484, (n / 32) as u64);
+    puts::put_zeros(b, 488, 20);
 }
 
 // Writes block k; its check word is the wrapping negative of the sum of the other words.
@@ -27,7 +27,7 @@ pub(crate) fn write_block(b: &mut [u8], k: u32, recs: &[u8])
     write_body(b, k, recs);
     let s = word_sum(b, 127);
     let check = std::num::wrapping_sub_u32(0, s);
-    num::put_u32(b, 508, num::wide32(check));
+    puts::put_u32(b, 508, num::wide32(check));
 }
 
 // Writes block k of the log of a list.

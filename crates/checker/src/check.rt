@@ -24,7 +24,7 @@ pub fn check_list(s: Settings, list: &[u8]) -> Judged
     if stop.rule == 0 {
         return Judged::Refused(Refusal::Word(at as u64));
     }
-    let bad = record::records::first_bad(s, list);
+    let bad = record_bytes::first_bad(s, list);
     if bad != n {
         return Judged::Refused(Refusal::Word(bad as u64));
     }

@@ -42,9 +42,9 @@ impl Model {
     {
         let ch = self.state.channel;
         state::bytes::put_channel(out, ch);
-        num::put_u16(out, 732, num::wide32(self.state.refr));
-        num::put_u16(out, 734, 0);
-        num::put_u64(out, 736, self.state.bytes.dqa);
-        num::put_u64(out, 744, self.state.bytes.dqb);
+        puts::put_u16(out, 732, num::wide32(self.state.refr));
+        puts::put_u16(out, 734, 0);
+        puts::put_u64(out, 736, self.state.bytes.dqa);
+        puts::put_u64(out, 744, self.state.bytes.dqb);
     }
 }

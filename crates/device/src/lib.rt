@@ -128,7 +128,7 @@ impl Model {
         if given.len() != 32 {
             return self.refuse(Refusal::Length);
         }
-        match record::records::read_record(s, given, 0) {
+        match record_bytes::read_record(s, given, 0) {
             RecordRead::NoRecord => self.refuse(Refusal::Word(0)),
             RecordRead::Known(r) => self.take(s, store, r, room),
         }

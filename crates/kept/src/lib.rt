@@ -47,7 +47,7 @@ fn read_at(log: &[u8], k: usize, list: &mut [u8])
 {
     let at = 512 * k;
     let end = at + 32 * used_of(log, k);
-    num::put_bytes(list, 480 * k, &log[at..end]);
+    puts::put_bytes(list, 480 * k, &log[at..end]);
 }
 
 // Reads the list that a log of right blocks keeps.

@@ -50,7 +50,7 @@ fn bad_in_block(s: Settings, log: &[u8], k: usize) -> usize
 {
     let at = 512 * k;
     let end = at + 32 * kept::used_at(log, k);
-    record::records::first_bad(s, &log[at..end])
+    record_bytes::first_bad(s, &log[at..end])
 }
 
 // The first bad record up to block k: bad is that of the blocks before it, or 15 * k where they have none.

@@ -101,8 +101,8 @@ impl Planner {
         let p = self.state;
         let ch = p.channel;
         state::bytes::put_channel(out, ch);
-        num::put_u32(out, 732, num::wide32(p.now.0));
-        num::put_u16(out, 736, num::wide32(p.refresh));
-        num::put_u16(out, 738, num::wide32(p.mask));
+        puts::put_u32(out, 732, num::wide32(p.now.0));
+        puts::put_u16(out, 736, num::wide32(p.refresh));
+        puts::put_u16(out, 738, num::wide32(p.mask));
     }
 }

@@ -33,7 +33,7 @@ fn load(s: Settings, d: Draft, mask: u32, bytes: Dualoct) -> Draft
         return d;
     }
     let p = d.state;
-    match settings::instants::write_arrival(s, p.now) {
+    match instants::write_arrival(s, p.now) {
         Arrival::Late => Draft { late: true, ..d },
         Arrival::At(t) => loaded(d, t, mask, bytes),
     }

@@ -19,7 +19,7 @@ pub(crate) fn put_all(s: Settings, room: &mut [u8], c: Course)
     while i < n {
         let e = entries[i];
         let r = e.record;
-        record::records::put_record(s, room, 32 * i, r);
+        record_bytes::put_record(s, room, 32 * i, r);
         i += 1;
     }
 }

@@ -115,7 +115,7 @@ pub fn first_bad(s: Settings, list: &[u8]) -> usize
         if part_right(s, list, i, m) {
             i += m;
         } else {
-            return record::records::first_bad(s, list);
+            return record_bytes::first_bad(s, list);
         }
     }
     n

@@ -121,7 +121,7 @@ fn put_at(out: &mut [u8], at: usize, t: PacketAt)
     requires { ⌜ at + 4 ≤ length (now out) ⌝ }
     ensures { λ _. ⌜ now (out .exit) ≡ splice (now (out .entry)) at (bytes 4 (t .0)) ⌝ }
 {
-    num::put_u32(out, at, num::wide32(t.0));
+    puts::put_u32(out, at, num::wide32(t.0));
 }
 
 // An instant of a bank, by its plane.
@@ -152,7 +152,7 @@ fn put_plane(out: &mut [u8], ch: Channel, k: usize)
     let mut x = 0;
     while x < 32 {
         let t = ch.banks[x];
-        num::put_u32(out, 128 * k + 4 * x, num::wide32(figure(t, k)));
+        puts::put_u32(out, 128 * k + 4 * x, num::wide32(figure(t, k)));
         x += 1;
     }
 }
@@ -186,7 +186,7 @@ fn put_tags(out: &mut [u8], ch: Channel)
     let mut x = 0;
     while x < 32 {
         let t = ch.banks[x];
-        num::put_u16(out, 640 + 2 * x, bank_tag(t));
+        puts::put_u16(out, 640 + 2 * x, bank_tag(t));
         x += 1;
     }
 }
@@ -207,7 +207,7 @@ fn put_buffer(out: &mut [u8], b: Buffer)
     ensures { λ _. ⌜ now (out .exit) ≡ splice (now (out .entry)) 724 (bufferBytes b) ⌝ }
 {
     match b {
-        Buffer::Empty => num::put_zeros(out, 724, 8),
+        Buffer::Empty => puts::put_zeros(out, 724, 8),
         Buffer::Waiting(w) => put_write(out, 1, w),
         Buffer::Due(w) => put_write(out, 2, w),
     }

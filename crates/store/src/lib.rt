@@ -74,8 +74,8 @@ fn retire_to(store: &mut [u8], at: usize, mask: u32, d: Dualoct)
     ensures { λ _. ⌜ now (store .exit) ≡ maskedUpTo (now (store .entry)) at mask (dualoctBytes d) 16 ⌝ }
 {
     let mut new = [0u8; 16];
-    num::put_u64(&mut new, 0, d.dqa);
-    num::put_u64(&mut new, 8, d.dqb);
+    puts::put_u64(&mut new, 0, d.dqa);
+    puts::put_u64(&mut new, 8, d.dqb);
     put_masked(store, at, mask, &new);
 }
 
@@ -88,8 +88,8 @@ fn read_out(store: &[u8], at: usize, room: &mut [u8]) -> Stepped
     if room.len() < 16 {
         return Stepped::Refused(Refusal::Full);
     }
-    num::put_u64(room, 0, num::u64_at(store, at));
-    num::put_u64(room, 8, num::u64_at(store, at + 8));
+    puts::put_u64(room, 0, num::u64_at(store, at));
+    puts::put_u64(room, 8, num::u64_at(store, at + 8));
     Stepped::Read
 }
 

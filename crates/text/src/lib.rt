@@ -25,7 +25,7 @@ fn put_decimal(out: &mut [u8], at: usize, n: u64) -> usize
 {
     let mut text = [0u8; 20];
     let k = io::decimal(n, &mut text);
-    num::put_bytes(out, at, &text[..k]);
+    puts::put_bytes(out, at, &text[..k]);
     at + k
 }
 
@@ -61,7 +61,7 @@ fn put_name(out: &mut [u8], at: usize, name: &[u8]) -> usize
     requires { ⌜ at + length (now name) < length (now out) ⌝ }
     ensures { λ r. ⌜ Put (now (out .entry)) at (now (name .entry) ++ (space ∷ [])) (now (out .exit)) r ⌝ }
 {
-    num::put_bytes(out, at, name);
+    puts::put_bytes(out, at, name);
     let end = at + name.len();
     out[end] = b' ';
     end + 1
@@ -102,7 +102,7 @@ fn put_count(out: &mut [u8], at: usize, word: &[u8], n: u64) -> usize
     requires { ⌜ (at + lineRoom ≤ length (now out)) × (length (now word) ≡ 8) ⌝ }
     ensures { λ r. ⌜ Put (now (out .entry)) at (now (word .entry) ++ (decimal n ++ (lineEnd ∷ []))) (now (out .exit)) r × (r ≤ at + lineRoom) ⌝ }
 {
-    num::put_bytes(out, at, word);
+    puts::put_bytes(out, at, word);
     let end = put_decimal(out, at + word.len(), n);
     out[end] = b'\n';
     end + 1

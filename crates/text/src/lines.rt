@@ -126,7 +126,7 @@ fn record_at(s: Settings, b: &[u8], at: usize) -> Record
     requires { ⌜ at + 32 ≤ length (now b) ⌝ }
     ensures { λ r. ⌜ r ≡ known (recordRead s (part (now (b .entry)) at 32)) ⌝ }
 {
-    match record::records::read_record(s, b, at) {
+    match record_bytes::read_record(s, b, at) {
         RecordRead::NoRecord => Record::DataOf(DataAt(0), Dualoct { dqa: 0, dqb: 0 }),
         RecordRead::Known(r) => r,
     }

@@ -18,7 +18,7 @@ use quick::opened_track;
 use quick::passes;
 use quick::tracks_of;
 use record::RecordRead;
-use record::records::read_record;
+use record_bytes::read_record;
 use rules::BankTrack;
 use rules::Buffer;
 use rules::Channel;

@@ -1,0 +1,34 @@
+// The two sums that turn a packet instant into a data instant.
+ghost use mathlib.Core.Path.{_≡_};
+ghost use Prim.Native.Nat.{_+_, _<_, _^_};
+ghost use Rattle.settings.specs.Instants.{arrival};
+use settings::Arrival;
+use settings::DataAt;
+use settings::PacketAt;
+use settings::Settings;
+
+// The data instant `delay` cycles after a packet; the sum is made in 64 bits.
+fn arrival_after(t: PacketAt, delay: u32) -> Arrival
+    ensures { λ r. ⌜ r ≡ arrival t delay ⌝ }
+{
+    let sum = num::wide32(t.0) + num::wide32(delay);
+    if sum <= 1000000000 {
+        Arrival::At(DataAt(sum as u32))
+    } else {
+        Arrival::Late
+    }
+}
+
+// Read data come tCAC after their RD.
+pub fn read_arrival(s: Settings, t: PacketAt) -> Arrival
+    ensures { λ r. ⌜ r ≡ arrival t (s .cac) ⌝ }
+{
+    arrival_after(t, s.cac)
+}
+
+// Write data go tCWD after their WR.
+pub fn write_arrival(s: Settings, t: PacketAt) -> Arrival
+    ensures { λ r. ⌜ r ≡ arrival t (s .cwd) ⌝ }
+{
+    arrival_after(t, s.cwd)
+}
