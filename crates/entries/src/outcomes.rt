@@ -6,8 +6,8 @@ ghost use Rattle.checker.specs.Check.{recordsUpTo as firstRecords};
 ghost use Rattle.text.specs.Text.{Put, requestRoom};
 ghost use Rattle.settings.specs.Bench.{setH};
 ghost use Rattle.entries.specs.Entries.{roomBytes, countOf, outcomeText};
+use lines::put_lines;
 use plan::Outcome;
-use text::lines::put_lines;
 use text::put_refused;
 
 // The number of records that a call has made.

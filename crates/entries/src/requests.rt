@@ -11,8 +11,8 @@ ghost use Rattle.settings.specs.Bench.{setH};
 ghost use Rattle.entries.specs.Entries.{roomBytes, requestsRoom, requestText, recordsUpTo, textUpTo};
 use crate::outcomes::count_of;
 use crate::outcomes::put_outcome;
+use lines::set_h;
 use planner::Planner;
-use text::lines::set_h;
 
 // The planner after a request, the number of records that it made, and the end of its text.
 struct Listed {

@@ -1,5 +1,4 @@
 // Numbers, words and lines as text. A function that puts text takes the place where it starts and answers where it ends.
-pub mod lines;
 
 ghost use mathlib.Core.Path.{_≡_};
 ghost use mathlib.Core.List.{[], _∷_, _++_};
@@ -78,7 +77,7 @@ fn put_number(out: &mut [u8], at: usize, n: u32) -> usize
 }
 
 // Puts a line: instant, name, bank, row or column, mask.
-pub(crate) fn put_line(
+pub fn put_line(
     out: &mut [u8],
     at: usize,
     instant: u32,

@@ -6,10 +6,8 @@ ghost use Rattle.num.specs.Bytes.{part};
 ghost use Rattle.record.specs.Record.{recordRead};
 ghost use Rattle.walk.specs.Walk.{known};
 ghost use Rattle.checker.specs.Check.{recordsUpTo as firstRecords};
 ghost use Rattle.text.specs.Text.{Put, lineRoom, rowLine, colLine, recordLine, requestRoom, writeBank, writeColumn, recordLines};
 ghost use Rattle.settings.specs.Bench.{setH};
-use crate::FULL;
-use crate::put_line;
 use packet::ColPacket;
 use packet::RowPacket;
 use record::Dualoct;
@@ -17,6 +15,8 @@ use record::Record;
 use record::RecordRead;
 use settings::DataAt;
 use settings::Settings;
+use text::FULL;
+use text::put_line;
 
 // Set H of the bench.
 pub fn set_h() -> Settings

@@ -1,8 +1,8 @@
 -- `put_record_line` meets its contract: each arm is a case of the definition.
 use Rattle.text.specs.Text.{codes, dash, maskText, recordLine}
 use borrow.Author.Needs.{needs}
-use Rattle.text.proofs.lines.put_record_line.Statement.{statement}
-use Rattle.text.proofs.lines.put_record_line.Tie as tie
+use Rattle.lines.proofs.put_record_line.Statement.{statement}
+use Rattle.lines.proofs.put_record_line.Tie as tie
 
 enum-known-r : tie.Need-enum-known-r
 enum-known-r c = search needs

@@ -2,8 +2,8 @@
 use mathlib.Core.Path.{_∙_, sym}
 use Rattle.walk.specs.Walk.{known}
 use borrow.Author.Needs.{needs}
-use Rattle.text.proofs.lines.record_at.Statement.{statement}
-use Rattle.text.proofs.lines.record_at.Tie as tie
+use Rattle.lines.proofs.record_at.Statement.{statement}
+use Rattle.lines.proofs.record_at.Tie as tie
 
 read-record-requires : tie.Need-read-record-requires
 read-record-requires c κs = search needs

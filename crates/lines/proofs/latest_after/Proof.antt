@@ -1,8 +1,8 @@
 -- `latest_after` meets its contract: each arm is a case of the definitions.
 use mathlib.Core.Path.{refl}
 use borrow.Author.Needs.{needs}
-use Rattle.text.proofs.lines.latest_after.Statement.{statement}
-use Rattle.text.proofs.lines.latest_after.Tie as tie
+use Rattle.lines.proofs.latest_after.Statement.{statement}
+use Rattle.lines.proofs.latest_after.Tie as tie
 
 enum-told : tie.Need-enum-told
 enum-told c = search needs

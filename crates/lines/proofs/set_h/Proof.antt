@@ -1,8 +1,8 @@
 -- `set_h` meets its contract: field by field.
 use mathlib.Core.Path.{refl}
 use Rattle.settings.specs.Bench.{setOf, setH}
-use Rattle.text.proofs.lines.set_h.Statement.{statement}
-use Rattle.text.proofs.lines.set_h.Tie as tie
+use Rattle.lines.proofs.set_h.Statement.{statement}
+use Rattle.lines.proofs.set_h.Tie as tie
 
 returns : tie.Need-returns
 unfolding setOf setH

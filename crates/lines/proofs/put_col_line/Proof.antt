@@ -1,8 +1,8 @@
 -- `put_col_line` meets its contract: each arm is the line of its packet.
 use Rattle.text.specs.Text.{codes, colLine}
 use borrow.Author.Needs.{needs}
-use Rattle.text.proofs.lines.put_col_line.Statement.{statement}
-use Rattle.text.proofs.lines.put_col_line.Tie as tie
+use Rattle.lines.proofs.put_col_line.Statement.{statement}
+use Rattle.lines.proofs.put_col_line.Tie as tie
 
 enum-known-p : tie.Need-enum-known-p
 enum-known-p c = search needs

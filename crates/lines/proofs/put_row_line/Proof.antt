@@ -1,8 +1,8 @@
 -- `put_row_line` meets its contract: each arm is the line of its packet.
 use Rattle.text.specs.Text.{codes, dash, maskText, rowLine}
 use borrow.Author.Needs.{needs}
-use Rattle.text.proofs.lines.put_row_line.Statement.{statement}
-use Rattle.text.proofs.lines.put_row_line.Tie as tie
+use Rattle.lines.proofs.put_row_line.Statement.{statement}
+use Rattle.lines.proofs.put_row_line.Tie as tie
 
 enum-known-p : tie.Need-enum-known-p
 enum-known-p c = search needs

@@ -13,12 +13,12 @@ use Rattle.record.specs.declared.Record.{Record}
 use Rattle.record.specs.Record.{recordRead}
 use Rattle.walk.specs.Walk.{known}
 use Rattle.checker.specs.Check.{recordsUpTo as firstRecords}
 use Rattle.text.specs.Text.{Put, writeBank, writeColumn, recordLines}
 use Rattle.settings.specs.Bench.{setH}
 use Rattle.text.proofs.LineLaws.{bankAfter, columnAfter, bank-next, column-next, line-next}
 use borrow.Author.Needs.{needs}
-use Rattle.text.proofs.lines.put_lines.Statement.{statement}
-use Rattle.text.proofs.lines.put_lines.Tie as tie
+use Rattle.lines.proofs.put_lines.Statement.{statement}
+use Rattle.lines.proofs.put_lines.Tie as tie
 
 abbrev Inv-loop : tie.InvT-loop
 Inv-loop out₀ at room n s latest₀ end₀ i₀ out latest end i =
