@@ -3,3 +3,5 @@ pub mod CourseLaws
 pub mod ListedLaws
 pub mod ShortLaws
 pub mod CodeLaws
+pub mod CodeCourse
+pub mod BankLaws

@@ -1,57 +1,45 @@
--- Records in an array with a count, as lists.
+-- Numbers in an array with a count, as lists.
 -- Assumes nothing.
 use Prim.Native.Nat.{ℕ, zero, suc, _+_, _≤_, _<_}
 use mathlib.Core.Path.{_≡_, refl, sym, ap, _∙_}
 use mathlib.Core.Bool.{Bool, true, false, cond, _&&_, and-eq-true-iff}
-use mathlib.Core.List.{List, [], _∷_, _++_, map, map-append, append-nil, append-assoc}
+use mathlib.Core.List.{List, [], _∷_, _++_, append-nil, append-assoc}
 use native.Mathlib.Numerals.{add-one}
 use native.Mathlib.Omega.{arith}
-use lib.ListN.{length, length-append, length-map, length-set, take, getD, set}
-use lib.Seq.{take-suc, take-suc-set, take-set-le, length-take-le}
-use Rattle.packet.specs.declared.RowPacket.the-variants.{Act}
+use lib.ListN.{length, length-append, length-set, take, getD, set}
+use lib.Seq.{take-suc, take-suc-set, take-set-le}
 use Rattle.record.specs.declared.Record.{Record}
-use Rattle.record.specs.declared.Record.the-variants.{RowAt}
 use Rattle.rules.specs.Packets.{isPacket}
-use Rattle.courses.specs.declared.Entry.{Entry}
 use Rattle.courses.specs.declared.Course.{Course}
-use Rattle.courses.specs.Course.{listed, Holds, Extends, allPackets}
-
--- what stands past the end of an array
-abbrev pub noEntry : Entry
-noEntry = record { «record» = RowAt (record { 0 = 0 }) (Act 0 0) }
-
-abbrev pub recordsIn : List Entry → List Record
-recordsIn l = map (λ (e : Entry). e .record) l
+use Rattle.courses.specs.Course.{allPackets}
+use Rattle.courses.specs.Codes.{listed, Holds, Extends}
 
 -- a store at the end
-pub records-set : (l : List Entry) (n : ℕ) (e : Entry) → n < length l → recordsIn (take (n + 1) (set l n e)) ≡ recordsIn (take n l) ++ (e .record ∷ [])
-records-set l n e h = rw (add-one, take-suc-set l n e h) (map-append (λ (e : Entry). e .record) (take n l) (e ∷ []))
+pub codes-set : (l : List ℕ) (n e : ℕ) → n < length l → take (n + 1) (set l n e) ≡ take n l ++ (e ∷ [])
+codes-set l n e h = rw (add-one, take-suc-set l n e h)
 
--- one more entry read
-pub records-more : (l : List Entry) (n : ℕ) (d : Entry) → n < length l → recordsIn (take (n + 1) l) ≡ recordsIn (take n l) ++ (getD l n d .record ∷ [])
-records-more l n d h = rw (add-one, take-suc l n d h) (map-append (λ (e : Entry). e .record) (take n l) (getD l n d ∷ []))
-
-pub length-records : (l : List Entry) (n : ℕ) → n ≤ length l → length (recordsIn (take n l)) ≡ n
-length-records l n h = length-map (take n l) (λ (e : Entry). e .record) ∙ length-take-le n l h
+-- one more read
+pub codes-more : (l : List ℕ) (n d : ℕ) → n < length l → take (n + 1) l ≡ take n l ++ (getD l n d ∷ [])
+codes-more l n d h = rw (add-one, take-suc l n d h)
 
 -- ---- stores that count where a packet is sent
 
--- the first n entries are these records
-pub record Filled (l : List Entry) (n : ℕ) (a : List Record) : Type 0 where
+-- the first n are these
+pub record Filled (l : List ℕ) (n : ℕ) (a : List ℕ) : Type 0 where
   pub wide : length l ≡ 17
   pub count : n ≡ length a
-  pub same : recordsIn (take n l) ≡ a
+  pub same : take n l ≡ a
 
-pub filled-put : (l : List Entry) (n : ℕ) (a : List Record) → Filled l n a → n < 17 → (e : Entry) (q : Record) (t : Bool) (k m : ℕ) → e .record ≡ q → k ≡ cond t 1 0 → m ≡ n + k
-    → Filled (set l n e) m (a ++ cond t (q ∷ []) [])
-filled-put l n a f h e q true k m x y z =
+pub filled-put : (l : List ℕ) (n : ℕ) (a : List ℕ) → Filled l n a → n < 17 → (e : ℕ) (t : Bool) (k m : ℕ) → k ≡ cond t 1 0 → m ≡ n + k
+    → Filled (set l n e) m (a ++ cond t (e ∷ []) [])
+filled-put l n a f h e true k m y z =
     let i : m ≡ n + 1 = z ∙ ap (λ (v : ℕ). n + v) y in
     record {
       wide = length-set l n e ∙ f .wide;
-      count = rw (length-append a (q ∷ [])) (omega (arith, f .count));
-      same = rw i (records-set l n e (omega (arith, f .wide)) ∙ rw (f .same, x));
+      count = rw (length-append a (e ∷ [])) (omega (arith, f .count));
+      same = rw i (codes-set l n e (omega (arith, f .wide)) ∙ rw (f .same));
     }
-filled-put l n a f h e q false k m x y z =
+filled-put l n a f h e false k m y z =
     let i : m ≡ n = z ∙ omega (arith, y) in
     record {
       wide = length-set l n e ∙ f .wide;
@@ -64,20 +52,24 @@ filled-put l n a f h e q false k m x y z =
 pub extends-none : (c : Course) → Extends c [] c
 extends-none c = record { count = omega arith; same = sym (append-nil (listed c)) }
 
-pub extends-more : (a b c : Course) (l m : List Record) → Extends a l b → Extends b m c → Extends a (l ++ m) c
+pub extends-more : (a b c : Course) (l m : List ℕ) → Extends a l b → Extends b m c → Extends a (l ++ m) c
 extends-more a b c l m x y =
     record {
       count = rw (length-append l m) (omega (arith, x .count, y .count));
-      same = y .same ∙ ap (λ (u : List Record). u ++ m) (x .same) ∙ append-assoc (listed a) l m;
+      same = y .same ∙ ap (λ (u : List ℕ). u ++ m) (x .same) ∙ append-assoc (listed a) l m;
     }
 
-pub holds-more : (c r : Course) (a l : List Record) → Holds c a → Extends c l r → length a + length l ≤ 17 → Holds r (a ++ l)
+pub holds-more : (c r : Course) (a l : List ℕ) → Holds c a → Extends c l r → length a + length l ≤ 17 → Holds r (a ++ l)
 holds-more c r a l h x m =
     record {
       count = rw (length-append a l) (omega (arith, h .count, x .count));
       fits = rw (length-append a l) m;
-      same = x .same ∙ ap (λ (u : List Record). u ++ l) (h .same);
+      same = x .same ∙ ap (λ (u : List ℕ). u ++ l) (h .same);
     }
+
+-- one packet more
+pub holds-one : (c r : Course) (l : List ℕ) (e : ℕ) → Holds c l → Extends c (e ∷ []) r → length l < 17 → Holds r (l ++ (e ∷ []))
+holds-one c r l e h x m = holds-more c r l (e ∷ []) h x (omega arith)
 
 -- ---- packets and no data
 

@@ -1,12 +1,11 @@
 -- The packets of a request in their order, decided by the state before its first packet. A theorem in proofs/ says that sending
 -- them one after the other is the plan of the request, in every state that is not refused.
 -- Assumes nothing.
-use Prim.Native.Nat.{ℕ, zero, suc, _+_, _-_, _%_, _≤_}
-use mathlib.Core.Path.{_≡_}
+use Prim.Native.Nat.{ℕ, zero, suc, _+_, _-_, _%_}
 use mathlib.Core.Bool.{Bool, true, false, not, _&&_, _||_, cond}
-use mathlib.Core.List.{List, [], _∷_, _++_, map}
+use mathlib.Core.List.{List, [], _∷_, _++_}
 use lib.Dec.{eqb, ltb}
-use lib.ListN.{length, take, getD}
+use lib.ListN.{getD}
 use Rattle.settings.specs.declared.Settings.{Settings}
 use Rattle.packet.specs.declared.RowPacket.the-variants.{Act, Prer, Refa, Refp}
 use Rattle.packet.specs.declared.ColPacket.the-variants.{Nocop, Wr, Rd}
@@ -24,25 +23,6 @@ use Rattle.channel.specs.declared.Held.{Held}
 use Rattle.channel.specs.View.{lowOf, highOf, heldOf}
 use Rattle.plan.specs.declared.PlannerState.{PlannerState}
 use Rattle.plan.specs.Plan.{Draft, rowPacket, colPacket, openOn, hits, sent}
-use Rattle.courses.specs.declared.Entry.{Entry}
-use Rattle.courses.specs.declared.Course.{Course}
-
--- ---- lists of records in an array
-
--- the records of a course
-abbrev pub listed : Course → List Record
-listed c = map (λ (e : Entry). e .record) (take (c .count) (c .entries))
-
--- a course holds these records
-pub record Holds (c : Course) (l : List Record) : Type 0 where
-  pub count : c .count ≡ length l
-  pub fits : length l ≤ 17
-  pub same : listed c ≡ l
-
--- a course goes on with these records
-pub record Extends (c : Course) (l : List Record) (r : Course) : Type 0 where
-  pub count : r .count ≡ c .count + length l
-  pub same : listed r ≡ listed c ++ l
 
 -- all are ROW or COL packets, and none data
 unfoldable pub allPackets : List Record → Bool

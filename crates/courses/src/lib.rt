@@ -1,111 +1,142 @@
-// The packets of a request in their order, decided by the state before its first packet. They have no instant yet.
+// The packets of a request in their order, decided by the state before its first packet. Each is one number, 8 * bank +
+// command: NOCOP 0, PRER 1, ACT 2, REFA 3, REFP 4, RD 5, WR 6. They have no instant yet.
 ghost use mathlib.Core.Path.{_≡_};
-ghost use mathlib.Core.Bool.{true, cond, not, _&&_};
-ghost use mathlib.Core.List.{List, [], _∷_};
+ghost use mathlib.Core.Bool.{true, cond};
+ghost use mathlib.Core.List.{[], _∷_};
 ghost use Prim.Native.Nat.{_+_, _≤_, _<_};
-ghost use lib.Dec.{leb, ltb};
 ghost use lib.ListN.{length};
 ghost use Rattle.rules.specs.Neighbour.{split};
-ghost use Rattle.rules.specs.History.{isClosed};
-ghost use Rattle.rules.specs.Channel.{stateOf, waitingOf};
-ghost use Rattle.channel.specs.View.{lowOf, highOf};
+ghost use Rattle.rules.specs.Channel.{waitingOf};
 ghost use Rattle.validity.specs.Valid.{apart};
-ghost use Rattle.plan.specs.Plan.{rowPacket, colPacket, openOn, hits};
-ghost use Rattle.courses.specs.Course.{Holds, Extends, bankAt, closing, closings, showsIn, threeOf, fullMask, opening, rdAt, wrAt, readCourse, writeMask, writeCourse, refreshCourse, drainCourse};
+ghost use Rattle.plan.specs.Plan.{openOn, hits};
+ghost use Rattle.courses.specs.Course.{bankAt, fullMask, bankIn};
+ghost use Rattle.courses.specs.Codes.{rowBy, recordIn, Holds, Extends, threeCodes, showsBy, nearCodes, openCodes, readCodes, writeCodes, refreshCodes, drainCodes, codesOf, maskOf, fieldsOf, focusOf, isDrain};
 use channel::beside::high_of;
 use channel::beside::is_near;
 use channel::beside::low_of;
-use channel::beside::slot_of;
 use channel::views::held_of;
 use channel::views::is_closed;
 use packet::ColPacket;
 use packet::RowPacket;
-use plan::PlannerState;
 use record::Place;
 use record::Record;
+use record::Request;
 use rules::Bank;
 use rules::BankTrack;
 use rules::Buffer;
 use settings::PacketAt;
 
-// One record.
-pub struct Entry {
-    pub record: Record,
+// What the packets of a request carry: the row of an ACT, the column of an RD or WR, the waiting write's mask, and the mask
+// of a WR.
+pub struct Fields {
+    pub row: u32,
+    pub column: u32,
+    pub mask: u32,
+    pub carried: u32,
 }
 
-// Records in their order: the first count of the entries. No request makes more than 17.
+// What stands at the indices of a bank and of its neighbours.
+pub struct Near {
+    pub own: BankTrack,
+    pub low: BankTrack,
+    pub high: BankTrack,
+}
+
+// Packets in their order: the first count of the codes. No request makes more than 17.
 pub struct Course {
-    pub entries: [Entry; 17],
+    pub codes: [u32; 17],
     pub count: usize,
 }
 
-fn row_packet(p: RowPacket) -> Entry
-    ensures { λ r. ⌜ r .record ≡ rowPacket p ⌝ }
+// The ROW packet of a command.
+fn row_of(bank: u32, command: u32, row: u32) -> RowPacket
+    ensures { λ r. ⌜ r ≡ rowBy bank command row ⌝ }
 {
-    Entry {
-        record: Record::RowAt(PacketAt(0), p),
+    if command == 1 {
+        return RowPacket::Prer { bank: bank };
     }
+    if command == 2 {
+        return RowPacket::Act {
+            bank: bank,
+            row: row,
+        };
+    }
+    if command == 3 {
+        return RowPacket::Refa { bank: bank };
+    }
+    RowPacket::Refp { bank: bank }
 }
 
-fn col_packet(p: ColPacket) -> Entry
-    ensures { λ r. ⌜ r .record ≡ colPacket p ⌝ }
+// The packet of a code, at an instant.
+pub fn record_of(code: u32, f: Fields, at: u32) -> Record
+    ensures { λ r. ⌜ r ≡ recordIn f code at ⌝ }
 {
-    Entry {
-        record: Record::ColAt(PacketAt(0), p),
+    let bank = code / 8;
+    let command = code % 8;
+    let t = PacketAt(at);
+    if command == 5 {
+        return Record::ColAt(
+            t,
+            ColPacket::Rd {
+                bank: bank,
+                column: f.column,
+                mask: 0xFFFF,
+            },
+        );
     }
+    if command == 6 {
+        return Record::ColAt(
+            t,
+            ColPacket::Wr {
+                bank: bank,
+                column: f.column,
+                mask: f.carried,
+            },
+        );
+    }
+    if command == 0 {
+        return Record::ColAt(t, ColPacket::Nocop { mask: f.mask });
+    }
+    Record::RowAt(t, row_of(bank, command, f.row))
 }
 
 // No packets.
-pub fn none() -> Course
+fn none() -> Course
     ensures { λ r. ⌜ Holds r [] ⌝ }
 {
     Course {
-        entries: [row_packet(RowPacket::Act { bank: 0, row: 0 }); 17],
+        codes: [0; 17],
         count: 0,
     }
 }
 
 // One packet more.
-pub fn push(c: Course, e: Entry) -> Course
+fn push(c: Course, code: u32) -> Course
     requires { ⌜ c .count < 17 ⌝ }
-    ensures { λ r. ⌜ Extends c (e .record ∷ []) r ⌝ }
+    ensures { λ r. ⌜ Extends c (code ∷ []) r ⌝ }
 {
     let n = c.count;
     let mut next = c;
-    next.entries[n] = e;
+    next.codes[n] = code;
     next.count = n + 1;
     next
 }
 
-// PRER to a bank, after NOCOP where the write waits in it.
-fn closing(c: Course, x: u32, w: u32, mask: u32) -> Course
-    requires { ⌜ c .count + length (closing w mask x) ≤ 17 ⌝ }
-    ensures { λ r. ⌜ Extends c (closing w mask x) r ⌝ }
-{
-    let prer = row_packet(RowPacket::Prer { bank: x });
-    if x == w {
-        let nocop = col_packet(ColPacket::Nocop { mask: mask });
-        return push(push(c, nocop), prer);
-    }
-    push(c, prer)
-}
-
-// Closes the banks from one number to another that are not closed, in rising order.
-fn closings(before: Course, banks: [BankTrack; 32], w: u32, mask: u32, from: u32, to: u32) -> Course
-    requires { ⌜ (from ≤ to) × (to ≤ 32) ⌝ }
-    requires { ⌜ before .count + length (closings (bankAt banks) w mask (leb from) to) ≤ 17 ⌝ }
-    ensures { λ r. ⌜ Extends before (closings (bankAt banks) w mask (leb from) to) r ⌝ }
+// Closes the banks that are not closed, in rising order.
+fn closings(before: Course, banks: [BankTrack; 32]) -> Course
+    requires { ⌜ before .count + length (openCodes banks 32) ≤ 17 ⌝ }
+    ensures { λ r. ⌜ Extends before (openCodes banks 32) r ⌝ }
 {
     let mut c = before;
-    let mut x = from;
-    while x < to {
+    let mut x = 0;
+    while x < 32 {
         let i = x as usize;
         let t = banks[i];
         if is_closed(t) {
             x += 1;
             continue;
         }
-        c = closing(c, x, w, mask);
+        c = push(c, 8 * x + 1);
         x += 1;
     }
     c
@@ -113,7 +144,7 @@ fn closings(before: Course, banks: [BankTrack; 32], w: u32, mask: u32, from: u32
 
 // Whether there is a bank x, and it is not closed.
 fn shows(x: u32, t: BankTrack) -> bool
-    ensures { λ r. ⌜ r ≡ (ltb x 32 && not (isClosed (t .bank))) ⌝ }
+    ensures { λ r. ⌜ r ≡ showsBy x t ⌝ }
 {
     num::both(x < 32, !is_closed(t))
 }
@@ -125,48 +156,45 @@ fn step(yes: bool) -> usize
 }
 
 // Closes those of bank b and its neighbours that are not closed. Each packet is stored, and counted where it is sent.
-fn three(w: u32, mask: u32, b: u32, low: bool, own: bool, high: bool) -> Course
-    ensures { λ r. ⌜ Holds r (threeOf w mask b low own high) ⌝ }
+fn three(w: u32, b: u32, low: bool, own: bool, high: bool) -> Course
+    requires { ⌜ b < 32 ⌝ }
+    ensures { λ r. ⌜ Holds r (threeCodes w b low own high) ⌝ }
 {
-    let nocop = col_packet(ColPacket::Nocop { mask: mask });
     let below = low_of(b);
     let above = high_of(b);
-    let c = none();
-    let mut entries = c.entries;
-    entries[0] = nocop;
+    let mut codes = [0; 17];
     let n1 = step(num::both(low, below == w));
-    entries[n1] = row_packet(RowPacket::Prer { bank: below });
+    codes[n1] = 8 * below + 1;
     let n2 = n1 + step(low);
-    entries[n2] = nocop;
+    codes[n2] = 0;
     let n3 = n2 + step(num::both(own, b == w));
-    entries[n3] = row_packet(RowPacket::Prer { bank: b });
+    codes[n3] = 8 * b + 1;
     let n4 = n3 + step(own);
-    entries[n4] = nocop;
+    codes[n4] = 0;
     let n5 = n4 + step(num::both(high, above == w));
-    entries[n5] = row_packet(RowPacket::Prer { bank: above });
+    codes[n5] = 8 * above + 1;
     let n6 = n5 + step(high);
     Course {
-        entries: entries,
+        codes: codes,
         count: n6,
     }
 }
 
-// Closes bank b and its neighbours, by what stands at their indices.
-fn shut_near(banks: [BankTrack; 32], w: u32, mask: u32, b: u32) -> Course
-    ensures { λ r. ⌜ Holds r (threeOf w mask b (showsIn banks (lowOf b)) (showsIn banks b) (showsIn banks (highOf b))) ⌝ }
+// Closes bank b and its neighbours, by their tracks; NOCOP saves the waiting write.
+fn shut_near(t: Near, buffer: Buffer, b: u32) -> Course
+    requires { ⌜ b < 32 ⌝ }
+    ensures { λ r. ⌜ Holds r (nearCodes t buffer b) ⌝ }
 {
-    let below = low_of(b);
-    let above = high_of(b);
-    let low = banks[slot_of(below)];
-    let own = banks[slot_of(b)];
-    let high = banks[slot_of(above)];
+    let h = held_of(buffer);
+    let low = t.low;
+    let own = t.own;
+    let high = t.high;
     three(
-        w,
-        mask,
+        h.bank,
         b,
-        shows(below, low),
+        shows(low_of(b), low),
         shows(b, own),
-        shows(above, high),
+        shows(high_of(b), high),
     )
 }
 
@@ -199,112 +227,130 @@ fn hits(b: Buffer, bank: u32, column: u32) -> bool
     }
 }
 
-// A bank cleared and opened on a row.
-fn opening(p: PlannerState, at: Place) -> Course
-    requires { ⌜ at .bank < 32 ⌝ }
-    ensures { λ r. ⌜ Holds r (opening split p at) ⌝ }
-{
-    let ch = p.channel;
-    let banks = ch.banks;
-    let buffer = ch.buffer;
-    let h = held_of(buffer);
-    let c = shut_near(banks, h.bank, p.mask, at.bank);
-    let act = row_packet(RowPacket::Act {
-        bank: at.bank,
-        row: at.row,
-    });
-    push(c, act)
-}
-
 // A read.
-pub fn read_course(p: PlannerState, at: Place) -> Course
+fn read_course(t: Near, buffer: Buffer, at: Place) -> Course
     requires { ⌜ at .bank < 32 ⌝ }
-    ensures { λ r. ⌜ Holds r (readCourse split p at) ⌝ }
+    ensures { λ r. ⌜ Holds r (readCodes t buffer at) ⌝ }
 {
-    let rd = col_packet(ColPacket::Rd {
-        bank: at.bank,
-        column: at.column,
-        mask: 0xFFFF,
-    });
-    let ch = p.channel;
-    let t = ch.banks[slot_of(at.bank)];
-    if open_on(t, at.row) {
-        let buffer = ch.buffer;
+    let rd = 8 * at.bank + 5;
+    let own = t.own;
+    if open_on(own, at.row) {
         if hits(buffer, at.bank, at.column) {
-            let nocop = col_packet(ColPacket::Nocop { mask: p.mask });
-            return push(push(none(), nocop), rd);
+            return push(push(none(), 0), rd);
         }
         return push(none(), rd);
     }
-    push(opening(p, at), rd)
-}
-
-fn write_packet(at: Place, mask: u32) -> Entry
-    ensures { λ r. ⌜ r .record ≡ wrAt at mask ⌝ }
-{
-    col_packet(ColPacket::Wr {
-        bank: at.bank,
-        column: at.column,
-        mask: mask,
-    })
+    push(push(shut_near(t, buffer, at.bank), 8 * at.bank + 2), rd)
 }
 
 // The mask that the WR of a write carries: that of the write that still waits once the row is reached.
-pub fn write_mask(p: PlannerState, at: Place) -> u32
-    requires { ⌜ at .bank < 32 ⌝ }
-    ensures { λ r. ⌜ r ≡ writeMask split p at ⌝ }
+fn write_mask(t: Near, buffer: Buffer, mask: u32, at: Place) -> u32
+    ensures { λ r. ⌜ r ≡ maskOf t buffer mask at ⌝ }
 {
-    let ch = p.channel;
-    let buffer = ch.buffer;
     let h = held_of(buffer);
-    let t = ch.banks[slot_of(at.bank)];
-    let open = open_on(t, at.row);
+    let own = t.own;
+    let open = open_on(own, at.row);
     let near = is_near(at.bank, h.bank);
     let waits = num::both(h.waits, num::either(open, !near));
-    carried(waits, p.mask)
+    carried(waits, mask)
 }
 
-// A write without its data; its WR carries this mask.
-pub fn write_course(p: PlannerState, at: Place, mask: u32) -> Course
+// A write without its data.
+fn write_course(t: Near, buffer: Buffer, at: Place) -> Course
     requires { ⌜ at .bank < 32 ⌝ }
-    ensures { λ r. ⌜ Holds r (writeCourse split p at mask) ⌝ }
+    ensures { λ r. ⌜ Holds r (writeCodes t buffer at) ⌝ }
 {
-    let wr = write_packet(at, mask);
-    let ch = p.channel;
-    let t = ch.banks[slot_of(at.bank)];
-    if open_on(t, at.row) {
+    let wr = 8 * at.bank + 6;
+    let own = t.own;
+    if open_on(own, at.row) {
         return push(none(), wr);
     }
-    push(opening(p, at), wr)
+    push(push(shut_near(t, buffer, at.bank), 8 * at.bank + 2), wr)
 }
 
-// A refresh.
-pub fn refresh_course(p: PlannerState) -> Course
-    requires { ⌜ p .refresh < 32 ⌝ }
-    ensures { λ r. ⌜ Holds r (refreshCourse split p) ⌝ }
+// A refresh of bank b.
+fn refresh_course(t: Near, buffer: Buffer, b: u32) -> Course
+    requires { ⌜ b < 32 ⌝ }
+    ensures { λ r. ⌜ Holds r (refreshCodes t buffer b) ⌝ }
 {
-    let ch = p.channel;
-    let banks = ch.banks;
-    let buffer = ch.buffer;
-    let h = held_of(buffer);
-    let b = p.refresh;
-    let cleared = shut_near(banks, h.bank, p.mask, b);
-    let c = push(cleared, row_packet(RowPacket::Refa { bank: b }));
-    push(c, row_packet(RowPacket::Refp { bank: b }))
+    push(push(shut_near(t, buffer, b), 8 * b + 3), 8 * b + 4)
 }
 
-// A drain.
-pub fn drain_course(p: PlannerState) -> Course
-    requires { ⌜ apart split (stateOf (p .channel)) ≡ true ⌝ }
-    ensures { λ r. ⌜ Holds r (drainCourse p) ⌝ }
+// The bank that a request is about, which is the next to refresh for a refresh.
+pub fn focus_of(q: Request, refresh: u32) -> u32
+    ensures { λ r. ⌜ (r ≡ focusOf q refresh) × (bankIn q ≡ true → refresh < 32 → r < 32) ⌝ }
 {
-    let ch = p.channel;
-    let banks = ch.banks;
-    let buffer = ch.buffer;
+    match q {
+        Request::Read(at) => at.bank,
+        Request::Write(at, _, _) => at.bank,
+        Request::Refresh => refresh,
+        Request::Wait(_) => 0,
+        Request::Drain => 0,
+    }
+}
+
+pub fn drains(q: Request) -> bool
+    ensures { λ r. ⌜ r ≡ isDrain q ⌝ }
+{
+    match q {
+        Request::Read(_) => false,
+        Request::Write(_, _, _) => false,
+        Request::Refresh => false,
+        Request::Wait(_) => false,
+        Request::Drain => true,
+    }
+}
+
+// What the packets of a request carry, by the planner's mask.
+pub fn fields_of(q: Request, t: Near, buffer: Buffer, mask: u32) -> Fields
+    ensures { λ r. ⌜ r ≡ fieldsOf q t buffer mask ⌝ }
+{
+    let plain = Fields {
+        row: 0,
+        column: 0,
+        mask: mask,
+        carried: 0xFFFF,
+    };
+    match q {
+        Request::Read(at) => Fields {
+            row: at.row,
+            column: at.column,
+            ..plain
+        },
+        Request::Write(at, _, _) => Fields {
+            row: at.row,
+            column: at.column,
+            mask: mask,
+            carried: write_mask(t, buffer, mask, at),
+        },
+        Request::Refresh => plain,
+        Request::Wait(_) => plain,
+        Request::Drain => plain,
+    }
+}
+
+// The packets of a request other than a drain, by the tracks of the bank that it is about and of its neighbours.
+pub fn course_of(q: Request, refresh: u32, t: Near, buffer: Buffer) -> Course
+    requires { ⌜ (bankIn q ≡ true) × (refresh < 32) ⌝ }
+    ensures { λ r. ⌜ Holds r (codesOf q refresh t buffer) ⌝ }
+{
+    match q {
+        Request::Read(at) => read_course(t, buffer, at),
+        Request::Write(at, _, _) => write_course(t, buffer, at),
+        Request::Refresh => refresh_course(t, buffer, refresh),
+        Request::Wait(_) => none(),
+        Request::Drain => none(),
+    }
+}
+
+// The packets of a drain.
+pub fn drain_course(banks: [BankTrack; 32], buffer: Buffer) -> Course
+    requires { ⌜ apart split (bankAt banks) ≡ true ⌝ }
+    ensures { λ r. ⌜ Holds r (drainCodes banks buffer) ⌝ }
+{
     let h = held_of(buffer);
     if h.waits {
-        let nocop = col_packet(ColPacket::Nocop { mask: p.mask });
-        return closings(push(none(), nocop), banks, 32, p.mask, 0, 32);
+        return closings(push(none(), 0), banks);
     }
-    closings(none(), banks, 32, p.mask, 0, 32)
+    closings(none(), banks)
 }

@@ -3,7 +3,9 @@ pub mod tests;
 
 ghost use mathlib.Core.Path.{_≡_};
 ghost use mathlib.Core.Bool.{cond};
-ghost use Rattle.rules.specs.Neighbour.{near, split};
+ghost use Prim.Native.Nat.{_+_, _-_, _%_, max};
+ghost use lib.Dec.{eqb};
+ghost use Rattle.rules.specs.Neighbour.{split};
 ghost use Rattle.rules.specs.Checks.{judged};
 ghost use Rattle.channel.specs.Tests.{actBound, pinRules, rowRules, colRules, bufferRules, found, aroundOf};
 use channel::Held;
@@ -11,7 +13,6 @@ use channel::Lasts;
 use channel::Tracks;
 use channel::View;
 use channel::beside::high_of;
-use channel::beside::is_near;
 use channel::beside::low_of;
 use channel::beside::slot_of;
 use channel::beside::track_of;
@@ -81,26 +82,46 @@ pub fn find(s: Settings, v: View, h: Held, k: Tracks, act: u64, l: Lasts) -> u32
     pin_rules(s, v, l, n4)
 }
 
-// The distance that rule 5 asks of two banks.
-fn act_gap(s: Settings, b: u32, x: u32) -> u32
-    ensures { λ r. ⌜ r ≡ cond (near split b x) (s .rc) (s .rr) ⌝ }
+// The later of two instants.
+fn latest(a: u32, b: u32) -> u32
+    ensures { λ r. ⌜ r ≡ max a b ⌝ }
 {
-    if is_near(b, x) { s.rc } else { s.rr }
+    if a < b { b } else { a }
 }
 
-// What all banks ask of an ACT to bank b by rule 5.
+// The first and the last of a bank and its neighbours.
+fn first_near(b: u32) -> u32
+    ensures { λ r. ⌜ r ≡ cond (eqb (b % 16) 0) b (b - 1) ⌝ }
+{
+    if b % 16 == 0 { b } else { b - 1 }
+}
+
+fn last_near(b: u32) -> u32
+    ensures { λ r. ⌜ r ≡ cond (eqb (b % 16) 15) b (b + 1) ⌝ }
+{
+    if b % 16 == 15 { b } else { b + 1 }
+}
+
+// What all banks ask of an ACT to bank b by rule 5: the latest near it by tRC, and the latest of the others by tRR.
 pub fn act_bound(s: Settings, banks: [BankTrack; 32], b: u32) -> u64
     ensures { λ r. ⌜ r ≡ actBound s banks b ⌝ }
 {
-    let mut m: u64 = 0;
+    let first = first_near(b);
+    let last = last_near(b);
+    let mut close: u32 = 0;
+    let mut far: u32 = 0;
     let mut x: u32 = 0;
     while x < 32 {
         let i = x as usize;
-        let t = banks[i];
-        m = later(m, after_gap(t.opened.0, act_gap(s, b, x)));
+        let t = banks[i].opened.0;
+        if num::both(first <= x, x <= last) {
+            close = latest(close, t);
+        } else {
+            far = latest(far, t);
+        }
         x += 1;
     }
-    m
+    later(after_gap(close, s.rc), after_gap(far, s.rr))
 }
 
 // The tracks of a bank, of its neighbours and of the waiting write's bank, from what stands at their indices.

@@ -1,3 +1,6 @@
+pub mod CodeViews
 pub mod TimeLaws
-pub mod ArrivalLaws
+pub mod GoingLaws
+pub mod TurnLaws
 pub mod PlaceLaws
+pub mod EndLaws

@@ -1,78 +1,148 @@
 -- What the code's draft of a request says of the plan of the request.
 -- Assumes nothing.
-use Prim.Native.Nat.{ℕ, _+_, _%_}
+use Prim.Native.Nat.{ℕ, zero, suc, _+_, _%_, _≤_}
 use mathlib.Core.Path.{_≡_}
 use mathlib.Core.Bool.{Bool, true, false, not, _||_, cond}
 use mathlib.Core.List.{List, [], _∷_, _++_}
-use lib.Dec.{leb}
+use lib.Dec.{eqb, leb, ltb}
+use lib.ListN.{length, getD}
 use Rattle.settings.specs.declared.Settings.{Settings}
 use Rattle.settings.specs.declared.PacketAt.{PacketAt}
 use Rattle.settings.specs.Instants.{horizon}
-use Rattle.record.specs.declared.Dualoct.{Dualoct}
 use Rattle.record.specs.declared.Record.{Record}
 use Rattle.record.specs.declared.Record.the-variants.{DataOf}
 use Rattle.record.specs.declared.Request.{Request}
+use Rattle.record.specs.declared.Request.the-variants.{Read, Write as WriteTo, Refresh as RefreshBank, Wait, Drain}
+use Rattle.record.specs.declared.RequestRead.{RequestRead}
+use Rattle.record.specs.declared.RequestRead.the-variants.{Refused as RefusedRequest, Accepted}
 use Rattle.rules.specs.declared.BankTrack.{BankTrack}
 use Rattle.rules.specs.declared.Buffer.{Buffer}
-use Rattle.rules.specs.Neighbour.{Relation}
-use Rattle.rules.specs.Channel.{settled, afterData}
+use Rattle.rules.specs.Neighbour.{split}
+use Rattle.rules.specs.Channel.{settled}
 use Rattle.channel.specs.declared.Lasts.{Lasts}
 use Rattle.channel.specs.Steps.{channelOf}
+use Rattle.sending.specs.declared.Front.{Front}
+use Rattle.sending.specs.Sending.{clip}
 use Rattle.plan.specs.declared.PlannerState.{PlannerState}
-use Rattle.plan.specs.Plan.{Draft, planned}
-use Rattle.plan.specs.Call.{timely, outcomeOf, isMade}
-use Rattle.courses.specs.declared.Entry.{Entry}
-use Rattle.courses.specs.declared.Course.{Course}
+use Rattle.plan.specs.Plan.{planned}
+use Rattle.plan.specs.Call.{timely}
+use Rattle.courses.specs.declared.Fields.{Fields}
+use Rattle.courses.specs.Codes.{recordIn}
 use Rattle.placing.specs.declared.Draft.{Draft as Drawn}
-use Rattle.courses.specs.Course.{Holds, Extends}
+use Rattle.placing.specs.declared.Tail.{Tail}
 
--- late where an instant passes the last one, and otherwise the planner and its records
-pub record Drafted (s : Settings) (x : Drawn) (d : Draft) : Type 0 where
-  pub late : x .late ≡ not (timely s d)
-  pub state : x .late ≡ false → x .state ≡ d .planner
-  pub course : x .late ≡ false → Holds (x .course) (d .records)
+-- what is planned of bytes: the request that they say, or a wait of no cycles, which makes nothing
+unfoldable pub askedOf : RequestRead → Request
+askedOf (RefusedRequest why) = Wait 0
+askedOf (Accepted q) = q
+
+-- the first n packets of a course, each at its instant
+unfoldable pub recordsUpTo : Fields → List ℕ → List ℕ → ℕ → List Record
+recordsUpTo f codes ats zero = []
+recordsUpTo f codes ats (suc n) = recordsUpTo f codes ats n ++ (recordIn f (getD codes n 0) (getD ats n 0) ∷ [])
+
+-- the data of a write, whose WR stands at this instant
+unfoldable pub dataOf : Settings → Request → ℕ → List Record
+dataOf s (Read at) t = []
+dataOf s (WriteTo at mask bytes) t = DataOf (record { 0 = t + s .cwd }) bytes ∷ []
+dataOf s RefreshBank t = []
+dataOf s (Wait cycles) t = []
+dataOf s Drain t = []
+
+-- how many data records a request makes
+unfoldable pub dataCount : Request → ℕ
+dataCount (Read at) = 0
+dataCount (WriteTo at mask bytes) = 1
+dataCount RefreshBank = 0
+dataCount (Wait cycles) = 0
+dataCount Drain = 0
+
+-- the cycles of a wait
+unfoldable pub waitOf : Request → ℕ
+waitOf (Read at) = 0
+waitOf (WriteTo at mask bytes) = 0
+waitOf RefreshBank = 0
+waitOf (Wait cycles) = cycles
+waitOf Drain = 0
+
+-- how far past the last packet a request reaches: to its data, or to the end of a wait
+unfoldable pub reachOf : Settings → Request → ℕ
+reachOf s (Read at) = 0
+reachOf s (WriteTo at mask bytes) = s .cwd
+reachOf s RefreshBank = 0
+reachOf s (Wait cycles) = cycles
+reachOf s Drain = 0
+
+-- the write buffer once the data of a write have come
+unfoldable pub bufferBy : Request → Buffer → Buffer
+bufferBy (Read at) b = b
+bufferBy (WriteTo at mask bytes) b = settled b
+bufferBy RefreshBank b = b
+bufferBy (Wait cycles) b = b
+bufferBy Drain b = b
+
+-- the bank of the next refresh
+unfoldable pub refreshBy : Request → ℕ → ℕ
+refreshBy (Read at) refresh = refresh
+refreshBy (WriteTo at mask bytes) refresh = refresh
+refreshBy RefreshBank refresh = (refresh + 1) % 32
+refreshBy (Wait cycles) refresh = refresh
+refreshBy Drain refresh = refresh
+
+-- the mask of the waiting write
+unfoldable pub maskBy : Request → ℕ → ℕ
+maskBy (Read at) mask = mask
+maskBy (WriteTo at m bytes) mask = m
+maskBy RefreshBank mask = mask
+maskBy (Wait cycles) mask = mask
+maskBy Drain mask = mask
+
+-- ---- a planner without its banks
 
 -- the last instants of a channel
 abbrev pub lastsFrom : PacketAt → PacketAt → PacketAt → PacketAt → PacketAt → Lasts
 lastsFrom last row col pre rd = record { last = last .0; row = row .0; col = col .0; pre = pre .0; rd = rd .0 }
 
--- a draft from the parts of a state, with the first n entries
-abbrev pub drawn : PlannerState → List BankTrack → Lasts → Buffer → ℕ → List Entry → ℕ → Bool → Drawn
-drawn p banks l buffer now entries n late =
+abbrev pub lastsIn : PlannerState → Lasts
+lastsIn p = lastsFrom (p .channel .last) (p .channel .row) (p .channel .col) (p .channel .pre) (p .channel .rd)
+
+-- before the first packet
+abbrev pub frontOf : PlannerState → Front
+frontOf p = record { now = p .now .0; l = lastsIn p; buffer = p .channel .buffer; late = false }
+
+abbrev pub tailOf : PlannerState → Tail
+tailOf p = record { now = p .now .0; l = lastsIn p; buffer = p .channel .buffer; refresh = p .refresh; mask = p .mask }
+
+-- after the last packet of a request
+abbrev pub tailAfter : Request → PlannerState → Front → Tail
+tailAfter q p w =
     record {
-      state = record { channel = channelOf banks l buffer; now = record { 0 = now }; refresh = p .refresh; mask = p .mask };
-      course = record { entries = entries; count = n };
-      late = late;
+      now = clip (w .now + waitOf q);
+      l = w .l;
+      buffer = bufferBy q (w .buffer);
+      refresh = refreshBy q (p .refresh);
+      mask = maskBy q (p .mask);
     }
 
--- a planner before its first packet of a call
-abbrev pub startOf : PlannerState → Draft
-startOf p = record { planner = p; records = [] }
+abbrev pub stateBy : List BankTrack → Tail → PlannerState
+stateBy banks t = record { channel = channelOf banks (t .l) (t .buffer); now = record { 0 = t .now }; refresh = t .refresh; mask = t .mask }
 
--- the state once the data of a WR are sent, which waits with its own mask
-abbrev pub loadedState : ℕ → PlannerState → PlannerState
-loadedState mask p = record { channel = afterData (p .channel); now = p .now; refresh = p .refresh; mask = mask }
+-- whether an instant of a packet or of its data, or now, would pass the last one
+abbrev pub lateBy : Settings → Request → Front → Bool
+lateBy s q w = w .late || not (leb (w .now + reachOf s q) horizon)
 
--- D after the records of a draft, late where its instant passes the last one
-pub record Loaded (s : Settings) (d : Drawn) (mask : ℕ) (bytes : Dualoct) (r : Drawn) : Type 0 where
-  pub late : r .late ≡ d .late || not (leb (d .state .now .0 + s .cwd) horizon)
-  pub state : r .late ≡ false → r .state ≡ loadedState mask (d .state)
-  pub course : r .late ≡ false → Extends (d .course) (DataOf (record { 0 = d .state .now .0 + s .cwd }) bytes ∷ []) (r .course)
+-- ---- the draft
 
--- the turn of the bank after bank b
-pub record Turned (d : Drawn) (b : ℕ) (r : Drawn) : Type 0 where
-  pub late : r .late ≡ d .late
-  pub state : r .state ≡ record { channel = d .state .channel; now = d .state .now; refresh = (b + 1) % 32; mask = d .state .mask }
-  pub course : r .course ≡ d .course
+-- the records of a draft
+abbrev pub drawnRecords : Settings → Request → Drawn → List Record
+drawnRecords s q d = recordsUpTo (d .fields) (d .course .codes) (d .ats) (d .course .count) ++ dataOf s q (d .state .now .0)
 
--- ---- the answer to a request that is read
-
-module _ (s : Settings) (nbr : Relation) (p : PlannerState) (q : Request) (room : ℕ) where
-  abbrev pub served : Bool
-  served = isMade (outcomeOf s (planned s nbr q p) room)
-
-  abbrev pub servedState : PlannerState
-  servedState = cond served (planned s nbr q p .planner) p
-
-  abbrev pub servedRecords : List Record
-  servedRecords = cond served (planned s nbr q p .records) []
+-- late where an instant passes the last one; full where fewer records are free than the request makes; otherwise the planner
+-- after the request, and its records. Where it is late or full the state is the one before the request.
+pub record Placed (s : Settings) (p : PlannerState) (q : Request) (free : ℕ) (d : Drawn) : Type 0 where
+  pub late : d .late ≡ not (timely s (planned s split q p))
+  pub full : d .late ≡ false → d .full ≡ ltb free (length (planned s split q p .records))
+  pub state : d .state ≡ cond (d .late || d .full) p (planned s split q p .planner)
+  pub most : d .course .count ≤ 17
+  pub count : d .late ≡ false → d .course .count + dataCount q ≡ length (planned s split q p .records)
+  pub records : d .late ≡ false → d .full ≡ false → drawnRecords s q d ≡ planned s split q p .records

@@ -1,194 +1,161 @@
 // Packets at their least instants: "Each ROW or COL packet takes the least instant, not before now, that the rules allow."
+mod commands;
+mod ends;
+
 ghost use mathlib.Core.Path.{_≡_};
-ghost use mathlib.Core.Bool.{true, false, not};
-ghost use Prim.Native.Nat.{_+_, _≤_, max};
-ghost use lib.Dec.{leb};
-ghost use Rattle.settings.specs.Instants.{horizon};
+ghost use mathlib.Core.Bool.{true};
+ghost use Rattle.settings.specs.Settings.{valid};
+ghost use Rattle.record.specs.Request.{requestRead};
 ghost use Rattle.rules.specs.Neighbour.{split};
-ghost use Rattle.rules.specs.Packets.{isPacket};
-ghost use Rattle.rules.specs.Earliest.{placedAt};
-ghost use Rattle.channel.specs.View.{viewOf};
-ghost use Rattle.channel.specs.Tests.{delayOf};
-ghost use Rattle.channel.specs.Earliest.{earliestBy};
-ghost use Rattle.courses.specs.Course.{listed, allPackets, sentFrom};
-ghost use Rattle.placing.specs.Drafts.{Drafted, drawn, lastsFrom};
-use channel::Held;
+ghost use Rattle.plan.specs.Planner.{plannerValid};
+ghost use Rattle.placing.specs.Drafts.{Placed, askedOf};
+use crate::commands::col_step;
+use crate::commands::instant_of;
+use crate::commands::is_col;
+use crate::commands::is_opening;
+use crate::commands::is_read;
+use crate::commands::open_track;
+use crate::ends::asked;
+use crate::ends::front_of;
+use crate::ends::is_full;
+use crate::ends::is_late;
+use crate::ends::state_of;
+use crate::ends::tail_after;
+use crate::ends::tail_of;
 use channel::Lasts;
-use channel::Tracks;
-use channel::View;
 use channel::beside::high_of;
 use channel::beside::low_of;
 use channel::beside::slot_of;
-use channel::bounds::later;
 use channel::views::held_of;
-use channel::views::view_of;
 use courses::Course;
-use courses::Entry;
-use earliest::earliest;
+use courses::Fields;
+use courses::Near;
+use courses::course_of;
+use courses::drain_course;
+use courses::drains;
+use courses::fields_of;
+use courses::focus_of;
 use judging::act_bound;
-use judging::around;
-use judging::tests::delay_of;
 use plan::PlannerState;
-use record::Record;
-use rules::BankTrack;
+use record::RequestRead;
 use rules::Buffer;
-use rules::Channel;
-use settings::PacketAt;
+use sending::close_step;
+use sending::closed_track;
+use sending::first_near;
+use sending::last_near;
+use sending::most3;
+use sending::open_step;
+use sending::side_track;
 use settings::Settings;
-use steps::buffer_after;
-use steps::lasts_after;
-use steps::own_after;
-use steps::side_after;
-use steps::side_of;
-use steps::spot_of;
 
-// A planner with the records of a request. Late: one of their instants, of their data, or now would pass the last instant;
-// then state and course say nothing.
+// What a request makes of a planner: its next state (the state as it was where the call is refused), what the request says, its
+// packets with the instants that they have, and whether it is late (an instant of a packet or of its data, or now, would pass
+// the last one) or full (fewer records are free than it makes).
 pub struct Draft {
     pub state: PlannerState,
+    pub read: RequestRead,
     pub course: Course,
+    pub fields: Fields,
+    pub ats: [u32; 17],
     pub late: bool,
+    pub full: bool,
 }
 
-// The view of a record.
-fn view_in(e: Entry) -> View
-    ensures { λ v. ⌜ v ≡ viewOf (e .record) ⌝ }
-{
-    let r = e.record;
-    view_of(r)
+// A planner's state without its banks.
+pub struct Tail {
+    pub now: u32,
+    pub l: Lasts,
+    pub buffer: Buffer,
+    pub refresh: u32,
+    pub mask: u32,
 }
 
-// The record at another instant, and never data.
-fn at_instant(e: Entry, at: u32) -> Entry
-    requires { ⌜ isPacket (e .record) ≡ true ⌝ }
-    ensures { λ r. ⌜ r .record ≡ placedAt at (e .record) ⌝ }
-{
-    let r = e.record;
-    match r {
-        Record::RowAt(_, p) => Entry {
-            record: Record::RowAt(PacketAt(at), p),
-        },
-        Record::ColAt(_, p) => Entry {
-            record: Record::ColAt(PacketAt(at), p),
-        },
-        Record::DataOf(_, _) => e,
-    }
-}
-
-// Whether an instant, or that of the packet's data, would pass the last one.
-fn is_late(s: Settings, v: View, slot: u64) -> bool
-    ensures { λ r. ⌜ r ≡ not (leb (slot + delayOf s v) horizon) ⌝ }
-{
-    if 1000000000 < slot {
-        return true;
-    }
-    1000000000 < slot + num::wide32(delay_of(s, v))
-}
-
-// The least instant of a packet, not before now.
-fn slot_for(s: Settings, now: u32, v: View, h: Held, k: Tracks, act: u64, l: Lasts) -> u64
-    ensures { λ r. ⌜ r ≡ max now (earliestBy s v h k act l) ⌝ }
-{
-    later(num::wide32(now), earliest(s, v, h, k, act, l))
-}
-
-// A draft of the state in parts, with the first n entries.
-fn draft_of(
-    p: PlannerState,
-    banks: [BankTrack; 32],
-    l: Lasts,
-    buffer: Buffer,
-    now: u32,
-    entries: [Entry; 17],
-    n: usize,
-    late: bool,
-) -> Draft
-    ensures { λ r. ⌜ r ≡ drawn p banks l buffer now entries n late ⌝ }
-{
-    let channel = Channel {
-        banks: banks,
-        last: PacketAt(l.last),
-        row: PacketAt(l.row),
-        col: PacketAt(l.col),
-        pre: PacketAt(l.pre),
-        rd: PacketAt(l.rd),
-        buffer: buffer,
-    };
-    let state = PlannerState {
-        channel: channel,
-        now: PacketAt(now),
-        ..p
-    };
-    let course = Course {
-        entries: entries,
-        count: n,
-    };
-    Draft {
-        state: state,
-        course: course,
-        late: late,
-    }
-}
-
-fn lasts_of(last: PacketAt, row: PacketAt, col: PacketAt, pre: PacketAt, rd: PacketAt) -> Lasts
-    ensures { λ r. ⌜ r ≡ lastsFrom last row col pre rd ⌝ }
-{
-    Lasts {
-        last: last.0,
-        row: row.0,
-        col: col.0,
-        pre: pre.0,
-        rd: rd.0,
-    }
-}
-
-// Places the packets of a course one after the other. The state of the channel is kept in locals: no function takes the array
-// of banks, except where rule 5 walks them.
-pub fn place(s: Settings, p: PlannerState, c: Course) -> Draft
-    requires { ⌜ c .count ≤ 17 ⌝ }
-    requires { ⌜ allPackets (listed c) ≡ true ⌝ }
-    requires { ⌜ p .now .0 ≤ horizon ⌝ }
-    ensures { λ r. ⌜ Drafted s r (sentFrom s split p (listed c)) ⌝ }
+// Places the packets of a request one after the other. It is one function, since an array that is handed to a function is
+// copied, and the planner's speed goes with the copies of its banks.
+pub fn place(s: Settings, p: PlannerState, request: &[u8], free: usize) -> Draft
+    requires { ⌜ valid s ≡ true ⌝ }
+    requires { ⌜ plannerValid s split p ≡ true ⌝ }
+    ensures { λ d. ⌜ d .read ≡ requestRead s (now (request .entry)) ⌝ }
+    ensures { λ d. ⌜ Placed s p (askedOf (d .read)) free d ⌝ }
 {
     let ch = p.channel;
     let mut banks = ch.banks;
-    let mut l = lasts_of(ch.last, ch.row, ch.col, ch.pre, ch.rd);
-    let mut buffer = ch.buffer;
-    let mut now = p.now.0;
-    let mut entries = c.entries;
-    for i in 0..c.count {
-        let e = entries[i];
-        let v = view_in(e);
-        let h = held_of(buffer);
-        let own = banks[slot_of(v.bank)];
-        let low = banks[slot_of(low_of(v.bank))];
-        let high = banks[slot_of(high_of(v.bank))];
-        let held = banks[slot_of(h.bank)];
-        let k = around(v.bank, h.bank, own, low, high, held);
-        let mut act = 0;
-        if v.opens {
-            act = act_bound(s, banks, v.bank);
-        }
-        let slot = slot_for(s, now, v, h, k, act, l);
-        if is_late(s, v, slot) {
-            return draft_of(p, banks, l, buffer, now, entries, i, true);
-        }
-        now = slot as u32;
-        entries[i] = at_instant(e, now);
-        let u = View { at: now, ..v };
-        let spot = spot_of(u, h);
-        let j = slot_of(spot);
-        banks[j] = own_after(u, h, spot, banks[j]);
-        if u.precharges {
-            let left = side_of(u, low_of(u.bank));
-            let d = slot_of(left);
-            banks[d] = side_after(u, left, banks[d]);
-            let right = side_of(u, high_of(u.bank));
-            let g = slot_of(right);
-            banks[g] = side_after(u, right, banks[g]);
-        }
-        l = lasts_after(u, l);
-        buffer = buffer_after(u, buffer);
+    let read = requests::read_request(s, request);
+    let q = asked(read);
+    let buffer = ch.buffer;
+    let b = focus_of(q, p.refresh);
+    let own = banks[slot_of(b)];
+    let low = banks[slot_of(low_of(b))];
+    let high = banks[slot_of(high_of(b))];
+    let t = Near {
+        own: own,
+        low: low,
+        high: high,
+    };
+    let f = fields_of(q, t, buffer, p.mask);
+    let mut c = course_of(q, p.refresh, t, buffer);
+    if drains(q) {
+        c = drain_course(banks, buffer);
     }
-    draft_of(p, banks, l, buffer, now, entries, c.count, false)
+    let mut w = front_of(p);
+    let mut ats = [0u32; 17];
+    let mut i = 0;
+    while num::both(i < c.count, !w.late) {
+        let code = c.codes[i];
+        let x = slot_of(code / 8);
+        if is_col(code) {
+            let left = w.buffer;
+            let h = held_of(left);
+            let k = slot_of(h.bank);
+            w = col_step(
+                s,
+                w,
+                code,
+                f.column,
+                banks[x].act.0,
+                instant_of(h.bank, banks[k].act.0),
+            );
+            if is_read(code) {
+                banks[x].rd.0 = w.now;
+            } else {
+                if h.bank < 32 {
+                    banks[k].retire.0 = w.now;
+                }
+            }
+        } else {
+            let y = first_near(x);
+            let z = last_near(x);
+            if is_opening(code) {
+                let pre = most3(banks[x].pre.0, banks[y].pre.0, banks[z].pre.0);
+                w = open_step(s, w, act_bound(s, banks, code / 8), pre);
+                banks[x] = open_track(code, f.row, w.now, banks[x]);
+            } else {
+                let opened = most3(banks[x].opened.0, banks[y].opened.0, banks[z].opened.0);
+                let rd = most3(banks[x].rd.0, banks[y].rd.0, banks[z].rd.0);
+                let retire = most3(banks[x].retire.0, banks[y].retire.0, banks[z].retire.0);
+                w = close_step(s, w, opened, rd, retire);
+                banks[x] = closed_track(w.now, banks[x]);
+                banks[y] = side_track(w.now, banks[y]);
+                banks[z] = side_track(w.now, banks[z]);
+            }
+        }
+        ats[i] = w.now;
+        i += 1;
+    }
+    let late = is_late(s, q, w);
+    let full = is_full(q, c.count, free);
+    let mut end = tail_after(q, p, w);
+    if num::either(late, full) {
+        banks = ch.banks;
+        end = tail_of(p);
+    }
+    Draft {
+        state: state_of(banks, end),
+        read: read,
+        course: c,
+        fields: f,
+        ats: ats,
+        late: late,
+        full: full,
+    }
 }

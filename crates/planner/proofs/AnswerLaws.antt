@@ -1,40 +1,39 @@
--- The answer to a request, and its records in the lent buffer.
+-- The answer to a request, and its records in the lent buffer, by its draft.
 -- Assumes nothing.
-use Prim.Native.Nat.{ℕ, zero, suc, _+_, _*_, _/_, _≤_, _<_}
+use Prim.Native.Nat.{ℕ, zero, suc, _+_, _*_, _/_, _≤_, _<_, _^_}
 use mathlib.Core.Path.{_≡_, refl, sym, ap, _∙_}
-use mathlib.Core.Bool.{Bool, true, false, not, cond}
+use mathlib.Core.Bool.{Bool, true, false, not, _||_, cond}
 use mathlib.Core.List.{List, [], _∷_, _++_, append-nil, append-assoc}
-use lib.Dec.{leb, ltb}
-use lib.ListN.{length, length-append, take, getD}
-use borrow.Author.Tests.{le-leb, lt-leb, lt-ltb}
+use lib.ListN.{length, length-append, getD}
+use borrow.Author.Tests.{leb-true, ltb-true, ltb-false, le-leb, lt-leb}
+use native.Mathlib.Nat.{add-zero}
+use native.Mathlib.Numerals.{add-one}
 use native.Mathlib.Omega.{arith}
 use Rattle.num.specs.Bytes.{bytes, splice}
 use Rattle.num.proofs.ByteLaws.{length-bytes}
 use Rattle.num.proofs.SpliceLaws.{splice-none, splice-next, length-splice}
 use Rattle.settings.specs.declared.Settings.{Settings}
+use Rattle.settings.specs.Settings.{valid}
+use Rattle.settings.specs.Instants.{horizon}
+use Rattle.settings.proofs.SettingsLaws.{bounds}
 use Rattle.record.specs.declared.Record.{Record}
 use Rattle.record.specs.declared.Record.the-variants.{RowAt, ColAt, DataOf}
 use Rattle.record.specs.declared.Request.{Request}
-use Rattle.record.specs.declared.Request.the-variants.{Read, Write as WriteTo, Refresh as RefreshBank, Wait, Drain}
-use Rattle.record.specs.declared.Refusal.{Refusal}
-use Rattle.record.specs.declared.Refusal.the-variants.{Horizon, Full}
+use Rattle.record.specs.declared.Request.the-variants.{Wait}
 use Rattle.record.specs.declared.RequestRead.{RequestRead}
 use Rattle.record.specs.declared.RequestRead.the-variants.{Refused as RefusedRequest, Accepted}
 use Rattle.record.specs.Record.{recordFields, recordBytes}
 use Rattle.record.specs.Request.{requestRead}
-use Rattle.record.proofs.RequestLaws.{accepted-place, accepted-place-write}
-use Rattle.rules.specs.Neighbour.{Relation, split}
+use Rattle.rules.specs.Neighbour.{split}
+use Rattle.rules.proofs.Bools.{not-both, and-right, neither}
 use Rattle.plan.specs.declared.PlannerState.{PlannerState}
-use Rattle.plan.specs.declared.Outcome.{Outcome}
-use Rattle.plan.specs.declared.Outcome.the-variants.{Refused, Made}
-use Rattle.plan.specs.Plan.{Draft, planned}
-use Rattle.plan.specs.Call.{listBytes, timely, outcomeOf, outcomeBy, planOutcome, isMade, draftBy, planNext, planRecords, planRoom}
-use Rattle.courses.specs.declared.Entry.{Entry}
+use Rattle.plan.specs.Plan.{plannedWait, stepsOf, planned}
+use Rattle.plan.specs.Call.{listBytes, inTime, timely, outcomeOf, outcomeBy, planOutcome, isMade, draftBy, planNext, planRecords, planRoom}
+use Rattle.courses.specs.declared.Fields.{Fields}
+use Rattle.courses.specs.Codes.{recordIn}
 use Rattle.placing.specs.declared.Draft.{Draft as Drawn}
-use Rattle.courses.specs.Course.{bankIn}
-use Rattle.placing.specs.Drafts.{Drafted, servedState, servedRecords}
-use Rattle.courses.proofs.ListedLaws.{recordsIn, records-more, length-records}
-use Rattle.planner.proofs.DraftLaws.{not-late, late-not}
+use Rattle.placing.specs.Drafts.{askedOf, recordsUpTo, dataOf, dataCount, Placed}
+use Rattle.planner.specs.Answer.{servedAnswer, answerBy}
 
 -- ---- records as bytes
 
@@ -44,7 +43,7 @@ length-record s (RowAt t p) = simp (length-append, length-bytes)
 length-record s (ColAt t p) = simp (length-append, length-bytes)
 length-record s (DataOf t d) = simp (length-append, length-bytes)
 
-pub length-list : (s : Settings) (l : List Record) → length (listBytes s l) ≡ 32 * length l
+length-list : (s : Settings) (l : List Record) → length (listBytes s l) ≡ 32 * length l
 unfolding listBytes
 length-list s [] = refl
 length-list s (r ∷ l) =
@@ -53,112 +52,158 @@ length-list s (r ∷ l) =
     let c = length-list s l in
     omega arith
 
-list-one : (s : Settings) (l : List Record) (r : Record) → listBytes s (l ++ (r ∷ [])) ≡ listBytes s l ++ recordBytes s r
+list-join : (s : Settings) (l m : List Record) → listBytes s (l ++ m) ≡ listBytes s l ++ listBytes s m
 unfolding listBytes
-list-one s [] r = append-nil (recordBytes s r)
-list-one s (x ∷ l) r = ap (λ (y : List ℕ). recordBytes s x ++ y) (list-one s l r) ∙ sym (append-assoc (recordBytes s x) (listBytes s l) (recordBytes s r))
+list-join s [] m = refl
+list-join s (r ∷ l) m = ap (λ (b : List ℕ). recordBytes s r ++ b) (list-join s l m) ∙ sym (append-assoc (recordBytes s r) (listBytes s l) (listBytes s m))
 
-module _ (s : Settings) (l : List ℕ) (entries : List Entry) (i : ℕ) (h : 32 * i ≤ length l) where
-  abbrev written : List ℕ
-  written = listBytes s (recordsIn (take i entries))
-
-  length-written : i ≤ length entries → length written ≡ 32 * i
-  length-written m = length-list s (recordsIn (take i entries)) ∙ ap (λ (n : ℕ). 32 * n) (length-records entries i m)
-
-  pub length-put : i ≤ length entries → length (splice l 0 (listBytes s (recordsIn (take i entries)))) ≡ length l
-  length-put m = length-splice l 0 written (let e = length-written m in omega arith)
-
-  -- one record more
-  pub put-turn : (d : Entry) → i < length entries
-      → splice (splice l 0 (listBytes s (recordsIn (take i entries)))) (32 * i) (recordBytes s (getD entries i d .record))
-      ≡ splice l 0 (listBytes s (recordsIn (take (i + 1) entries)))
-  put-turn d m =
-      splice-next l written (recordBytes s (getD entries i d .record)) (32 * i) (length-written (omega arith)) h
-      ∙ ap (λ (b : List ℕ). splice l 0 b) (sym (ap (listBytes s) (records-more entries i d m) ∙ list-one s (recordsIn (take i entries)) (getD entries i d .record)))
-
-pub put-none : (s : Settings) (l : List ℕ) (entries : List Entry) → l ≡ splice l 0 (listBytes s (recordsIn (take 0 entries)))
+list-one : (s : Settings) (r : Record) → recordBytes s r ≡ listBytes s (r ∷ [])
 unfolding listBytes
-put-none s l entries = splice-none l 0
+list-one s r = sym (append-nil (recordBytes s r))
 
--- ---- the answer to a request that is read
+-- ---- packets in the lent buffer
 
-module _ (s : Settings) (z : Draft) (x : Drawn) (d : Drafted s x z) (room : ℕ) where
-  pub served-late : x .late ≡ true → outcomeOf s z room ≡ Refused Horizon
+module _ (f : Fields) (codes ats : List ℕ) where
+  length-upto : (n : ℕ) → length (recordsUpTo f codes ats n) ≡ n
+  unfolding recordsUpTo
+  length-upto zero = refl
+  length-upto (suc n) =
+      let a = length-append (recordsUpTo f codes ats n) (recordIn f (getD codes n 0) (getD ats n 0) ∷ []) in
+      let b = length-upto n in
+      omega arith
+
+  module _ (s : Settings) (l : List ℕ) where
+    -- the lent buffer with the first i packets
+    abbrev pub packetsPut : ℕ → List ℕ
+    packetsPut i = splice l 0 (listBytes s (recordsUpTo f codes ats i))
+
+    length-first : (i : ℕ) → length (listBytes s (recordsUpTo f codes ats i)) ≡ 32 * i
+    length-first i = length-list s (recordsUpTo f codes ats i) ∙ ap (λ (n : ℕ). 32 * n) (length-upto i)
+
+    pub put-none : l ≡ packetsPut 0
+    unfolding listBytes recordsUpTo
+    put-none = splice-none l 0
+
+    pub length-put : (i : ℕ) → 32 * i ≤ length l → length (packetsPut i) ≡ length l
+    length-put i h = length-splice l 0 (listBytes s (recordsUpTo f codes ats i)) (let e = length-first i in omega arith)
+
+    -- more records after them
+    pub put-more : (i : ℕ) → 32 * i ≤ length l → (m : List Record) → splice (packetsPut i) (32 * i) (listBytes s m) ≡ splice l 0 (listBytes s (recordsUpTo f codes ats i ++ m))
+    put-more i h m =
+        splice-next l (listBytes s (recordsUpTo f codes ats i)) (listBytes s m) (32 * i) (length-first i) h
+        ∙ ap (λ (b : List ℕ). splice l 0 b) (sym (list-join s (recordsUpTo f codes ats i) m))
+
+    -- one packet more
+    pub put-turn : (i : ℕ) → 32 * i ≤ length l → splice (packetsPut i) (32 * i) (recordBytes s (recordIn f (getD codes i 0) (getD ats i 0))) ≡ packetsPut (i + 1)
+    unfolding recordsUpTo
+    put-turn i h =
+        ap (λ (b : List ℕ). splice (packetsPut i) (32 * i) b) (list-one s (recordIn f (getD codes i 0) (getD ats i 0)))
+        ∙ rw add-one (put-more i h (recordIn f (getD codes i 0) (getD ats i 0) ∷ []))
+
+-- ---- the answer, by the draft
+
+not-late : (a b : Bool) → a ≡ not b → a ≡ false → b ≡ true
+not-late a true e f = refl
+not-late a false e f = not-both a e f
+
+late-not : (a b : Bool) → a ≡ not b → a ≡ true → b ≡ false
+late-not a false e f = refl
+late-not a true e f = not-both a f e
+
+-- a refused request leaves the planner as it is, and makes nothing
+asked-none : (s : Settings) (p : PlannerState) → planned s split (Wait 0) p ≡ record { planner = p; records = [] }
+unfolding planned stepsOf plannedWait
+asked-none s p = rw (add-zero (p .now .0))
+
+-- of a request that is read
+module _ (s : Settings) (p : PlannerState) (q : Request) (free : ℕ) (d : Drawn) (h : Placed s p q free d) where
+  in-time : d .late ≡ false → timely s (planned s split q p) ≡ true
+  in-time e = not-late (d .late) (timely s (planned s split q p)) (h .late) e
+
+  pub room-for : d .late || d .full ≡ false → d .course .count + dataCount q ≤ free
+  room-for e =
+      let n = neither (d .late) (d .full) e in
+      omega (arith, h .count (n .0), ltb-false free (length (planned s split q p .records)) (sym (h .full (n .0)) ∙ n .1))
+
+  pub data-fits : valid s ≡ true → d .late || d .full ≡ false → d .state .now .0 + s .cwd < 2 ^ 32
+  unfolding timely
+  data-fits v e =
+      let n = neither (d .late) (d .full) e in
+      let t : d .state ≡ planned s split q p .planner = rw e at (h .state) in
+      let b = bounds s v in
+      let m = leb-true (planned s split q p .planner .now .0) horizon (and-right (inTime s (planned s split q p .records)) _ (in-time (n .0))) in
+      omega (arith, ap (λ (z : PlannerState). z .now .0) t, m, b .cwd-cac, b .cac-most)
+
+  served-is : (room : ℕ) → free ≡ room / 32 → (a b : Bool) → d .late ≡ a → d .full ≡ b → servedAnswer q a b (d .course .count) ≡ outcomeOf s (planned s split q p) room
   unfolding outcomeOf
-  served-late e = rw (late-not (x .late) (timely s z) (d .late) e)
+  served-is room m true b e f = rw (late-not (d .late) (timely s (planned s split q p)) (h .late) e)
+  served-is room m false true e f =
+      rw (in-time e, lt-leb (length (planned s split q p .records)) (room / 32) (omega (arith, m, ltb-true free (length (planned s split q p .records)) (sym (h .full e) ∙ f))))
+  served-is room m false false e f =
+      rw (in-time e, le-leb (length (planned s split q p .records)) (room / 32) (omega (arith, m, h .count e, room-for (rw (e, f)))), h .count e)
 
-  pub served-full : x .late ≡ false → room / 32 < x .course .count → outcomeOf s z room ≡ Refused Full
-  unfolding outcomeOf
-  served-full e m = rw (not-late (x .late) (timely s z) (d .late) e, lt-leb (length (z .records)) (room / 32) (let c = d .course e .count in omega arith))
+-- a call makes its records where its draft is neither late nor full
+made-served : (q : Request) (a b : Bool) (n : ℕ) → isMade (servedAnswer q a b n) ≡ not (a || b)
+unfolding isMade
+made-served q true b n = refl
+made-served q false true n = refl
+made-served q false false n = refl
 
-  pub served-made : x .late ≡ false → x .course .count ≤ room / 32 → outcomeOf s z room ≡ Made (x .course .count)
-  unfolding outcomeOf
-  served-made e m = rw (not-late (x .late) (timely s z) (d .late) e, le-leb (length (z .records)) (room / 32) (let c = d .course e .count in omega arith), d .course e .count)
+-- of any bytes
+module _ (s : Settings) (p : PlannerState) (room : ℕ) (d : Drawn) where
+  pub answer-is : (x : RequestRead) → Placed s p (askedOf x) (room / 32) d → answerBy x (d .late) (d .full) (d .course .count) ≡ outcomeBy s split p x room
+  unfolding answerBy outcomeBy askedOf
+  answer-is (RefusedRequest why) h = refl
+  answer-is (Accepted q) h = served-is s p q (room / 32) d h room refl (d .late) (d .full) refl refl
 
--- what a refused and an accepted one leave
-module _ (s : Settings) (nbr : Relation) (p : PlannerState) (q : Request) (room : ℕ) where
-  pub refused-state : (why : Refusal) → outcomeOf s (planned s nbr q p) room ≡ Refused why → servedState s nbr p q room ≡ p
-  unfolding isMade
-  refused-state why e = rw e
+  made-is : (q : Request) → Placed s p q (room / 32) d → isMade (outcomeOf s (planned s split q p) room) ≡ not (d .late || d .full)
+  made-is q h = ap isMade (sym (served-is s p q (room / 32) d h room refl (d .late) (d .full) refl refl)) ∙ made-served q (d .late) (d .full) (d .course .count)
 
-  pub refused-records : (why : Refusal) → outcomeOf s (planned s nbr q p) room ≡ Refused why → servedRecords s nbr p q room ≡ []
-  unfolding isMade
-  refused-records why e = rw e
+  kept : {A : Type 0} (b : Bool) (x : A) → cond b x x ≡ x
+  kept true x = refl
+  kept false x = refl
 
-  pub made-state : (n : ℕ) → outcomeOf s (planned s nbr q p) room ≡ Made n → servedState s nbr p q room ≡ planned s nbr q p .planner
-  unfolding isMade
-  made-state n e = rw e
+  turned : {A : Type 0} (b : Bool) (x y : A) → cond b x y ≡ cond (not b) y x
+  turned true x y = refl
+  turned false x y = refl
 
-  pub made-records : (n : ℕ) → outcomeOf s (planned s nbr q p) room ≡ Made n → servedRecords s nbr p q room ≡ planned s nbr q p .records
-  unfolding isMade
-  made-records n e = rw e
+  state-is : (x : RequestRead) → Placed s p (askedOf x) (room / 32) d → d .state ≡ cond (isMade (outcomeBy s split p x room)) (draftBy s split p x .planner) p
+  unfolding outcomeBy draftBy isMade askedOf
+  state-is (RefusedRequest why) h = h .state ∙ rw (asked-none s p) (kept (d .late || d .full) p)
+  state-is (Accepted q) h = h .state ∙ rw (made-is q h) (turned (d .late || d .full) p (planned s split q p .planner))
 
-pub same-room : (s : Settings) (l : List ℕ) (r : List Record) → r ≡ [] → l ≡ splice l 0 (listBytes s r)
-unfolding listBytes
-same-room s l r e = rw e (splice-none l 0)
+  records-are : (x : RequestRead) → Placed s p (askedOf x) (room / 32) d
+      → cond (d .late || d .full) [] (planned s split (askedOf x) p .records) ≡ cond (isMade (outcomeBy s split p x room)) (draftBy s split p x .records) []
+  unfolding outcomeBy draftBy isMade askedOf
+  records-are (RefusedRequest why) h = rw (asked-none s p) (kept (d .late || d .full) [])
+  records-are (Accepted q) h = rw (made-is q h) (turned (d .late || d .full) [] (planned s split q p .records))
 
 -- ---- the whole call
 
-pub accepted-bank : (s : Settings) (b : List ℕ) (q : Request) → requestRead s b ≡ Accepted q → bankIn q ≡ true
-unfolding bankIn
-accepted-bank s b (Read at) e = lt-ltb _ _ (accepted-place s b at e .0)
-accepted-bank s b (WriteTo at mask bytes) e = lt-ltb _ _ (accepted-place-write s b at mask bytes e .0)
-accepted-bank s b RefreshBank e = refl
-accepted-bank s b (Wait cycles) e = refl
-accepted-bank s b Drain e = refl
+module _ (s : Settings) (p : PlannerState) (b l : List ℕ) (d : Drawn) (e : d .read ≡ requestRead s b) (h : Placed s p (askedOf (d .read)) (length l / 32) d) where
+  pub outcome-is : answerBy (d .read) (d .late) (d .full) (d .course .count) ≡ planOutcome s split p b (length l)
+  unfolding planOutcome
+  outcome-is = rw (← e) (answer-is s p (length l) d (d .read) h)
 
-module _ (s : Settings) (nbr : Relation) (p : PlannerState) (b : List ℕ) (x : RequestRead) (e : x ≡ requestRead s b) where
-  module _ (why : Refusal) (f : x ≡ RefusedRequest why) where
-    said : requestRead s b ≡ RefusedRequest why
-    said = sym e ∙ f
+  pub next-is : d .state ≡ planNext s split p b (length l)
+  unfolding planNext planOutcome
+  next-is = rw (← e) (state-is s p (length l) d (d .read) h)
 
-    pub turned-back : (room : ℕ) → Refused why ≡ planOutcome s nbr p b room
-    unfolding planOutcome outcomeBy
-    turned-back room = rw said
+  records-of : planRecords s split p b (length l) ≡ cond (d .late || d .full) [] (planned s split (askedOf (d .read)) p .records)
+  unfolding planRecords planOutcome
+  records-of = rw (← e) (sym (records-are s p (length l) d (d .read) h))
 
-    pub state-kept : (room : ℕ) → p ≡ planNext s nbr p b room
-    unfolding planNext planOutcome outcomeBy isMade
-    state-kept room = rw said
+  pub room-kept : d .late || d .full ≡ true → l ≡ planRoom s split p b l
+  unfolding planRoom listBytes
+  room-kept k = rw (records-of, k) (splice-none l 0)
 
-    pub room-kept : (l : List ℕ) → l ≡ planRoom s nbr p b l
-    unfolding planRoom planRecords planOutcome outcomeBy isMade listBytes
-    room-kept l = rw said (splice-none l 0)
-
-  module _ (q : Request) (f : x ≡ Accepted q) where
-    asked : requestRead s b ≡ Accepted q
-    asked = sym e ∙ f
-
-    pub bank-asked : bankIn q ≡ true
-    bank-asked = accepted-bank s b q asked
-
-    pub outcome-of : (room : ℕ) → outcomeOf s (planned s nbr q p) room ≡ planOutcome s nbr p b room
-    unfolding planOutcome outcomeBy
-    outcome-of room = rw asked
-
-    pub next-of : (room : ℕ) → servedState s nbr p q room ≡ planNext s nbr p b room
-    unfolding planNext planOutcome outcomeBy draftBy
-    next-of room = rw asked
-
-    pub room-of : (l : List ℕ) → splice l 0 (listBytes s (servedRecords s nbr p q (length l))) ≡ planRoom s nbr p b l
-    unfolding planRoom planRecords planOutcome outcomeBy draftBy
-    room-of l = rw asked
+  pub room-put : d .late || d .full ≡ false → {m : List ℕ} → m ≡ splice l 0 (listBytes s (recordsUpTo (d .fields) (d .course .codes) (d .ats) (d .course .count)))
+      → {n : List ℕ} → n ≡ splice m (32 * d .course .count) (listBytes s (dataOf s (askedOf (d .read)) (d .state .now .0)))
+      → n ≡ planRoom s split p b l
+  unfolding planRoom
+  room-put k em en =
+      let o = neither (d .late) (d .full) k in
+      let fits = room-for s p (askedOf (d .read)) (length l / 32) d h k in
+      en
+      ∙ rw em (put-more (d .fields) (d .course .codes) (d .ats) s l (d .course .count) (omega arith) (dataOf s (askedOf (d .read)) (d .state .now .0)))
+      ∙ ap (λ (r : List Record). splice l 0 (listBytes s r)) (h .records (o .0) (o .1) ∙ sym (rw k at records-of))

@@ -1,6 +1,6 @@
 // The planner: a request to its records, each packet at the least instant that the rules allow.
+mod answers;
 pub mod bytes;
-mod drafts;
 mod records;
 
 ghost use mathlib.Core.Path.{_≡_};
@@ -9,17 +9,10 @@ ghost use lib.ListN.{length};
 ghost use Rattle.settings.specs.Settings.{valid};
 ghost use Rattle.rules.specs.Neighbour.{split};
 ghost use Rattle.plan.specs.Planner.{freshPlanner, plannerValid};
-ghost use Rattle.plan.specs.Plan.{planned};
-ghost use Rattle.plan.specs.Call.{listBytes, outcomeOf, planOutcome, planNext, planRoom};
-ghost use Rattle.num.specs.Bytes.{splice};
-ghost use Rattle.courses.specs.Course.{bankIn};
-ghost use Rattle.placing.specs.Drafts.{servedState, servedRecords};
+ghost use Rattle.plan.specs.Call.{planOutcome, planNext, planRoom};
+use placing::place;
 use plan::Outcome;
 use plan::PlannerState;
-use record::Record;
-use record::Refusal;
-use record::Request;
-use record::RequestRead;
 use settings::PacketAt;
 use settings::Settings;
 
@@ -49,39 +42,6 @@ impl Planner {
         }
     }
 
-    // The answer to a request that is read: 7, then 8, then its records.
-    fn serve(self, s: Settings, q: Request, room: &mut [u8]) -> Planned
-        requires { ⌜ valid s ≡ true ⌝ }
-        requires { ⌜ plannerValid s split (self .state) ≡ true ⌝ }
-        requires { ⌜ bankIn q ≡ true ⌝ }
-        ensures { λ r. ⌜ r .outcome ≡ outcomeOf s (planned s split q (self .state)) (length (now (room .entry))) ⌝ }
-        ensures { λ r. ⌜ r .planner .state ≡ servedState s split (self .state) q (length (now (room .entry))) ⌝ }
-        ensures { λ _. ⌜ now (room .exit) ≡ splice (now (room .entry)) 0 (listBytes s (servedRecords s split (self .state) q (length (now (room .entry))))) ⌝ }
-    {
-        let p = self.state;
-        let d = drafts::make(s, p, q);
-        if d.late {
-            return Planned {
-                planner: self,
-                outcome: Outcome::Refused(Refusal::Horizon),
-            };
-        }
-        let c = d.course;
-        let n = c.count;
-        if room.len() / 32 < n {
-            return Planned {
-                planner: self,
-                outcome: Outcome::Refused(Refusal::Full),
-            };
-        }
-        records::put_all(s, room, c);
-        let next = d.state;
-        Planned {
-            planner: Planner { state: next },
-            outcome: Outcome::Made(n as u64),
-        }
-    }
-
     // One request of any bytes, with any room.
     pub fn plan(self, s: Settings, request: &[u8], room: &mut [u8]) -> Planned
         requires { ⌜ valid s ≡ true ⌝ }
@@ -90,12 +50,21 @@ impl Planner {
         ensures { λ r. ⌜ r .planner .state ≡ planNext s split (self .state) (now (request .entry)) (length (now (room .entry))) ⌝ }
         ensures { λ _. ⌜ now (room .exit) ≡ planRoom s split (self .state) (now (request .entry)) (now (room .entry)) ⌝ }
     {
-        match requests::read_request(s, request) {
-            RequestRead::Refused(why) => Planned {
-                planner: self,
-                outcome: Outcome::Refused(why),
-            },
-            RequestRead::Accepted(q) => self.serve(s, q, room),
+        let p = self.state;
+        let d = place(s, p, request, room.len() / 32);
+        let read = d.read;
+        let c = d.course;
+        let next = d.state;
+        let refused = num::either(d.late, d.full);
+        if !refused {
+            let f = d.fields;
+            let ats = d.ats;
+            records::put_packets(s, room, c, f, ats);
+            records::put_data(s, room, c.count, read, next.now.0);
+        }
+        Planned {
+            planner: Planner { state: next },
+            outcome: answers::outcome_of(read, d.late, d.full, c.count),
         }
     }
 }

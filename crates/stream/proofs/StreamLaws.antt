@@ -1,10 +1,10 @@
--- Laws of a stream: what its calls count, that every planner reached is valid, and one more request.
+-- Laws of a stream: what its calls count, that every planner reached is valid, one more request, and which bytes are a planner.
 -- Assumes nothing.
 use Prim.Native.Nat.{ℕ, zero, suc, _+_, _-_, _*_, _/_, _≤_}
-use mathlib.Core.Path.{_≡_, refl, _∙_}
-use mathlib.Core.Bool.{Bool, true, false, cond}
+use mathlib.Core.Path.{_≡_, refl, sym, _∙_}
+use mathlib.Core.Bool.{Bool, true, false, cond, _&&_}
 use mathlib.Core.List.{List, []}
-use lib.Dec.{leb}
+use lib.Dec.{eqb, leb}
 use lib.ListN.{length, take, drop}
 use native.Mathlib.Omega.{arith}
 use native.Mathlib.Numerals.{add-one}
@@ -18,15 +18,17 @@ use Rattle.record.specs.declared.RequestRead.the-variants.{Refused as RefusedRe
 use Rattle.record.specs.Request.{requestRead}
 use Rattle.rules.specs.Neighbour.{split}
 use Rattle.rules.proofs.NeighbourLaws.{split-neighbours}
+use Rattle.state.specs.ChannelBytes.{bufferRight}
 use Rattle.plan.specs.declared.PlannerState.{PlannerState}
 use Rattle.plan.specs.declared.Outcome.{Outcome}
 use Rattle.plan.specs.declared.Outcome.the-variants.{Refused, Made}
 use Rattle.plan.specs.Planner.{plannerValid}
+use Rattle.plan.specs.PlannerBytes.{plannerIn, plannerRight}
 use Rattle.plan.specs.Plan.{planned}
 use Rattle.plan.specs.Call.{timely, outcomeOf, outcomeBy, planOutcome, isMade, draftBy, planNext, planRecords, planRoom}
 use Rattle.plan.proofs.Bound.{most}
 use Rattle.plan.proofs.Valid.{next-valid}
-use Rattle.stream.specs.Stream.{countOf, requestAt, plannerAt, recordsUpTo, roomUpTo}
+use Rattle.stream.specs.Stream.{countOf, requestAt, plannerAt, recordsUpTo, roomUpTo, recordsBy, roomBy}
 
 -- an answer counts the records, of which there are at most 17
 Counted : Outcome → List Record → Type 0
@@ -77,3 +79,26 @@ module _ (s : Settings) (start : PlannerState) (requests first room : List ℕ) 
   pub room-next : {l : List ℕ} → room ≡ roomUpTo s start requests first i → l ≡ planRoom s split p (lent requests i) room → l ≡ roomUpTo s start requests first (i + 1)
   unfolding roomUpTo
   room-next h m = m ∙ rw (add-one, e, lent-is requests i, h)
+
+-- ---- planners as bytes
+
+module _ (s : Settings) (b : List ℕ) where
+  pub other-length : eqb (length b) 740 ≡ false → plannerRight s split b ≡ false
+  unfolding plannerRight
+  other-length e = rw e
+
+  -- of bytes of the right length the two tests decide
+  pub tested : eqb (length b) 740 ≡ true → {p : PlannerState} → p ≡ plannerIn b → {x y q : Bool} → x ≡ bufferRight b → y ≡ plannerValid s split p → q ≡ (x && y)
+      → plannerRight s split b ≡ q
+  unfolding plannerRight
+  tested e r ex ey eq = rw e (sym (rw (ex, ey, r) at eq))
+
+  pub none-by : (requests room : List ℕ) → plannerRight s split b ≡ false → (0 ≡ recordsBy s b requests (length room)) × (room ≡ roomBy s b requests room)
+  unfolding recordsBy roomBy
+  none-by requests room e = rw e (refl, refl)
+
+  pub all-by : (requests room : List ℕ) → plannerRight s split b ≡ true → {p : PlannerState} → p ≡ plannerIn b → {r : ℕ} {l : List ℕ}
+      → r ≡ recordsUpTo s p requests (length room) (length requests / 24) → l ≡ roomUpTo s p requests room (length requests / 24)
+      → (r ≡ recordsBy s b requests (length room)) × (l ≡ roomBy s b requests room)
+  unfolding recordsBy roomBy
+  all-by requests room e k h m = rw e (rw k at h, rw k at m)

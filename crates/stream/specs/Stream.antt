@@ -1,6 +1,7 @@
 -- A stream of requests, each planned by the planner that the last one left, all into the same room.
 -- Assumes nothing.
 use Prim.Native.Nat.{ℕ, zero, suc, _+_, _*_, _/_}
+use mathlib.Core.Bool.{cond}
 use mathlib.Core.List.{List}
 use lib.ListN.{length}
 use Rattle.num.specs.Bytes.{part}
@@ -12,7 +13,7 @@ use Rattle.rules.specs.Neighbour.{split}
 use Rattle.plan.specs.declared.PlannerState.{PlannerState}
 use Rattle.plan.specs.declared.Outcome.{Outcome}
 use Rattle.plan.specs.declared.Outcome.the-variants.{Refused, Made}
-use Rattle.plan.specs.Planner.{freshPlanner}
+use Rattle.plan.specs.PlannerBytes.{plannerIn, plannerRight}
 use Rattle.plan.specs.Call.{planNext, planRecords, planRoom}
 
 -- the records that a call has made
@@ -40,17 +41,26 @@ roomUpTo s p requests room zero = room
 roomUpTo s p requests room (suc n) =
     planRoom s split (plannerAt s p requests (length room) n) (requestAt requests n) (roomUpTo s p requests room n)
 
--- the whole stream of a fresh planner, nothing where the settings are refused
-unfoldable pub recordsUnder : SettingsRead → List ℕ → ℕ → ℕ
-recordsUnder RefusedSettings requests room = 0
-recordsUnder (Accepted s) requests room = recordsUpTo s freshPlanner requests room (length requests / 24)
+-- the whole stream of the planner that bytes say, nothing where they are no state under the settings
+unfoldable pub recordsBy : Settings → List ℕ → List ℕ → ℕ → ℕ
+recordsBy s planner requests room =
+    cond (plannerRight s split planner) (recordsUpTo s (plannerIn planner) requests room (length requests / 24)) 0
 
-unfoldable pub roomUnder : SettingsRead → List ℕ → List ℕ → List ℕ
-roomUnder RefusedSettings requests room = room
-roomUnder (Accepted s) requests room = roomUpTo s freshPlanner requests room (length requests / 24)
+unfoldable pub roomBy : Settings → List ℕ → List ℕ → List ℕ → List ℕ
+roomBy s planner requests room =
+    cond (plannerRight s split planner) (roomUpTo s (plannerIn planner) requests room (length requests / 24)) room
 
-unfoldable pub streamRecords : List ℕ → List ℕ → List ℕ → ℕ
-streamRecords settings requests room = recordsUnder (settingsRead settings) requests (length room)
+-- nor where the settings are refused
+unfoldable pub recordsUnder : SettingsRead → List ℕ → List ℕ → ℕ → ℕ
+recordsUnder RefusedSettings planner requests room = 0
+recordsUnder (Accepted s) planner requests room = recordsBy s planner requests room
 
-unfoldable pub streamRoom : List ℕ → List ℕ → List ℕ → List ℕ
-streamRoom settings requests room = roomUnder (settingsRead settings) requests room
+unfoldable pub roomUnder : SettingsRead → List ℕ → List ℕ → List ℕ → List ℕ
+roomUnder RefusedSettings planner requests room = room
+roomUnder (Accepted s) planner requests room = roomBy s planner requests room
+
+unfoldable pub streamRecords : List ℕ → List ℕ → List ℕ → List ℕ → ℕ
+streamRecords settings planner requests room = recordsUnder (settingsRead settings) planner requests (length room)
+
+unfoldable pub streamRoom : List ℕ → List ℕ → List ℕ → List ℕ → List ℕ
+streamRoom settings planner requests room = roomUnder (settingsRead settings) planner requests room

@@ -6,7 +6,7 @@ ghost use lib.ListN.{length};
 ghost use Rattle.settings.specs.Settings.{valid};
 ghost use Rattle.rules.specs.Neighbour.{split};
 ghost use Rattle.plan.specs.Planner.{plannerValid};
-ghost use Rattle.stream.specs.Stream.{countOf, recordsUpTo, roomUpTo, streamRecords, streamRoom};
+ghost use Rattle.stream.specs.Stream.{countOf, recordsUpTo, roomUpTo, recordsBy, roomBy, streamRecords, streamRoom};
 use plan::Outcome;
 use planner::Planner;
 use settings::Settings;
@@ -46,13 +46,36 @@ pub fn plan_stream(start: Planner, s: Settings, requests: &[u8], room: &mut [u8]
     records
 }
 
-// The same for a host, of a fresh planner: 0 where the settings are refused.
+// The same of the planner that bytes say: 0 where they are no state under the settings.
+fn stream_by(s: Settings, planner: &[u8], requests: &[u8], room: &mut [u8]) -> u64
+    requires { ⌜ valid s ≡ true ⌝ }
+    ensures { λ r. ⌜ (r ≡ recordsBy s (now (planner .entry)) (now (requests .entry)) (length (now (room .entry)))) × (now (room .exit) ≡ roomBy s (now (planner .entry)) (now (requests .entry)) (now (room .entry))) ⌝ }
+{
+    if planner.len() != 740 {
+        return 0;
+    }
+    let p = Planner::read(planner);
+    let formed = state::bytes::buffer_right(planner);
+    let allowed = p.valid(s);
+    let right = num::both(formed, allowed);
+    if !right {
+        return 0;
+    }
+    plan_stream(p, s, requests, room)
+}
+
+// The same for a host: 0 where the settings are refused. The planner comes as bytes, so that the compiler does not know its fields.
 #[no_mangle]
-pub extern "C" fn rdram_bench_plan(settings: &[u8], requests: &[u8], room: &mut [u8]) -> u64
-    ensures { λ r. ⌜ (r ≡ streamRecords (now (settings .entry)) (now (requests .entry)) (now (room .entry))) × (now (room .exit) ≡ streamRoom (now (settings .entry)) (now (requests .entry)) (now (room .entry))) ⌝ }
+pub extern "C" fn rdram_bench_plan(
+    settings: &[u8],
+    planner: &[u8],
+    requests: &[u8],
+    room: &mut [u8],
+) -> u64
+    ensures { λ r. ⌜ (r ≡ streamRecords (now (settings .entry)) (now (planner .entry)) (now (requests .entry)) (now (room .entry))) × (now (room .exit) ≡ streamRoom (now (settings .entry)) (now (planner .entry)) (now (requests .entry)) (now (room .entry))) ⌝ }
 {
     match settings::read::read_settings(settings) {
         SettingsRead::Refused => 0,
-        SettingsRead::Accepted(s) => plan_stream(Planner::fresh(), s, requests, room),
+        SettingsRead::Accepted(s) => stream_by(s, planner, requests, room),
     }
 }

@@ -1,18 +1,13 @@
 -- `courses::three` meets its contract: the packets of one bank after those of the other.
-use Prim.Native.Nat.{ℕ}
-use mathlib.Core.Path.{_≡_, refl, ap, _∙_}
+use mathlib.Core.Path.{refl}
 use mathlib.Core.List.{[]}
+use lib.ListN.{replicate}
 use native.Mathlib.Omega.{arith}
-use lib.ListN.{length}
-use Rattle.channel.proofs.JudgeLaws.{length-of-map}
 use Rattle.courses.proofs.ListedLaws.{Filled}
-use Rattle.courses.proofs.CodeLaws.{bank-put, filled-holds}
+use Rattle.courses.proofs.CodeLaws.{low-small, high-small, bank-put, three-joined, filled-holds}
 use borrow.Author.Needs.{needs}
 use Rattle.courses.proofs.three.Statement.{statement}
 use Rattle.courses.proofs.three.Tie as tie
-
-col-packet-requires : tie.Need-col-packet-requires
-col-packet-requires c κs = search needs
 
 low-of-requires : tie.Need-low-of-requires
 low-of-requires c κs = search needs
@@ -20,26 +15,23 @@ low-of-requires c κs = search needs
 high-of-requires : tie.Need-high-of-requires
 high-of-requires c κs = search needs
 
-none-requires : tie.Need-none-requires
-none-requires c κs = search needs
-
-array-set-from-entries : tie.Need-array-set-from-entries
-array-set-from-entries c = search needs
-
 both-requires : tie.Need-both-requires
 both-requires c κs = search needs
 
 step-requires : tie.Need-step-requires
 step-requires c κs = search needs
 
-row-packet-requires : tie.Need-row-packet-requires
-row-packet-requires c κs = search needs
+mul-codes : tie.Need-mul-codes
+mul-codes c = omega (arith, low-small (c .before .before .before .before .args .b) (c .before .before .before .before .pre), c .before .before .before .low-of .ensures)
 
-mul-entries : tie.Need-mul-entries
-mul-entries c = search needs
+add-codes : tie.Need-add-codes
+add-codes c = omega (arith, low-small (c .before .before .before .before .args .b) (c .before .before .before .before .pre), c .before .before .before .low-of .ensures)
 
-array-set-from-entries-2 : tie.Need-array-set-from-entries-2
-array-set-from-entries-2 c = search needs
+mul-codes-2 : tie.Need-mul-codes-2
+mul-codes-2 c = search needs
+
+array-write-codes : tie.Need-array-write-codes
+array-write-codes c = search needs
 
 step-requires-2 : tie.Need-step-requires-2
 step-requires-2 c κs = search needs
@@ -47,11 +39,11 @@ step-requires-2 c κs = search needs
 add-n2 : tie.Need-add-n2
 add-n2 c = search needs
 
-mul-entries-2 : tie.Need-mul-entries-2
-mul-entries-2 c = search needs
+mul-codes-3 : tie.Need-mul-codes-3
+mul-codes-3 c = search needs
 
-array-set-from-entries-3 : tie.Need-array-set-from-entries-3
-array-set-from-entries-3 c = search needs
+array-write-codes-2 : tie.Need-array-write-codes-2
+array-write-codes-2 c = search needs
 
 both-requires-2 : tie.Need-both-requires-2
 both-requires-2 c κs = search needs
@@ -62,14 +54,17 @@ step-requires-3 c κs = search needs
 add-n3 : tie.Need-add-n3
 add-n3 c = search needs
 
-row-packet-requires-2 : tie.Need-row-packet-requires-2
-row-packet-requires-2 c κs = search needs
+mul-codes-4 : tie.Need-mul-codes-4
+mul-codes-4 c = search needs
 
-mul-entries-3 : tie.Need-mul-entries-3
-mul-entries-3 c = search needs
+add-codes-2 : tie.Need-add-codes-2
+add-codes-2 c = search needs
 
-array-set-from-entries-4 : tie.Need-array-set-from-entries-4
-array-set-from-entries-4 c = search needs
+mul-codes-5 : tie.Need-mul-codes-5
+mul-codes-5 c = search needs
+
+array-write-codes-3 : tie.Need-array-write-codes-3
+array-write-codes-3 c = search needs
 
 step-requires-4 : tie.Need-step-requires-4
 step-requires-4 c κs = search needs
@@ -77,11 +72,11 @@ step-requires-4 c κs = search needs
 add-n4 : tie.Need-add-n4
 add-n4 c = search needs
 
-mul-entries-4 : tie.Need-mul-entries-4
-mul-entries-4 c = search needs
+mul-codes-6 : tie.Need-mul-codes-6
+mul-codes-6 c = search needs
 
-array-set-from-entries-5 : tie.Need-array-set-from-entries-5
-array-set-from-entries-5 c = search needs
+array-write-codes-4 : tie.Need-array-write-codes-4
+array-write-codes-4 c = search needs
 
 both-requires-3 : tie.Need-both-requires-3
 both-requires-3 c κs = search needs
@@ -92,14 +87,17 @@ step-requires-5 c κs = search needs
 add-n5 : tie.Need-add-n5
 add-n5 c = search needs
 
-row-packet-requires-3 : tie.Need-row-packet-requires-3
-row-packet-requires-3 c κs = search needs
+mul-codes-7 : tie.Need-mul-codes-7
+mul-codes-7 c = omega (arith, high-small (c .before .before .before .before .before .before .before .before .before .before .args .b) (c .before .before .before .before .before .before .before .before .before .before .pre), c .before .before .before .before .before .before .before .before .high-of .ensures)
 
-mul-entries-5 : tie.Need-mul-entries-5
-mul-entries-5 c = search needs
+add-codes-3 : tie.Need-add-codes-3
+add-codes-3 c = omega (arith, high-small (c .before .before .before .before .before .before .before .before .before .before .args .b) (c .before .before .before .before .before .before .before .before .before .before .pre), c .before .before .before .before .before .before .before .before .high-of .ensures)
 
-array-set-from-entries-6 : tie.Need-array-set-from-entries-6
-array-set-from-entries-6 c = search needs
+mul-codes-8 : tie.Need-mul-codes-8
+mul-codes-8 c = search needs
+
+array-write-codes-5 : tie.Need-array-write-codes-5
+array-write-codes-5 c = search needs
 
 step-requires-6 : tie.Need-step-requires-6
 step-requires-6 c κs = search needs
@@ -109,51 +107,50 @@ add-n6 c = search needs
 
 returns : tie.Need-returns
 returns c =
-    let z = c .before .before .before .before .before .before .before .before .before .before .before .before .before .before .before .before .before in
-    let blank = c .before .before .before .before .before .before .before .before .before .before .before .before .before .none in
-    let below = c .before .before .before .before .before .before .before .before .before .before .before .before .before .before .before .low-of .result in
-    let above = c .before .before .before .before .before .before .before .before .before .before .before .before .before .before .high-of .result in
-    let long : length (blank .result .entries) ≡ 17 = search (length-of-map, c .before .before .before .before .before .before .before .before .before .before .before .before .before .none) in
-    let f0 : Filled (blank .result .entries) 0 [] = record { wide = long; count = refl; same = refl } in
-    let f1 = bank-put (z .args .w) (z .args .mask) below (z .args .low) _ 0 [] f0 (omega arith) _ _ _ _ (c .before .before .before .before .before .before .before .before .before .before .step .result) _ _ (c .before .before .before .before .before .before .before .before .before .before .before .before .before .before .before .before .col-packet .ensures) (c .before .before .before .before .before .before .before .before .before .before .before .both .ensures) (c .before .before .before .before .before .before .before .before .before .before .step .ensures .0) (omega arith) (c .before .before .before .before .before .before .before .before .before .row-packet .ensures) (c .before .before .before .before .before .before .before .before .step2 .ensures .0) refl in
-    let f2 = bank-put (z .args .w) (z .args .mask) (z .args .b) (z .args .own) _ _ _ f1 (omega (arith, c .before .before .before .before .before .before .before .before .before .before .step .ensures .1, c .before .before .before .before .before .before .before .before .step2 .ensures .1)) _ _ _ _ _ _ _ (c .before .before .before .before .before .before .before .before .before .before .before .before .before .before .before .before .col-packet .ensures) (c .before .before .before .before .before .before .before .both2 .ensures) (c .before .before .before .before .before .before .step3 .ensures .0) refl (c .before .before .before .before .before .row-packet2 .ensures) (c .before .before .before .before .step4 .ensures .0) refl in
-    let f3 = bank-put (z .args .w) (z .args .mask) above (z .args .high) _ _ _ f2 (omega (arith, c .before .before .before .before .before .before .before .before .before .before .step .ensures .1, c .before .before .before .before .before .before .before .before .step2 .ensures .1, c .before .before .before .before .before .before .step3 .ensures .1, c .before .before .before .before .step4 .ensures .1)) _ _ _ _ _ _ _ (c .before .before .before .before .before .before .before .before .before .before .before .before .before .before .before .before .col-packet .ensures) (c .before .before .before .both3 .ensures) (c .before .before .step5 .ensures .0) refl (c .before .row-packet3 .ensures) (c .step6 .ensures .0) refl in
-    rw (c .before .before .before .before .before .before .before .before .before .before .before .before .before .before .before .low-of .ensures, c .before .before .before .before .before .before .before .before .before .before .before .before .before .before .high-of .ensures) at (filled-holds _ _ _ f3 (omega (arith, c .before .before .before .before .before .before .before .before .before .before .step .ensures .1, c .before .before .before .before .before .before .before .before .step2 .ensures .1, c .before .before .before .before .before .before .step3 .ensures .1, c .before .before .before .before .step4 .ensures .1, c .before .before .step5 .ensures .1, c .step6 .ensures .1)))
+    let z = c .before .before .before .before .before .before .before .before .before .before .before in
+    let below = c .before .before .before .before .before .before .before .before .before .before .low-of .result in
+    let above = c .before .before .before .before .before .before .before .before .before .high-of .result in
+    let f0 : Filled (replicate 17 0) 0 [] = record { wide = refl; count = refl; same = refl } in
+    let f1 = bank-put (z .args .w) below (z .args .low) (replicate 17 0) 0 [] f0 (omega arith) _ _ (c .before .before .before .before .before .before .before .step .result) _ _ (c .before .before .before .before .before .before .before .before .both .ensures) (c .before .before .before .before .before .before .before .step .ensures .0) (omega arith) (c .before .before .before .before .before .before .step2 .ensures .0) refl in
+    let f2 = bank-put (z .args .w) (z .args .b) (z .args .own) _ _ _ f1 (omega (arith, c .before .before .before .before .before .before .before .step .ensures .1, c .before .before .before .before .before .before .step2 .ensures .1)) _ _ _ _ _ (c .before .before .before .before .before .both2 .ensures) (c .before .before .before .before .step3 .ensures .0) refl (c .before .before .before .step4 .ensures .0) refl in
+    let f3 = bank-put (z .args .w) above (z .args .high) _ _ _ f2 (omega (arith, c .before .before .before .before .before .before .before .step .ensures .1, c .before .before .before .before .before .before .step2 .ensures .1, c .before .before .before .before .step3 .ensures .1, c .before .before .before .step4 .ensures .1)) _ _ _ _ _ (c .before .before .both3 .ensures) (c .before .step5 .ensures .0) refl (c .step6 .ensures .0) refl in
+    three-joined (z .args .w) (z .args .b) below above (z .args .low) (z .args .own) (z .args .high) _ (c .before .before .before .before .before .before .before .before .before .before .low-of .ensures) (c .before .before .before .before .before .before .before .before .before .high-of .ensures)
+    (filled-holds _ _ _ f3 (omega (arith, c .before .before .before .before .before .before .before .step .ensures .1, c .before .before .before .before .before .before .step2 .ensures .1, c .before .before .before .before .step3 .ensures .1, c .before .before .before .step4 .ensures .1, c .before .step5 .ensures .1, c .step6 .ensures .1)))
 
 pub three-spec : {M : Type 1} → statement M
 three-spec =
     tie.close
     (tie.spec
-    col-packet-requires
     low-of-requires
     high-of-requires
-    none-requires
-    array-set-from-entries
     both-requires
     step-requires
-    row-packet-requires
-    mul-entries
-    array-set-from-entries-2
+    mul-codes
+    add-codes
+    mul-codes-2
+    array-write-codes
     step-requires-2
     add-n2
-    mul-entries-2
-    array-set-from-entries-3
+    mul-codes-3
+    array-write-codes-2
     both-requires-2
     step-requires-3
     add-n3
-    row-packet-requires-2
-    mul-entries-3
-    array-set-from-entries-4
+    mul-codes-4
+    add-codes-2
+    mul-codes-5
+    array-write-codes-3
     step-requires-4
     add-n4
-    mul-entries-4
-    array-set-from-entries-5
+    mul-codes-6
+    array-write-codes-4
     both-requires-3
     step-requires-5
     add-n5
-    row-packet-requires-3
-    mul-entries-5
-    array-set-from-entries-6
+    mul-codes-7
+    add-codes-3
+    mul-codes-8
+    array-write-codes-5
     step-requires-6
     add-n6
     returns)

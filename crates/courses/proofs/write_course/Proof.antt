@@ -1,21 +1,16 @@
 -- `courses::write_course` meets its contract: by whether the row is open.
+use mathlib.Core.Path.{sym, _∙_}
 use native.Mathlib.Omega.{arith}
-use Rattle.courses.proofs.CodeLaws.{push-asks, opening-short, open-at, write-hit, write-reached}
+use Rattle.courses.proofs.CodeLaws.{near-short, write-hit, write-reached}
 use borrow.Author.Needs.{needs}
 use Rattle.courses.proofs.write_course.Statement.{statement}
 use Rattle.courses.proofs.write_course.Tie as tie
 
-write-packet-requires : tie.Need-write-packet-requires
-write-packet-requires c κs = search needs
+mul-wr : tie.Need-mul-wr
+mul-wr c = search needs
 
-slot-of-requires : tie.Need-slot-of-requires
-slot-of-requires c κs = search needs
-
-mul-t : tie.Need-mul-t
-mul-t c = search needs
-
-element-copy-out-t : tie.Need-element-copy-out-t
-element-copy-out-t c = search needs
+add-wr : tie.Need-add-wr
+add-wr c = search needs
 
 open-on-requires : tie.Need-open-on-requires
 open-on-requires c κs = search needs
@@ -28,34 +23,42 @@ push-requires c κs = search needs
 
 returns : tie.Need-returns
 returns c =
-    let z = c .before .before .before .before .before .before .before .before in
-    let o = open-at (z .args .p) (z .args .at) (z .pre) _ _ _ (c .before .before .before .before .before .slot-of .ensures .0) (c .before .before .before .open-on .ensures) (c .before .before .if1 .taken) in
-    write-hit (z .args .p) (z .args .at) (z .pre) _ _ _ _ o (c .before .none .ensures) (c .before .before .before .before .before .before .before .write-packet .ensures) (c .push .ensures)
+    let z = c .before .before .before .before .before .before in
+    write-hit (z .args .t) (z .args .buffer) (z .args .at) _ _ (sym (c .before .before .before .open-on .ensures) ∙ c .before .before .if1 .taken) (c .before .none .ensures) (c .push .ensures)
 
-opening-requires : tie.Need-opening-requires
-opening-requires c κs = search needs
+shut-near-requires : tie.Need-shut-near-requires
+shut-near-requires c κs = search needs
+
+mul-push : tie.Need-mul-push
+mul-push c = search needs
+
+add-push : tie.Need-add-push
+add-push c = search needs
 
 push-requires-2 : tie.Need-push-requires-2
-push-requires-2 c κs = push-asks _ _ (c .opening .ensures) (omega (arith, opening-short (c .before .before .before .before .before .before .before .args .p) (c .before .before .before .before .before .before .before .args .at) (c .before .before .before .before .before .before .before .pre)))
+push-requires-2 c κs = let z = c .before .before .before .before .before .before in omega (arith, near-short (z .args .t) (z .args .buffer) (z .args .at .bank), c .before .shut-near .ensures .count)
+
+push-requires-3 : tie.Need-push-requires-3
+push-requires-3 c κs = let z = c .before .before .before .before .before .before .before in omega (arith, near-short (z .args .t) (z .args .buffer) (z .args .at .bank), c .before .before .shut-near .ensures .count, c .push2 .ensures .count)
 
 returns-2 : tie.Need-returns-2
 returns-2 c =
     let z = c .before .before .before .before .before .before .before .before in
-    let o = open-at (z .args .p) (z .args .at) (z .pre) _ _ _ (c .before .before .before .before .before .slot-of .ensures .0) (c .before .before .before .open-on .ensures) (c .before .before .if1 .left) in
-    write-reached (z .args .p) (z .args .at) (z .pre) _ _ _ _ o (c .before .opening .ensures) (c .before .before .before .before .before .before .before .write-packet .ensures) (c .push2 .ensures)
+    write-reached (z .args .t) (z .args .buffer) (z .args .at) _ _ _ (sym (c .before .before .before .before .before .open-on .ensures) ∙ c .before .before .before .before .if1 .left) (c .before .before .before .shut-near .ensures) (c .before .push2 .ensures) (c .push3 .ensures)
 
 pub write-course-spec : {M : Type 1} → statement M
 write-course-spec =
     tie.close
     (tie.spec
-    write-packet-requires
-    slot-of-requires
-    mul-t
-    element-copy-out-t
+    mul-wr
+    add-wr
     open-on-requires
     none-requires
     push-requires
     returns
-    opening-requires
+    shut-near-requires
+    mul-push
+    add-push
     push-requires-2
+    push-requires-3
     returns-2)

@@ -1,8 +1,6 @@
 -- `rdram_bench_plan` meets its contract: each arm is a case of the definition.
-use mathlib.Core.Path.{_≡_, refl, sym, _∙_}
+use mathlib.Core.Path.{refl, sym, _∙_}
 use Rattle.settings.proofs.SettingsLaws.{accepted-valid}
-use Rattle.rules.specs.Neighbour.{split}
-use Rattle.plan.proofs.Valid.{fresh-valid}
 use Rattle.stream.specs.Stream.{recordsUnder, roomUnder, streamRecords, streamRoom}
 use borrow.Author.Needs.{needs}
 use Rattle.stream.proofs.rdram_bench_plan.Statement.{statement}
@@ -17,15 +15,10 @@ enum-told c = search needs
 enum-known-s : tie.Need-enum-known-s
 enum-known-s c = search needs
 
-fresh-requires : tie.Need-fresh-requires
-fresh-requires c κs = search needs
-
-plan-stream-requires : tie.Need-plan-stream-requires
-plan-stream-requires c κs =
-    let d = c .before .before .before .before .before in (
-      accepted-valid (d .before .before .before .before .args .settings .now) _ (sym (d .read-settings .ensures) ∙ c .before .before .before .s .given .1),
-      rw (c .before .fresh .ensures) (fresh-valid _ split),
-    )
+stream-by-requires : tie.Need-stream-by-requires
+stream-by-requires c κs =
+    let d = c .before .before in
+    accepted-valid (d .before .before .before .before .before .before .before .args .settings .now) _ (sym (d .before .before .read-settings .ensures) ∙ d .s .given .1)
 
 returns : tie.Need-returns
 unfolding streamRecords recordsUnder streamRoom roomUnder
@@ -37,9 +30,8 @@ same-length c = search needs
 returns-2 : tie.Need-returns-2
 unfolding streamRecords recordsUnder streamRoom roomUnder
 returns-2 c =
-    let d = c .before .before in
-    let e = sym (d .before .before .before .before .before .before .read-settings .ensures) ∙ d .before .before .before .before .s .given .1 in
-    rw e (rw (d .before .before .fresh .ensures) at (d .plan-stream .ensures))
+    let d = c .before .before .before .before .before in
+    rw (sym (d .before .before .read-settings .ensures) ∙ d .s .given .1) (c .before .before .stream-by .ensures)
 
 pub rdram-bench-plan-spec : {M : Type 1} → statement M
 rdram-bench-plan-spec =
@@ -48,8 +40,7 @@ rdram-bench-plan-spec =
     read-settings-requires
     enum-told
     enum-known-s
-    fresh-requires
-    plan-stream-requires
+    stream-by-requires
     returns
     same-length
     returns-2)

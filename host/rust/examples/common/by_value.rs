@@ -1,11 +1,12 @@
 //! Rows of bench_plan: the library's planner by value, from Rattle code, beside the rivals' by value.
-//! No state bytes, and no test of the state between calls. Needs libstream.a.
+//! The library's comes as bytes and is tested once a stream; between calls there are no state bytes,
+//! and no test of the state. Needs libstream.a.
 
 use crate::common::{below, best, print_row, time_slices, Size, SETTINGS};
 use crate::rivals::plain::planner as plain;
 use crate::rivals::tuned_plan as tuned;
 use crate::rivals::tuned_state::Figures;
-use crate::{Request, ROOM};
+use crate::{fresh, Request, ROOM};
 use rdram::{RECORD_BYTES, REQUEST_BYTES};
 
 #[link(name = "stream", kind = "static")]
@@ -13,6 +14,8 @@ extern "C" {
     fn rdram_bench_plan(
         settings: *const u8,
         settings_len: usize,
+        planner: *const u8,
+        planner_len: usize,
         requests: *const u8,
         requests_len: usize,
         room: *mut u8,
@@ -26,12 +29,14 @@ type Stream = fn(&[u8], &[Request], &mut [u8]) -> usize;
 const STREAMS: [Stream; 3] = [library_stream, plain_stream, tuned_stream];
 
 fn library_stream(settings: &[u8], requests: &[Request], room: &mut [u8]) -> usize {
-    let requests = requests.as_flattened();
+    let (planner, requests) = (fresh(), requests.as_flattened());
     // SAFETY: each pointer and length are those of one slice, and the slices do not overlap.
     let records = unsafe {
         rdram_bench_plan(
             settings.as_ptr(),
             settings.len(),
+            planner.as_ptr(),
+            planner.len(),
             requests.as_ptr(),
             requests.len(),
             room.as_mut_ptr(),

@@ -1,0 +1,230 @@
+-- Placing the packets of a course one after the other is sending them: what holds before each, and what each makes of it.
+-- Assumes nothing.
+use Prim.Native.Nat.{ℕ, zero, suc, _+_, _≤_, _<_, max}
+use mathlib.Core.Path.{_≡_, refl, sym, ap, _∙_}
+use mathlib.Core.Bool.{Bool, true, false, not, _&&_}
+use mathlib.Core.List.{List, [], _∷_, _++_, map}
+use lib.Dec.{leb}
+use lib.ListN.{length, length-map, length-set, take, drop, getD, set, take-append-drop, List·getD-map}
+use lib.Seq.{take-suc, length-take-le, getD-take, getD-set-other, getD-set-same}
+use borrow.Author.Tests.{le-leb, leb-true}
+use native.Mathlib.Numerals.{add-one}
+use native.Mathlib.Omega.{arith}
+use Rattle.settings.specs.declared.Settings.{Settings}
+use Rattle.settings.specs.Instants.{horizon}
+use Rattle.packet.specs.declared.RowPacket.the-variants.{Act, Prer, Refa, Refp}
+use Rattle.packet.specs.declared.ColPacket.the-variants.{Nocop, Wr, Rd}
+use Rattle.record.specs.declared.Record.{Record}
+use Rattle.record.specs.declared.Record.the-variants.{RowAt, ColAt, DataOf}
+use Rattle.rules.specs.declared.BankTrack.{BankTrack}
+use Rattle.rules.specs.declared.Buffer.{Buffer}
+use Rattle.rules.specs.declared.Channel.{Channel}
+use Rattle.rules.specs.Neighbour.{split}
+use Rattle.rules.specs.Rules.{dataDelay}
+use Rattle.rules.specs.Channel.{never, idle, after}
+use Rattle.rules.specs.Earliest.{placedAt, earliest}
+use Rattle.rules.proofs.Bools.{not-both}
+use Rattle.channel.specs.declared.View.{View}
+use Rattle.channel.specs.View.{rowView, colView, viewOf, heldOf}
+use Rattle.channel.specs.Tests.{tracksOf, actBound, delayOf}
+use Rattle.channel.specs.Steps.{banksNext, bufferStep, lastsNext, channelOf}
+use Rattle.channel.specs.Earliest.{earliestBy}
+use Rattle.channel.proofs.ViewLaws.{view-delay}
+use Rattle.channel.proofs.StepLaws.{apart-after, apart-length}
+use Rattle.channel.proofs.EarliestLaws.{earliest-is}
+use Rattle.plan.specs.declared.PlannerState.{PlannerState}
+use Rattle.plan.specs.Plan.{Draft, slot, sent}
+use Rattle.plan.specs.Call.{inTime}
+use Rattle.plan.proofs.SentLaws.{sent-channel, sent-now, sent-records}
+use Rattle.courses.specs.declared.Fields.{Fields}
+use Rattle.courses.specs.declared.Course.{Course}
+use Rattle.courses.specs.Course.{sentAll, sentFrom}
+use Rattle.courses.specs.Codes.{recordIn, packetIn}
+use Rattle.courses.proofs.ClosingLaws.{all-append, all-one}
+use Rattle.courses.proofs.CodeCourse.{placed}
+use Rattle.sending.specs.declared.Front.{Front}
+use Rattle.sending.specs.Sending.{stampedAt, clip, slotBy, frontAt}
+use Rattle.placing.specs.Drafts.{recordsUpTo, frontOf}
+use Rattle.placing.specs.Turns.{viewIn, slotIn, Turn}
+use Rattle.placing.proofs.TimeLaws.{sent-in-time, late-stays}
+
+-- ---- a view at another instant
+
+view-placed : (t : ℕ) (r : Record) → viewOf (placedAt t r) ≡ stampedAt t (viewOf r)
+unfolding placedAt viewOf rowView colView
+view-placed t (RowAt u (Act b r)) = refl
+view-placed t (RowAt u (Prer b)) = refl
+view-placed t (RowAt u (Refa b)) = refl
+view-placed t (RowAt u (Refp b)) = refl
+view-placed t (ColAt u (Nocop m)) = refl
+view-placed t (ColAt u (Wr b c m)) = refl
+view-placed t (ColAt u (Rd b c m)) = refl
+view-placed t (DataOf u d) = refl
+
+-- ---- tests
+
+pub not-late : (a b : Bool) → a ≡ not b → a ≡ false → b ≡ true
+not-late a true e f = refl
+not-late a false e f = not-both a e f
+
+pub late-not : (a b : Bool) → a ≡ not b → a ≡ true → b ≡ false
+late-not a false e f = refl
+late-not a true e f = not-both a f e
+
+-- ---- records with their instants
+
+-- a store past the end changes none
+records-kept : (f : Fields) (codes ats : List ℕ) (n i t : ℕ) → n ≤ i → recordsUpTo f codes (set ats i t) n ≡ recordsUpTo f codes ats n
+unfolding recordsUpTo
+records-kept f codes ats zero i t h = refl
+records-kept f codes ats (suc n) i t h = rw (records-kept f codes ats n i t (omega arith), getD-set-other ats i n t 0 (λ e. omega arith))
+
+records-one : (f : Fields) (codes ats : List ℕ) (n t : ℕ) → n < length ats
+    → recordsUpTo f codes (set ats n t) (n + 1) ≡ recordsUpTo f codes ats n ++ (recordIn f (getD codes n 0) t ∷ [])
+unfolding recordsUpTo
+records-one f codes ats n t h = rw (add-one n, records-kept f codes ats n n t (omega arith), getD-set-same ats n t 0 h)
+
+-- ---- what holds before packet i
+
+module _ (s : Settings) (p : PlannerState) (f : Fields) (codes : List ℕ) (l : List Record) where
+  -- the packets before it sent
+  abbrev pub sentTo : ℕ → Draft
+  sentTo i = sentFrom s split p (take i l)
+
+  pub record Going (banks : List BankTrack) (w : Front) (ats : List ℕ) (i : ℕ) : Type 0 where
+    pub channel : channelOf banks (w .l) (w .buffer) ≡ sentTo i .planner .channel
+    pub now-is : w .now ≡ sentTo i .planner .now .0
+    pub range : w .now ≤ horizon
+    pub done : recordsUpTo f codes ats i ≡ sentTo i .records
+    pub early : inTime s (sentTo i .records) ≡ true
+
+  abbrev start : Draft
+  start = record { planner = p; records = [] }
+
+  module _ (at : (i : ℕ) → i < length l → getD l i (packetIn f 0) ≡ packetIn f (getD codes i 0)) where
+    sent-next : (i : ℕ) → i < length l → sentTo (i + 1) ≡ sent s split (packetIn f (getD codes i 0)) (sentTo i)
+    sent-next i h =
+        ap (sentFrom s split p) (rw (add-one i) (take-suc l i (packetIn f 0) h))
+        ∙ all-one s split (take i l) (getD l i (packetIn f 0)) start
+        ∙ ap (λ r. sent s split r (sentTo i)) (at i h)
+
+    -- one packet placed
+    module _ (banks : List BankTrack) (w : Front) (ats : List ℕ) (i : ℕ) (g : Going banks w ats i) (h : i < length l) (size : length banks ≡ 32) (wide : i < length ats)
+        (banks' : List BankTrack) (w' : Front) (u : Turn s (viewIn f (getD codes i 0)) banks w banks' w') where
+      abbrev r : Record
+      r = packetIn f (getD codes i 0)
+
+      abbrev v : View
+      v = viewOf r
+
+      abbrev t : ℕ
+      t = slotIn s (viewIn f (getD codes i 0)) banks w
+
+      slot-is : slotIn s (viewIn f (getD codes i 0)) banks w ≡ slot s split (sentTo i .planner) (packetIn f (getD codes i 0))
+      unfolding slot slotBy
+      slot-is = ap (max (w .now)) (sym (earliest-is s (channelOf banks (w .l) (w .buffer)) (packetIn f (getD codes i 0)) size)) ∙ rw (g .channel, g .now-is)
+
+      in-time : inTime s (sentTo (i + 1) .records) ≡ leb (t + delayOf s v) horizon
+      in-time =
+          ap (λ (d : Draft). inTime s (d .records)) (sent-next i h) ∙ sent-in-time s split (packetIn f (getD codes i 0)) (sentTo i)
+          ∙ rw (g .early, sym slot-is, view-delay s (packetIn f (getD codes i 0)))
+
+      late-is : w' .late ≡ not (leb (t + delayOf s v) horizon)
+      unfolding frontAt
+      late-is = ap (λ (x : Front). x .late) (u .front)
+
+      -- late: then the whole request is
+      pub turn-late : w' .late ≡ true → inTime s (sentFrom s split p l .records) ≡ false
+      turn-late q =
+          ap (λ (y : List Record). inTime s (sentFrom s split p y .records)) (sym (take-append-drop (i + 1) l))
+          ∙ ap (λ (d : Draft). inTime s (d .records)) (all-append s split (take (i + 1) l) (drop (i + 1) l) start)
+          ∙ late-stays s split (drop (i + 1) l) (sentTo (i + 1)) (in-time ∙ late-not (w' .late) (leb (t + delayOf s v) horizon) late-is q)
+
+      module _ (q : w' .late ≡ false) where
+        inside : leb (t + delayOf s v) horizon ≡ true
+        inside = not-late (w' .late) (leb (t + delayOf s v) horizon) late-is q
+
+        fits : t ≤ horizon
+        fits = let m : t + delayOf s v ≤ horizon = leb-true _ _ inside in omega arith
+
+        clipped : clip t ≡ t
+        clipped = rw (le-leb t horizon fits)
+
+        channel-next : channelOf banks' (w' .l) (w' .buffer) ≡ sentTo (i + 1) .planner .channel
+        unfolding frontAt
+        channel-next =
+            let e : stampedAt t v ≡ viewOf (placedAt t r) = sym (view-placed t r) in
+            let a : channelOf (banksNext (stampedAt t v) (heldOf (w .buffer)) banks) (lastsNext (stampedAt t v) (w .l)) (bufferStep (stampedAt t v) (w .buffer))
+            ≡ after split (channelOf banks (w .l) (w .buffer)) (placedAt t r) =
+            rw e (apart-after banks (w .l) (w .buffer) size (placedAt t r))
+            in
+            let b : after split (channelOf banks (w .l) (w .buffer)) (placedAt t r) ≡ sent s split r (sentTo i) .planner .channel =
+            rw (g .channel, slot-is) (sym (sent-channel s split r (sentTo i)))
+            in
+            rw (u .stored, u .front, clipped) (a ∙ b ∙ sym (ap (λ (d : Draft). d .planner .channel) (sent-next i h)))
+
+        now-next : w' .now ≡ t
+        unfolding frontAt
+        now-next = ap (λ (x : Front). x .now) (u .front) ∙ clipped
+
+        pub turn-on : Going banks' w' (set ats i (w' .now)) (i + 1)
+        turn-on =
+            record {
+              channel = channel-next;
+              now-is = now-next ∙ slot-is ∙ sym (ap (λ (d : Draft). d .planner .now .0) (sent-next i h) ∙ sent-now s split r (sentTo i));
+              range = rw now-next fits;
+              done = records-one f codes ats i (w' .now) wide
+                  ∙ rw (g .done, now-next, sym (placed f t (getD codes i 0)), slot-is) (sym (ap (λ (d : Draft). d .records) (sent-next i h) ∙ sent-records s split r (sentTo i)));
+              early = in-time ∙ inside;
+            }
+
+  pub going-start : (banks : List BankTrack) (w : Front) (ats : List ℕ) → channelOf banks (w .l) (w .buffer) ≡ p .channel → w .now ≡ p .now .0 → w .now ≤ horizon → Going banks w ats 0
+  unfolding sentAll inTime recordsUpTo
+  going-start banks w ats e n r = record { channel = e; now-is = n; range = r; done = refl; early = refl }
+
+-- ---- what holds in the loop
+
+-- the packets of a course
+abbrev pub packetsOf : Fields → Course → List Record
+packetsOf f c = map (packetIn f) (take (c .count) (c .codes))
+
+-- in time so far and all as sent, or late
+pub record Under (s : Settings) (p : PlannerState) (f : Fields) (c : Course) (banks : List BankTrack) (w : Front) (ats : List ℕ) (i : ℕ) : Type 0 where
+  pub within : i ≤ c .count
+  pub size : length banks ≡ 32
+  pub wide : length ats ≡ 17
+  pub on : w .late ≡ false → Going s p f (c .codes) (packetsOf f c) banks w ats i
+  pub lost : w .late ≡ true → inTime s (sentFrom s split p (packetsOf f c) .records) ≡ false
+
+-- ---- one packet more
+
+module _ (s : Settings) (p : PlannerState) (f : Fields) (c : Course) (long : length (c .codes) ≡ 17) (most : c .count ≤ 17) where
+  length-packets : length (packetsOf f c) ≡ c .count
+  length-packets = length-map (take (c .count) (c .codes)) (packetIn f) ∙ length-take-le (c .count) (c .codes) (omega arith)
+
+  packet-at : (i : ℕ) → i < length (packetsOf f c) → getD (packetsOf f c) i (packetIn f 0) ≡ packetIn f (getD (c .codes) i 0)
+  packet-at i h = List·getD-map (packetIn f) (take (c .count) (c .codes)) i 0 ∙ ap (packetIn f) (getD-take (c .count) (c .codes) i 0 (rw length-packets at h))
+
+  pub under-turn : (banks : List BankTrack) (w : Front) (ats : List ℕ) (i : ℕ) → Under s p f c banks w ats i → i < c .count → w .late ≡ false
+      → (banks' : List BankTrack) (w' : Front) → Turn s (viewIn f (getD (c .codes) i 0)) banks w banks' w' → Under s p f c banks' w' (set ats i (w' .now)) (i + 1)
+  under-turn banks w ats i u h q banks' w' t =
+      let n : i < length (packetsOf f c) = rw length-packets h in
+      let g = u .on q in
+      record {
+        within = omega arith;
+        size = rw (t .stored) (apart-length _ _ banks (u .size));
+        wide = length-set ats i (w' .now) ∙ u .wide;
+        on = turn-on s p f (c .codes) (packetsOf f c) packet-at banks w ats i g n (u .size) (let m = u .wide in omega arith) banks' w' t;
+        lost = turn-late s p f (c .codes) (packetsOf f c) packet-at banks w ats i g n (u .size) (let m = u .wide in omega arith) banks' w' t;
+      }
+
+pub under-start : (s : Settings) (p : PlannerState) (f : Fields) (c : Course) (w : Front) (ats : List ℕ) → w ≡ frontOf p → length (p .channel .banks) ≡ 32 → length ats ≡ 17
+    → p .now .0 ≤ horizon → Under s p f c (p .channel .banks) w ats 0
+under-start s p f c w ats e size wide n =
+    record {
+      within = omega arith;
+      size = size;
+      wide = wide;
+      on = λ q. going-start s p f (c .codes) (packetsOf f c) (p .channel .banks) w ats (rw e) (rw e) (rw e n);
+      lost = λ q. not-both (w .late) q (rw e);
+    }
