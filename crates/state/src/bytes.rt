@@ -34,7 +34,7 @@ fn bank_in(tag: u32) -> Bank
     Bank::Open(tag - 1)
 }
 
-fn track_in(b: &[u8], x: usize) -> BankTrack
+pub fn track_in(b: &[u8], x: usize) -> BankTrack
     requires { ⌜ 732 ≤ length (now b) ⌝ }
     requires { ⌜ x < 32 ⌝ }
     ensures { λ r. ⌜ r ≡ trackIn (now (b .entry)) x ⌝ }
@@ -60,7 +60,7 @@ fn write_in(b: &[u8]) -> Write
     }
 }
 
-fn buffer_in(b: &[u8]) -> Buffer
+pub fn buffer_in(b: &[u8]) -> Buffer
     requires { ⌜ 732 ≤ length (now b) ⌝ }
     ensures { λ r. ⌜ r ≡ bufferIn (now (b .entry)) ⌝ }
 {
