@@ -13,7 +13,7 @@ use lib.ListN.{length, getD, set}
 use lib.Seq.{getD-set-same, getD-set-other}
 use Rattle.num.specs.Bytes.{bytes, splice}
 use Rattle.num.proofs.ByteLaws.{length-bytes}
-use Rattle.num.proofs.SpliceLaws.{splice-left, splice-right, splice-whole}
+use Rattle.num.proofs.SpliceLaws.{splice-left, splice-right, splice-whole, length-splice}
 use Rattle.rules.specs.declared.BankTrack.{BankTrack}
 use Rattle.rules.specs.declared.Channel.{Channel}
 use Rattle.rules.specs.Rules.{bankCount}
@@ -121,6 +121,21 @@ put-all f0 f1 f2 f3 f4 g r x t l =
       put-4 (with f0 x o) (with f1 x a) (with f2 x p) (with f3 x d) f4 g r x l (t .retire .0),
     )
     (put-5 (with f0 x o) (with f1 x a) (with f2 x p) (with f3 x d) (with f4 x (t .retire .0)) g r x l (bankTag (t .bank)))
+
+pub length-put : (b : List ℕ) (x : ℕ) (t : BankTrack) → 704 ≤ length b → x < 32 → length (trackPut b x t) ≡ length b
+unfolding trackPut
+length-put b x t h l =
+    let b0 = splice b (4 * x) (bytes 4 (t .opened .0)) in
+    let b1 = splice b0 (128 + 4 * x) (bytes 4 (t .act .0)) in
+    let b2 = splice b1 (256 + 4 * x) (bytes 4 (t .pre .0)) in
+    let b3 = splice b2 (384 + 4 * x) (bytes 4 (t .rd .0)) in
+    let b4 = splice b3 (512 + 4 * x) (bytes 4 (t .retire .0)) in
+    let e0 : length b0 ≡ length b = length-splice b (4 * x) (bytes 4 (t .opened .0)) (rw length-bytes (omega arith)) in
+    let e1 : length b1 ≡ length b0 = length-splice b0 (128 + 4 * x) (bytes 4 (t .act .0)) (rw length-bytes (omega arith)) in
+    let e2 : length b2 ≡ length b1 = length-splice b1 (256 + 4 * x) (bytes 4 (t .pre .0)) (rw length-bytes (omega arith)) in
+    let e3 : length b3 ≡ length b2 = length-splice b2 (384 + 4 * x) (bytes 4 (t .rd .0)) (rw length-bytes (omega arith)) in
+    let e4 : length b4 ≡ length b3 = length-splice b3 (512 + 4 * x) (bytes 4 (t .retire .0)) (rw length-bytes (omega arith)) in
+    length-splice b4 (640 + 2 * x) (bytes 2 (bankTag (t .bank))) (rw length-bytes (omega arith)) ∙ e4 ∙ e3 ∙ e2 ∙ e1 ∙ e0
 
 -- ---- the state
 
