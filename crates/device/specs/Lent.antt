@@ -25,7 +25,7 @@ bankedBy v h m =
     let ch = m .channel in
     record {
       channel =
-      record { banks = banksNext v h (ch .banks); last = ch .last; row = ch .row; col = ch .col; pre = ch .pre; rd = ch .rd; buffer = ch .buffer };
+          record { banks = banksNext v h (ch .banks); last = ch .last; row = ch .row; col = ch .col; pre = ch .pre; rd = ch .rd; buffer = ch .buffer };
       refr = m .refr;
       bytes = m .bytes;
     }

@@ -224,7 +224,13 @@ fn take_in(s: Settings, model: &mut [u8], store: &mut [u8], r: Record, room: &mu
 
 // A model call on the bytes of a model: one record, the store and a buffer for the answer. Refusals in their order: 9, 13, 10,
 // 11, 8.
-pub fn step(s: Settings, model: &mut [u8], store: &mut [u8], given: &[u8], room: &mut [u8]) -> Stepped
+pub fn step(
+    s: Settings,
+    model: &mut [u8],
+    store: &mut [u8],
+    given: &[u8],
+    room: &mut [u8],
+) -> Stepped
     requires { ⌜ valid s ≡ true ⌝ }
     requires { ⌜ modelRight s split (now model) ≡ true ⌝ }
     ensures { λ a. ⌜ a ≡ stepAnswer s split (modelIn (now (model .entry))) (length (now (store .entry))) (now (given .entry)) (length (now (room .entry))) ⌝ }
