@@ -1,2 +1,3 @@
 pub mod PlanCalls
 pub mod ModelCall
+pub mod PlanTests

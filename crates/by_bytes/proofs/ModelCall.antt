@@ -9,7 +9,6 @@ use lib.ListN.{length}
 use Rattle.num.specs.Bytes.{number, part, Bytes}
 use Rattle.settings.specs.declared.Settings.{Settings}
 use Rattle.rules.specs.Neighbour.{split}
-use Rattle.rules.proofs.Bools.{and-right}
 use Rattle.state.specs.ChannelBytes.{bufferRight}
 use Rattle.model.specs.declared.ModelState.{ModelState}
 use Rattle.model.specs.Model.{modelValid}
@@ -31,11 +30,7 @@ module _ (s : Settings) (b : List ℕ) where
   tested e m r n en x y q t ex ey eq et = rw e (sym (rw (eq, ex, ey, r, en) at et))
 
 module _ (s : Settings) (b : List ℕ) (r : modelRight s split b ≡ true) where
-  pub right-valid : modelValid s split (modelIn b) ≡ true
-  unfolding modelRight
-  right-valid = and-right (bufferRight b) _ (and-right (eqb (number (part b 734 2)) 0) _ (and-right (eqb (length b) 752) _ r))
-
-  -- a call that is refused puts back the bytes that it read
+  -- a call that is refused leaves the bytes that it read
   pub model-left : Bytes b → (stored : ℕ) (given : List ℕ) (room : ℕ)
       → modelBytes (stepModel s split (modelIn b) stored given room) ≡ modelAfterBy s b stored given room
   unfolding modelAfterBy stepModel

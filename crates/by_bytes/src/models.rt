@@ -6,7 +6,6 @@ ghost use Rattle.settings.specs.declared.SettingsRead.the-variants.{Accepted};
 ghost use Rattle.settings.specs.Settings.{valid};
 ghost use Rattle.by_bytes.specs.Models.{steppedAnswer, stepUnder, modelUnder, storeUnder, answerUnder};
 use crate::StepAnswer;
-use device::Model;
 use model::Stepped;
 use record::Refusal;
 use settings::Settings;
@@ -45,7 +44,7 @@ pub fn step_answer(a: Stepped) -> StepAnswer
     }
 }
 
-// A model call under settings that are accepted. The state of a refused call is the one that was given, and its bytes the same.
+// A model call under settings that are accepted. A refused call leaves the bytes of the model.
 pub fn step_by(
     s: Settings,
     model: &mut [u8],
@@ -60,17 +59,12 @@ pub fn step_by(
     if long != 752 {
         return step_answer(Stepped::Refused(Refusal::Settings));
     }
-    let m = Model::read(model);
     let zeros = num::u16_at(model, 734) == 0;
     let formed = state::bytes::buffer_right(model);
-    let allowed = m.valid(s);
+    let allowed = device::lent::allowed(s, model);
     let right = num::both(zeros, num::both(formed, allowed));
     if !right {
         return step_answer(Stepped::Refused(Refusal::Settings));
     }
-    let done = m.step(s, store, given, room);
-    let answer = done.answer;
-    let next = done.model;
-    next.put(model);
-    step_answer(answer)
+    step_answer(device::lent::step(s, model, store, given, room))
 }

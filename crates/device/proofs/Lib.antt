@@ -1,3 +1,4 @@
-pub mod TakeLaws
-pub mod CallLaws
 pub mod BytesLaws
+pub mod CallLaws
+pub mod LentLaws
+pub mod TakeLaws

@@ -37,7 +37,7 @@ fn refr_by(s: Settings, p: RowPacket, refr: u32) -> u32
 }
 
 // REFR after a record.
-fn refr_next(s: Settings, r: Record, refr: u32) -> u32
+pub(crate) fn refr_next(s: Settings, r: Record, refr: u32) -> u32
     requires { ⌜ refr < s .rows ⌝ }
     ensures { λ n. ⌜ n ≡ refrNext s r refr ⌝ }
 {
@@ -49,7 +49,7 @@ fn refr_next(s: Settings, r: Record, refr: u32) -> u32
 }
 
 // The data of the waiting write after a record.
-fn bytes_next(r: Record, before: Dualoct) -> Dualoct
+pub(crate) fn bytes_next(r: Record, before: Dualoct) -> Dualoct
     ensures { λ d. ⌜ d ≡ bytesNext r before ⌝ }
 {
     match r {

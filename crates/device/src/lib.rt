@@ -1,6 +1,7 @@
 // The device model: one record a call, with the store and a buffer for the answer lent.
 pub mod after;
 pub mod bytes;
+pub mod lent;
 
 ghost use mathlib.Core.Path.{_≡_};
 ghost use mathlib.Core.Bool.{true};
@@ -38,7 +39,7 @@ pub struct ModelStep {
 }
 
 // Whether an answer is no refusal.
-fn is_taken(a: Stepped) -> bool
+pub(crate) fn is_taken(a: Stepped) -> bool
     ensures { λ r. ⌜ r ≡ isTaken a ⌝ }
 {
     match a {

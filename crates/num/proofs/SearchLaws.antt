@@ -16,6 +16,11 @@ pub all-turn : (f : ℕ → Bool) (n : ℕ) {x : Bool} → true ≡ allUpTo f n 
 unfolding allUpTo
 all-turn f n ha hx hr = rw add-one (ap₂ _&&_ ha (hr ∙ hx))
 
+-- and with no test of what was found so far
+pub all-next : (f : ℕ → Bool) (n : ℕ) → allUpTo f (n + 1) ≡ (allUpTo f n && f n)
+unfolding allUpTo
+all-next f n = rw add-one
+
 pub all-at : (f : ℕ → Bool) (n k : ℕ) → allUpTo f n ≡ true → k < n → f k ≡ true
 unfolding allUpTo
 all-at f zero k e h = absurd (omega arith)

@@ -24,7 +24,7 @@ use Rattle.state.specs.Planes.{figure, figures, fivePlanes, tags, lastsO
 -- ---- one plane
 
 -- one number more
-grow : (w n : ℕ) → w * suc n ≡ w * n + w
+pub grow : (w n : ℕ) → w * suc n ≡ w * n + w
 grow w n = omega arith
 
 pub length-plane : (w : ℕ) (f : ℕ → ℕ) (n : ℕ) → length (plane w f n) ≡ w * n

@@ -36,7 +36,7 @@ use Rattle.state.proofs.PlaneLaws.{length-plane, plane-at, plane-part, 
 
 -- ---- lengths
 
-length-buffer : (b : Buffer) → length (bufferBytes b) ≡ 8
+pub length-buffer : (b : Buffer) → length (bufferBytes b) ≡ 8
 unfolding bufferBytes writeBytes
 length-buffer Empty = length-zeros 8
 length-buffer (Waiting w) = simp (length-append, length-bytes)

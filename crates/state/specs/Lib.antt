@@ -1,2 +1,3 @@
 pub mod ChannelBytes
 pub mod Planes
+pub mod Tested

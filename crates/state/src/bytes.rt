@@ -4,7 +4,7 @@ ghost use Prim.Native.Nat.{_+_, _*_, _<_, _≤_};
 ghost use lib.ListN.{length};
 ghost use Rattle.num.specs.Bytes.{bytes, splice};
 ghost use Rattle.state.specs.ChannelBytes.{bankTag, plane, writeBytes, bufferBytes, channelBytes, bankIn, atIn, trackIn, writeIn, bufferIn, channelIn, bufferRight};
-ghost use Rattle.state.specs.Planes.{figure, figures, fivePlanes, tags, lastsOf};
+ghost use Rattle.state.specs.Planes.{figure, figures, fivePlanes, tags, lastsOf, trackPut};
 use rules::Bank;
 use rules::BankTrack;
 use rules::Buffer;
@@ -34,7 +34,7 @@ fn bank_in(tag: u32) -> Bank
     Bank::Open(tag - 1)
 }
 
-fn track_in(b: &[u8], x: usize) -> BankTrack
+pub fn track_in(b: &[u8], x: usize) -> BankTrack
     requires { ⌜ 732 ≤ length (now b) ⌝ }
     requires { ⌜ x < 32 ⌝ }
     ensures { λ r. ⌜ r ≡ trackIn (now (b .entry)) x ⌝ }
@@ -60,7 +60,7 @@ fn write_in(b: &[u8]) -> Write
     }
 }
 
-fn buffer_in(b: &[u8]) -> Buffer
+pub fn buffer_in(b: &[u8]) -> Buffer
     requires { ⌜ 732 ≤ length (now b) ⌝ }
     ensures { λ r. ⌜ r ≡ bufferIn (now (b .entry)) ⌝ }
 {
@@ -191,6 +191,21 @@ fn put_tags(out: &mut [u8], ch: Channel)
     }
 }
 
+// One bank's numbers, in each plane.
+pub fn put_track(out: &mut [u8], x: usize, t: BankTrack)
+    requires { ⌜ 732 ≤ length (now out) ⌝ }
+    requires { ⌜ x < 32 ⌝ }
+    ensures { λ _. ⌜ now (out .exit) ≡ trackPut (now (out .entry)) x t ⌝ }
+{
+    let tag = bank_tag(t);
+    put_at(out, 4 * x, t.opened);
+    put_at(out, 128 + 4 * x, t.act);
+    put_at(out, 256 + 4 * x, t.pre);
+    put_at(out, 384 + 4 * x, t.rd);
+    put_at(out, 512 + 4 * x, t.retire);
+    num::put_u16(out, 640 + 2 * x, tag);
+}
+
 fn put_write(out: &mut [u8], kind: u64, w: Write)
     requires { ⌜ 732 ≤ length (now out) ⌝ }
     ensures { λ _. ⌜ now (out .exit) ≡ splice (now (out .entry)) 724 (writeBytes kind w) ⌝ }
@@ -202,7 +217,7 @@ fn put_write(out: &mut [u8], kind: u64, w: Write)
     put_at(out, 728, w.at);
 }
 
-fn put_buffer(out: &mut [u8], b: Buffer)
+pub fn put_buffer(out: &mut [u8], b: Buffer)
     requires { ⌜ 732 ≤ length (now out) ⌝ }
     ensures { λ _. ⌜ now (out .exit) ≡ splice (now (out .entry)) 724 (bufferBytes b) ⌝ }
 {
@@ -213,7 +228,7 @@ fn put_buffer(out: &mut [u8], b: Buffer)
     }
 }
 
-fn put_lasts(
+pub fn put_lasts(
     out: &mut [u8],
     last: PacketAt,
     row: PacketAt,

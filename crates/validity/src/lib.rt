@@ -57,7 +57,7 @@ fn write_valid(s: Settings, w: Write) -> bool
 }
 
 // The index of the bank of a waiting write.
-fn write_slot(b: Buffer) -> usize
+pub fn write_slot(b: Buffer) -> usize
     ensures { λ r. ⌜ (r ≡ writeSlot b) × (r < 32) ⌝ }
 {
     match b {
@@ -68,7 +68,7 @@ fn write_slot(b: Buffer) -> usize
 }
 
 // Whether a waiting write has its fields in range and its bank, which has this track, open by ACT.
-fn held_right(s: Settings, b: Buffer, t: BankTrack) -> bool
+pub fn held_right(s: Settings, b: Buffer, t: BankTrack) -> bool
     ensures { λ r. ⌜ r ≡ heldRight s b (t .bank) ⌝ }
 {
     match b {

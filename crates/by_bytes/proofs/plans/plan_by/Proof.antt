@@ -1,9 +1,9 @@
 -- `plan_by` meets its contract: 1 for bytes of another length or of no state, then what the plan call answers.
-use mathlib.Core.Path.{sym, ap, _∙_}
+use mathlib.Core.Path.{refl, sym, ap, _∙_}
 use native.Mathlib.Omega.{arith}
 use borrow.Author.Tests.{eq-eqb, ne-eqb, not-true, not-false}
 use Rattle.rules.proofs.Bools.{and-right}
-use Rattle.plan.specs.PlannerBytes.{plannerBytes}
+use Rattle.plan.specs.PlannerBytes.{plannerBytes, plannerIn}
 use Rattle.by_bytes.specs.Plans.{planAnswer}
 use Rattle.by_bytes.proofs.PlanCalls.{other-length, tested, turned-back, served}
 use borrow.Author.Needs.{needs}
@@ -18,14 +18,11 @@ returns c =
     let z = c .before .before .before .before .before .args in
     turned-back (z .s) (z .planner .now) (z .request .now) (z .room .now) (other-length (z .s) (z .planner .now) (ne-eqb _ 740 (c .before .if1 .taken))) _ (c .plan-answer .ensures)
 
-read-requires : tie.Need-read-requires
-read-requires c κs = search needs
-
 buffer-right-requires : tie.Need-buffer-right-requires
 buffer-right-requires c κs = search needs
 
-valid-requires : tie.Need-valid-requires
-valid-requires c κs = search needs
+allowed-requires : tie.Need-allowed-requires
+allowed-requires c κs = search needs
 
 both-requires : tie.Need-both-requires
 both-requires c κs = search needs
@@ -38,15 +35,16 @@ same-length c = search needs
 
 returns-2 : tie.Need-returns-2
 returns-2 c =
-    let d = c .before .before .before .before .before .before in
-    let z = d .before .before .before .before .before .before .args in
-    let e = tested (z .s) (z .planner .now) (eq-eqb _ 740 (d .before .before .if1 .left)) _ (d .read .ensures) _ _ _ (c .before .before .before .before .buffer-right .ensures) (c .before .before .before .valid .ensures) (c .before .before .both .ensures) in
+    let z = c .before .before .before .before .before .before .before .before .before .before .before .args in
+    let e = tested (z .s) (z .planner .now) (eq-eqb _ 740 (c .before .before .before .before .before .before .before .if1 .left)) (plannerIn (z .planner .now)) refl _ _ _ (c .before .before .before .before .before .buffer-right .ensures) (c .before .before .before .allowed .ensures) (c .before .before .both .ensures) in
     turned-back (z .s) (z .planner .now) (z .request .now) (z .room .now) (e ∙ not-true _ (c .before .if2 .taken)) _ (c .plan-answer2 .ensures)
+
+read-requires : tie.Need-read-requires
+read-requires c κs = search needs
 
 plan-requires : tie.Need-plan-requires
 plan-requires c κs =
-    let d = c .before .before in
-    (d .before .before .before .before .before .before .before .before .before .before .pre, sym (d .before .valid .ensures) ∙ and-right (d .before .before .buffer-right .result) _ (sym (d .both .ensures) ∙ not-false _ (c .before .if2 .left)))
+    (c .before .before .before .before .before .before .before .before .before .before .before .before .before .pre, rw (c .before .read .ensures) (sym (c .before .before .before .before .before .allowed .ensures) ∙ and-right (c .before .before .before .before .before .before .before .buffer-right .result) _ (sym (c .before .before .before .before .both .ensures) ∙ not-false _ (c .before .before .before .if2 .left))))
 
 put-requires : tie.Need-put-requires
 put-requires c κs = search needs
@@ -62,12 +60,10 @@ same-length-3 c = search needs
 
 returns-3 : tie.Need-returns-3
 returns-3 c =
-    let d = c .before .before .before .before .before .before .before .before .before .before in
-    let f = d .before .before .before .before .before in
-    let z = f .before .before .before .before .before .before .args in
-    let e = tested (z .s) (z .planner .now) (eq-eqb _ 740 (f .before .before .if1 .left)) _ (f .read .ensures) _ _ _ (d .before .before .before .buffer-right .ensures) (d .before .before .valid .ensures) (d .before .both .ensures) in
-    let k = rw (f .read .ensures) at (c .before .before .before .before .before .before .before .before .plan .ensures) in
-    served (z .s) (z .planner .now) (z .request .now) (z .room .now) (λ i l. omega (arith, f .before .before .before .before .before .slice-known .given i)) (e ∙ not-false _ (d .if2 .left)) _ _ _
+    let z = c .before .before .before .before .before .before .before .before .before .before .before .before .before .before .before .before .before .before .before .before .before .before .args in
+    let e = tested (z .s) (z .planner .now) (eq-eqb _ 740 (c .before .before .before .before .before .before .before .before .before .before .before .before .before .before .before .before .before .before .if1 .left)) (plannerIn (z .planner .now)) refl _ _ _ (c .before .before .before .before .before .before .before .before .before .before .before .before .before .before .before .before .buffer-right .ensures) (c .before .before .before .before .before .before .before .before .before .before .before .before .before .before .allowed .ensures) (c .before .before .before .before .before .before .before .before .before .before .before .before .before .both .ensures) in
+    let k = rw (c .before .before .before .before .before .before .before .before .before .before .read .ensures) at (c .before .before .before .before .before .before .before .before .plan .ensures) in
+    served (z .s) (z .planner .now) (z .request .now) (z .room .now) (λ i l. omega (arith, c .before .before .before .before .before .before .before .before .before .before .before .before .before .before .before .before .before .before .before .before .before .slice-known .given i)) (e ∙ not-false _ (c .before .before .before .before .before .before .before .before .before .before .before .before .if2 .left)) _ _ _
     (c .plan-answer3 .ensures ∙ ap planAnswer (k .0)) (c .before .before .before .put .ensures ∙ ap plannerBytes (k .1 .0)) (k .1 .1)
 
 pub plan-by-spec : {M : Type 1} → statement M
@@ -76,13 +72,13 @@ plan-by-spec =
     (tie.spec
     plan-answer-requires
     returns
-    read-requires
     buffer-right-requires
-    valid-requires
+    allowed-requires
     both-requires
     plan-answer-requires-2
     same-length
     returns-2
+    read-requires
     plan-requires
     put-requires
     plan-answer-requires-3
