@@ -169,10 +169,10 @@ fn put_rest(b: &mut [u8], l: Lasts, buffer: Buffer, refr: u32, d: Dualoct)
     let rd = PacketAt(l.rd);
     state::bytes::put_lasts(b, last, row, col, pre, rd);
     state::bytes::put_buffer(b, buffer);
-    num::put_u16(b, 732, num::wide32(refr));
-    num::put_u16(b, 734, 0);
-    num::put_u64(b, 736, d.dqa);
-    num::put_u64(b, 744, d.dqb);
+    puts::put_u16(b, 732, num::wide32(refr));
+    puts::put_u16(b, 734, 0);
+    puts::put_u64(b, 736, d.dqa);
+    puts::put_u64(b, 744, d.dqb);
 }
 
 // The model after a record.
@@ -244,7 +244,7 @@ pub fn step(
     if given.len() != 32 {
         return Stepped::Refused(Refusal::Length);
     }
-    match record::records::read_record(s, given, 0) {
+    match record_bytes::read_record(s, given, 0) {
         RecordRead::NoRecord => Stepped::Refused(Refusal::Word(0)),
         RecordRead::Known(r) => take_in(s, model, store, r, room),
     }

@@ -203,7 +203,7 @@ pub fn put_track(out: &mut [u8], x: usize, t: BankTrack)
     put_at(out, 256 + 4 * x, t.pre);
     put_at(out, 384 + 4 * x, t.rd);
     put_at(out, 512 + 4 * x, t.retire);
-    num::put_u16(out, 640 + 2 * x, tag);
+    puts::put_u16(out, 640 + 2 * x, tag);
 }
 
 fn put_write(out: &mut [u8], kind: u64, w: Write)
