@@ -58,7 +58,7 @@ fn reach_of(s: Settings, q: Request) -> u32
         Request::Read(_) => 0,
         Request::Write(_, _, _) => s.cwd,
         Request::Refresh => 0,
-        Request::Wait(cycles) => cycles,
+        Request::Wait(n) => n,
         Request::Drain => 0,
     }
 }
