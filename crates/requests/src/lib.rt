@@ -37,15 +37,11 @@ fn spare_right(b: &[u8]) -> bool
     ensures { λ r. ⌜ r ≡ spareRight (now (b .entry)) ⌝ }
 {
     let kind = num::wide(b[0]);
-    let mut i = 0;
-    while i < 24 {
-        if num::either(uses_byte(kind, i), b[i] == 0) {
-            i += 1;
-        } else {
-            return false;
-        }
+    let mut right = true;
+    for i in 0..24 {
+        right = num::both(right, num::either(uses_byte(kind, i), b[i] == 0));
     }
-    true
+    right
 }
 
 // The bank, row and column of a request.

@@ -13,6 +13,7 @@ use Rattle.rules.specs.Neighbour.{split}
 use Rattle.plan.specs.declared.PlannerState.{PlannerState}
 use Rattle.plan.specs.declared.Outcome.{Outcome}
 use Rattle.plan.specs.declared.Outcome.the-variants.{Refused, Made}
+use Rattle.plan.specs.Planner.{freshPlanner}
 use Rattle.plan.specs.PlannerBytes.{plannerIn, plannerRight}
 use Rattle.plan.specs.Call.{planNext, planRecords, planRoom}
 
@@ -64,3 +65,18 @@ streamRecords settings planner requests room = recordsUnder (settingsRead settin
 
 unfoldable pub streamRoom : List ℕ → List ℕ → List ℕ → List ℕ → List ℕ
 streamRoom settings planner requests room = roomUnder (settingsRead settings) planner requests room
+
+-- the same of a fresh planner
+unfoldable pub freshRecords : SettingsRead → List ℕ → ℕ → ℕ
+freshRecords RefusedSettings requests room = 0
+freshRecords (Accepted s) requests room = recordsUpTo s freshPlanner requests room (length requests / 24)
+
+unfoldable pub freshRoom : SettingsRead → List ℕ → List ℕ → List ℕ
+freshRoom RefusedSettings requests room = room
+freshRoom (Accepted s) requests room = roomUpTo s freshPlanner requests room (length requests / 24)
+
+unfoldable pub streamFresh : List ℕ → List ℕ → List ℕ → ℕ
+streamFresh settings requests room = freshRecords (settingsRead settings) requests (length room)
+
+unfoldable pub streamFreshRoom : List ℕ → List ℕ → List ℕ → List ℕ
+streamFreshRoom settings requests room = freshRoom (settingsRead settings) requests room

@@ -6,7 +6,7 @@ ghost use lib.ListN.{length};
 ghost use Rattle.settings.specs.Settings.{valid};
 ghost use Rattle.rules.specs.Neighbour.{split};
 ghost use Rattle.plan.specs.Planner.{plannerValid};
-ghost use Rattle.stream.specs.Stream.{countOf, recordsUpTo, roomUpTo, recordsBy, roomBy, streamRecords, streamRoom};
+ghost use Rattle.stream.specs.Stream.{countOf, recordsUpTo, roomUpTo, recordsBy, roomBy, streamRecords, streamRoom, streamFresh, streamFreshRoom};
 use plan::Outcome;
 use planner::Planner;
 use settings::Settings;
@@ -64,7 +64,7 @@ fn stream_by(s: Settings, planner: &[u8], requests: &[u8], room: &mut [u8]) -> u
     plan_stream(p, s, requests, room)
 }
 
-// The same for a host: 0 where the settings are refused. The planner comes as bytes, so that the compiler does not know its fields.
+// The same for a host: 0 where the settings are refused.
 #[no_mangle]
 pub extern "C" fn rdram_bench_plan(
     settings: &[u8],
@@ -77,5 +77,16 @@ pub extern "C" fn rdram_bench_plan(
     match settings::read::read_settings(settings) {
         SettingsRead::Refused => 0,
         SettingsRead::Accepted(s) => stream_by(s, planner, requests, room),
+    }
+}
+
+// The same of a fresh planner. With two callers `plan_stream` stays a function of its own, which copies the state whole.
+#[no_mangle]
+pub extern "C" fn rdram_bench_fresh(settings: &[u8], requests: &[u8], room: &mut [u8]) -> u64
+    ensures { λ r. ⌜ (r ≡ streamFresh (now (settings .entry)) (now (requests .entry)) (now (room .entry))) × (now (room .exit) ≡ streamFreshRoom (now (settings .entry)) (now (requests .entry)) (now (room .entry))) ⌝ }
+{
+    match settings::read::read_settings(settings) {
+        SettingsRead::Refused => 0,
+        SettingsRead::Accepted(s) => plan_stream(Planner::fresh(), s, requests, room),
     }
 }

@@ -1,4 +1,4 @@
--- `spare_right` meets its contract: each byte passed so far is used or zero.
+-- `spare_right` meets its contract: whether each byte passed so far is used or zero.
 use mathlib.Core.Path.{_≡_, refl, _∙_, sym}
 use mathlib.Core.List.{List}
 use mathlib.Core.Bool.{Bool, true, _||_}
@@ -7,7 +7,7 @@ use native.Mathlib.Omega.{arith}
 use lib.Dec.{eqb}
 use lib.ListN.{getD}
 use Rattle.num.specs.Search.{allUpTo}
-use Rattle.num.proofs.SearchLaws.{all-turn, all-false}
+use Rattle.num.proofs.SearchLaws.{all-next}
 use Rattle.record.specs.Request.{kindOf, usesByte, spareRight}
 use borrow.Author.Needs.{needs}
 use Rattle.requests.proofs.spare_right.Statement.{statement}
@@ -18,15 +18,10 @@ abbrev test : List ℕ → ℕ → Bool
 test b k = usesByte (kindOf b) k || eqb (getD b k 0) 0
 
 abbrev Inv-loop : tie.InvT-loop
-Inv-loop b kind i₀ i = (i ≤ 24) × (true ≡ allUpTo (test b) i)
+Inv-loop b kind right₀ i₀ right i = (i ≤ 24) × (right ≡ allUpTo (test b) i)
 
 abbrev μ-loop : tie.MeasureT-loop
-μ-loop b kind i₀ i = 24 - i
-
--- what the two calls of a turn answer is that test
-tested : (c : tie.After-either Inv-loop μ-loop)
-    → c .either .result ≡ test (c .before .before .before .before .before .before .before .before .args .b .now) (c .before .before .before .before .loop .i)
-tested c = c .either .ensures ∙ rw (c .before .before .uses-byte .ensures, c .before .before .before .before .before .wide .ensures .0)
+μ-loop b kind right₀ i₀ right i = 24 - i
 
 shared-slice-read-wide : tie.Need-shared-slice-read-wide Inv-loop μ-loop
 shared-slice-read-wide c = search needs
@@ -47,6 +42,9 @@ shared-slice-read-either c = search needs
 either-requires : tie.Need-either-requires Inv-loop μ-loop
 either-requires c κs = search needs
 
+both-requires : tie.Need-both-requires Inv-loop μ-loop
+both-requires c κs = search needs
+
 add-i : tie.Need-add-i Inv-loop μ-loop
 add-i c = search needs
 
@@ -54,15 +52,16 @@ loop-less : tie.Need-loop-less Inv-loop μ-loop
 loop-less c = search needs
 
 loop-again : tie.Need-loop-again Inv-loop μ-loop
-loop-again c = (search needs, all-turn _ _ (c .before .before .before .before .before .loop .inv .1) (tested (c .before)) (sym (c .if1 .taken)))
+loop-again c = (
+  search needs,
+  c .both .ensures
+      ∙ rw (c .before .before .before .before .before .loop .inv .1, c .before .either .ensures, c .before .before .before .uses-byte .ensures, c .before .before .before .before .before .before .wide .ensures .0)
+      (sym (all-next (test (c .before .before .before .before .before .before .before .before .before .args .b .now)) (c .before .before .before .before .before .loop .i))),
+)
 
 returns : tie.Need-returns Inv-loop μ-loop
 unfolding spareRight
-returns c = sym (all-false _ 24 _ (c .before .before .before .before .loop-test .taken) (sym (tested (c .before)) ∙ c .if1 .left))
-
-returns-2 : tie.Need-returns-2 Inv-loop μ-loop
-unfolding spareRight
-returns-2 c = let e : c .before .loop .i ≡ 24 = omega arith in rw e at (c .before .loop .inv .1)
+returns c = let e : c .before .loop .i ≡ 24 = omega arith in rw e at (c .before .loop .inv .1)
 
 pub spare-right-spec : {M : Type 1} → statement M
 spare-right-spec =
@@ -76,8 +75,8 @@ spare-right-spec =
     uses-byte-requires
     shared-slice-read-either
     either-requires
+    both-requires
     add-i
     loop-less
     loop-again
-    returns
-    returns-2)
+    returns)
