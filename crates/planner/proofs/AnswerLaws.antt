@@ -3,6 +3,7 @@
 use Prim.Native.Nat.{ℕ, zero, suc, _+_, _*_, _/_, _≤_, _<_, _^_}
 use mathlib.Core.Path.{_≡_, refl, sym, ap, _∙_}
 use mathlib.Core.Bool.{Bool, true, false, not, _||_, cond}
+use lib.Dec.{leb}
 use mathlib.Core.List.{List, [], _∷_, _++_, append-nil, append-assoc}
 use lib.ListN.{length, length-append, getD}
 use borrow.Author.Tests.{leb-true, ltb-true, ltb-false, le-leb, lt-leb}
@@ -19,13 +20,17 @@ use Rattle.settings.proofs.SettingsLaws.{bounds}
 use Rattle.record.specs.declared.Record.{Record}
 use Rattle.record.specs.declared.Record.the-variants.{RowAt, ColAt, DataOf}
 use Rattle.record.specs.declared.Request.{Request}
-use Rattle.record.specs.declared.Request.the-variants.{Wait}
+use Rattle.record.specs.declared.Request.the-variants.{Wait, Write as WriteTo}
+use Rattle.record.specs.declared.Place.{Place}
+use Rattle.record.specs.declared.Dualoct.{Dualoct}
 use Rattle.record.specs.declared.RequestRead.{RequestRead}
 use Rattle.record.specs.declared.RequestRead.the-variants.{Refused as RefusedRequest, Accepted}
 use Rattle.record.specs.Record.{recordFields, recordBytes}
 use Rattle.record.specs.Request.{requestRead}
 use Rattle.rules.specs.Neighbour.{split}
-use Rattle.rules.proofs.Bools.{not-both, and-right, neither}
+use Rattle.rules.specs.Packets.{instant}
+use Rattle.rules.specs.Rules.{dataDelay}
+use Rattle.rules.proofs.Bools.{not-both, and-left, and-right, neither}
 use Rattle.plan.specs.declared.PlannerState.{PlannerState}
 use Rattle.plan.specs.Plan.{plannedWait, stepsOf, planned}
 use Rattle.plan.specs.Call.{listBytes, inTime, timely, outcomeOf, outcomeBy, planOutcome, isMade, draftBy, planNext, planRecords, planRoom}
@@ -60,6 +65,17 @@ list-join s (r ∷ l) m = ap (λ (b : List ℕ). recordBytes s r ++ b) (list-joi
 list-one : (s : Settings) (r : Record) → recordBytes s r ≡ listBytes s (r ∷ [])
 unfolding listBytes
 list-one s r = sym (append-nil (recordBytes s r))
+
+-- ---- records in time
+
+in-time-last : (s : Settings) (l m : List Record) → inTime s (l ++ m) ≡ true → inTime s m ≡ true
+unfolding inTime
+in-time-last s [] m h = h
+in-time-last s (r ∷ l) m h = in-time-last s l m (and-right (leb (instant r + dataDelay s r) horizon) (inTime s (l ++ m)) h)
+
+pub data-time : (s : Settings) (at : Place) (mask : ℕ) (b : Dualoct) (t : ℕ) → inTime s (dataOf s (WriteTo at mask b) t) ≡ true → t + s .cwd ≤ horizon
+unfolding inTime dataOf instant dataDelay
+data-time s at mask b t h = omega (arith, leb-true (t + s .cwd + 0) horizon (and-left (leb (t + s .cwd + 0) horizon) true h))
 
 -- ---- packets in the lent buffer
 
@@ -125,14 +141,13 @@ module _ (s : Settings) (p : PlannerState) (q : Request) (free : ℕ) (d : Drawn
       let n = neither (d .late) (d .full) e in
       omega (arith, h .count (n .0), ltb-false free (length (planned s split q p .records)) (sym (h .full (n .0)) ∙ n .1))
 
-  pub data-fits : valid s ≡ true → d .late || d .full ≡ false → d .state .now .0 + s .cwd < 2 ^ 32
+  -- where a call is neither late nor full, its data come no later than the last instant
+  pub data-timely : d .late || d .full ≡ false → inTime s (dataOf s q (d .state .now .0)) ≡ true
   unfolding timely
-  data-fits v e =
+  data-timely e =
       let n = neither (d .late) (d .full) e in
-      let t : d .state ≡ planned s split q p .planner = rw e at (h .state) in
-      let b = bounds s v in
-      let m = leb-true (planned s split q p .planner .now .0) horizon (and-right (inTime s (planned s split q p .records)) _ (in-time (n .0))) in
-      omega (arith, ap (λ (z : PlannerState). z .now .0) t, m, b .cwd-cac, b .cac-most)
+      let m = and-left (inTime s (planned s split q p .records)) _ (in-time (n .0)) in
+      in-time-last s (recordsUpTo (d .fields) (d .course .codes) (d .ats) (d .course .count)) (dataOf s q (d .state .now .0)) (ap (inTime s) (h .records (n .0) (n .1)) ∙ m)
 
   served-is : (room : ℕ) → free ≡ room / 32 → (a b : Bool) → d .late ≡ a → d .full ≡ b → servedAnswer q a b (d .course .count) ≡ outcomeOf s (planned s split q p) room
   unfolding outcomeOf

@@ -60,7 +60,7 @@ impl Planner {
             let f = d.fields;
             let ats = d.ats;
             records::put_packets(s, room, c, f, ats);
-            records::put_data(s, room, c.count, read, next.now.0);
+            records::put_data(s, room, c.count, read, next.now);
         }
         Planned {
             planner: Planner { state: next },

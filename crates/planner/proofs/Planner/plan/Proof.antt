@@ -6,7 +6,7 @@ use native.Mathlib.Omega.{arith}
 use lib.ListN.{length}
 use borrow.Author.Tests.{not-true, not-false}
 use Rattle.settings.proofs.SettingsLaws.{bounds}
-use Rattle.planner.proofs.AnswerLaws.{room-for, data-fits, outcome-is, next-is, room-kept, room-put}
+use Rattle.planner.proofs.AnswerLaws.{room-for, data-timely, outcome-is, next-is, room-kept, room-put}
 use borrow.Author.Needs.{needs}
 use Rattle.planner.proofs.Planner.plan.Statement.{statement}
 use Rattle.planner.proofs.Planner.plan.Tie as tie
@@ -31,7 +31,7 @@ put-data-requires c κs =
     let z = d .before .before .before .before .before .before .before in
     let h = d .before .before .before .place .ensures .1 in
     let e = sym (d .either .ensures) ∙ not-true _ (c .before .before .before .before .before .before .before .if1 .taken) in
-    (omega (arith, room-for _ _ _ _ _ h e, c .before .before .before .put-packets .kept), omega (arith, bounds (z .args .s) (z .pre .0) .device-most), data-fits _ _ _ _ _ h (z .pre .0) e)
+    ((omega (arith, room-for _ _ _ _ _ h e, c .before .before .before .put-packets .kept), omega (arith, bounds (z .args .s) (z .pre .0) .device-most)), data-timely _ _ _ _ _ h e)
 
 outcome-of-requires : tie.Need-outcome-of-requires
 outcome-of-requires c κs = search needs

@@ -1,11 +1,14 @@
 -- `put_data` meets its contract: D of a write is put, and nothing for any other request.
-use Prim.Native.Nat.{_*_}
-use mathlib.Core.Path.{_∙_}
+use Prim.Native.Nat.{_+_, _*_, _≤_}
+use mathlib.Core.Path.{_≡_, _∙_}
+use mathlib.Core.Bool.{true}
 use mathlib.Core.List.{append-nil}
 use native.Mathlib.Omega.{arith}
 use Rattle.num.proofs.SpliceLaws.{splice-none}
-use Rattle.plan.specs.Call.{listBytes}
+use Rattle.settings.specs.Instants.{horizon}
+use Rattle.plan.specs.Call.{listBytes, inTime}
 use Rattle.placing.specs.Drafts.{askedOf, dataOf, dataCount}
+use Rattle.planner.proofs.AnswerLaws.{data-time}
 use borrow.Author.Needs.{needs}
 use Rattle.planner.proofs.records.put_data.Statement.{statement}
 use Rattle.planner.proofs.records.put_data.Tie as tie
@@ -23,18 +26,16 @@ returns c = let z = c .before .before .before .args in rw (c .enum-told .given .
 enum-known-q : tie.Need-enum-known-q
 enum-known-q c = search needs
 
-add-t9 : tie.Need-add-t9
-add-t9 c = search needs
+mul-put-d : tie.Need-mul-put-d
+mul-put-d c = search needs
 
-mul-put-record : tie.Need-mul-put-record
-mul-put-record c = search needs
-
-put-record-requires : tie.Need-put-record-requires
+put-d-requires : tie.Need-put-d-requires
 unfolding askedOf dataCount
-put-record-requires c κs =
-    let d = c .before .before .before in
-    let z = d .before .before .before .before .before .before in
-    (omega (arith, rw (d .before .before .before .read .given .1, d .q .given .1) at (z .pre .0)), z .pre .1)
+put-d-requires c κs =
+    let d = c .before .before in
+    let r = d .before .before .before in
+    let z = r .before .before .before in
+    (omega (arith, rw (r .read .given .1, d .q .given .1) at (z .pre .0 .0)), z .pre .0 .1, data-time _ _ _ _ _ (rw (r .read .given .1, d .q .given .1) at (z .pre .1)))
 
 enum-told-2 : tie.Need-enum-told-2
 enum-told-2 c = search needs
@@ -54,8 +55,9 @@ same-length c = search needs
 returns-2 : tie.Need-returns-2
 unfolding askedOf dataOf listBytes
 returns-2 c =
-    let d = c .before .before .before .before .before .before in
-    c .before .before .put-record .ensures ∙ rw (d .before .before .before .read .given .1, d .q .given .1, append-nil)
+    let d = c .before .before .before .before .before in
+    let r = d .before .before .before in
+    c .before .before .put-d .ensures ∙ rw (r .read .given .1, d .q .given .1, append-nil)
 
 returns-3 : tie.Need-returns-3
 unfolding askedOf dataOf listBytes
@@ -93,9 +95,8 @@ put-data-spec =
     enum-told
     returns
     enum-known-q
-    add-t9
-    mul-put-record
-    put-record-requires
+    mul-put-d
+    put-d-requires
     enum-told-2
     enum-told-3
     enum-told-4
