@@ -1,7 +1,7 @@
 // Requests as bytes.
 ghost use mathlib.Core.Path.{_≡_};
 ghost use lib.ListN.{length};
-ghost use Rattle.record.specs.Request.{usesByte, spareRight, placeOf, placed, requestOf, requestRead};
+ghost use Rattle.record.specs.Request.{spareRight, placeOf, placed, requestOf, requestRead};
 use record::Dualoct;
 use record::Place;
 use record::Refusal;
@@ -9,39 +9,19 @@ use record::Request;
 use record::RequestRead;
 use settings::Settings;
 
-// Whether a kind uses byte i of a request.
-fn uses_byte(kind: u32, i: usize) -> bool
-    ensures { λ r. ⌜ r ≡ usesByte kind i ⌝ }
-{
-    if i == 0 {
-        return true;
-    }
-    if i <= 4 {
-        return kind <= 1;
-    }
-    if i == 5 {
-        return false;
-    }
-    if i <= 7 {
-        return kind == 1;
-    }
-    if i <= 11 {
-        return num::either(kind == 1, kind == 3);
-    }
-    kind == 1
-}
-
 // Whether every byte that the kind does not use is zero.
 fn spare_right(b: &[u8]) -> bool
     requires { ⌜ length (now b) ≡ 24 ⌝ }
     ensures { λ r. ⌜ r ≡ spareRight (now (b .entry)) ⌝ }
 {
-    let kind = num::wide(b[0]);
-    let mut right = true;
-    for i in 0..24 {
-        right = num::both(right, num::either(uses_byte(kind, i), b[i] == 0));
-    }
-    right
+    let kind = b[0];
+    let place = num::either(kind <= 1, num::u32_at(b, 1) == 0);
+    let none = b[5] == 0;
+    let mask = num::u16_at(b, 6) == 0;
+    let cycles = num::either(kind == 3, num::u32_at(b, 8) == 0);
+    let rest = num::both(num::u32_at(b, 12) == 0, num::u64_at(b, 16) == 0);
+    let data = num::both(mask, num::both(cycles, rest));
+    num::both(place, num::both(none, num::either(kind == 1, data)))
 }
 
 // The bank, row and column of a request.

@@ -1,82 +1,94 @@
--- `spare_right` meets its contract: whether each byte passed so far is used or zero.
-use mathlib.Core.Path.{_≡_, refl, _∙_, sym}
-use mathlib.Core.List.{List}
-use mathlib.Core.Bool.{Bool, true, _||_}
-use Prim.Native.Nat.{_-_, _≤_, ℕ}
-use native.Mathlib.Omega.{arith}
-use lib.Dec.{eqb}
-use lib.ListN.{getD}
-use Rattle.num.specs.Search.{allUpTo}
-use Rattle.num.proofs.SearchLaws.{all-next}
-use Rattle.record.specs.Request.{kindOf, usesByte, spareRight}
+-- `spare_right` meets its contract: each group of bytes is tested as the number that it is.
+use mathlib.Core.Path.{sym, _∙_}
+use Rattle.requests.proofs.SpareLaws.{spare-groups}
 use borrow.Author.Needs.{needs}
 use Rattle.requests.proofs.spare_right.Statement.{statement}
 use Rattle.requests.proofs.spare_right.Tie as tie
 
--- the definition's test of byte k
-abbrev test : List ℕ → ℕ → Bool
-test b k = usesByte (kindOf b) k || eqb (getD b k 0) 0
+shared-slice-read-kind : tie.Need-shared-slice-read-kind
+shared-slice-read-kind c = search needs
 
-abbrev Inv-loop : tie.InvT-loop
-Inv-loop b kind right₀ i₀ right i = (i ≤ 24) × (right ≡ allUpTo (test b) i)
+u32-at-requires : tie.Need-u32-at-requires
+u32-at-requires c κs = search needs
 
-abbrev μ-loop : tie.MeasureT-loop
-μ-loop b kind right₀ i₀ right i = 24 - i
-
-shared-slice-read-wide : tie.Need-shared-slice-read-wide Inv-loop μ-loop
-shared-slice-read-wide c = search needs
-
-wide-requires : tie.Need-wide-requires Inv-loop μ-loop
-wide-requires c κs = search needs
-
-loop-holds : tie.Need-loop-holds Inv-loop μ-loop
-unfolding allUpTo
-loop-holds c = (omega arith, refl)
-
-uses-byte-requires : tie.Need-uses-byte-requires Inv-loop μ-loop
-uses-byte-requires c κs = search needs
-
-shared-slice-read-either : tie.Need-shared-slice-read-either Inv-loop μ-loop
-shared-slice-read-either c = search needs
-
-either-requires : tie.Need-either-requires Inv-loop μ-loop
+either-requires : tie.Need-either-requires
 either-requires c κs = search needs
 
-both-requires : tie.Need-both-requires Inv-loop μ-loop
+shared-slice-read-none : tie.Need-shared-slice-read-none
+shared-slice-read-none c = search needs
+
+u16-at-requires : tie.Need-u16-at-requires
+u16-at-requires c κs = search needs
+
+u32-at-requires-2 : tie.Need-u32-at-requires-2
+u32-at-requires-2 c κs = search needs
+
+either-requires-2 : tie.Need-either-requires-2
+either-requires-2 c κs = search needs
+
+u32-at-requires-3 : tie.Need-u32-at-requires-3
+u32-at-requires-3 c κs = search needs
+
+u64-at-requires : tie.Need-u64-at-requires
+u64-at-requires c κs = search needs
+
+both-requires : tie.Need-both-requires
 both-requires c κs = search needs
 
-add-i : tie.Need-add-i Inv-loop μ-loop
-add-i c = search needs
+both-requires-2 : tie.Need-both-requires-2
+both-requires-2 c κs = search needs
 
-loop-less : tie.Need-loop-less Inv-loop μ-loop
-loop-less c = search needs
+both-requires-3 : tie.Need-both-requires-3
+both-requires-3 c κs = search needs
 
-loop-again : tie.Need-loop-again Inv-loop μ-loop
-loop-again c = (
-  search needs,
-  c .both .ensures
-      ∙ rw (c .before .before .before .before .before .loop .inv .1, c .before .either .ensures, c .before .before .before .uses-byte .ensures, c .before .before .before .before .before .before .wide .ensures .0)
-      (sym (all-next (test (c .before .before .before .before .before .before .before .before .before .args .b .now)) (c .before .before .before .before .before .loop .i))),
-)
+either-requires-3 : tie.Need-either-requires-3
+either-requires-3 c κs = search needs
 
-returns : tie.Need-returns Inv-loop μ-loop
-unfolding spareRight
-returns c = let e : c .before .loop .i ≡ 24 = omega arith in rw e at (c .before .loop .inv .1)
+both-requires-4 : tie.Need-both-requires-4
+both-requires-4 c κs = search needs
+
+both-requires-5 : tie.Need-both-requires-5
+both-requires-5 c κs = search needs
+
+returns : tie.Need-returns
+returns c =
+    let x = c .before .before .before .before .before in
+    let y = x .before .before .before in
+    let z = y .before .before .before .before in
+    let o = z .before .before .before .before in
+    c .both5 .ensures
+    ∙ rw (
+      c .before .both4 .ensures,
+      c .before .before .either3 .ensures,
+      c .before .before .before .both3 .ensures,
+      c .before .before .before .before .both2 .ensures,
+      x .both .ensures,
+      x .before .u64-at .ensures,
+      x .before .before .u32-at3 .ensures,
+      y .either2 .ensures,
+      y .before .u32-at2 .ensures,
+      y .before .before .u16-at .ensures .0,
+      z .either .ensures,
+      z .before .u32-at .ensures,
+    ) (sym (spare-groups (o .args .b .now) (o .pre)))
 
 pub spare-right-spec : {M : Type 1} → statement M
 spare-right-spec =
     tie.close
     (tie.spec
-    Inv-loop
-    μ-loop
-    shared-slice-read-wide
-    wide-requires
-    loop-holds
-    uses-byte-requires
-    shared-slice-read-either
+    shared-slice-read-kind
+    u32-at-requires
     either-requires
+    shared-slice-read-none
+    u16-at-requires
+    u32-at-requires-2
+    either-requires-2
+    u32-at-requires-3
+    u64-at-requires
     both-requires
-    add-i
-    loop-less
-    loop-again
+    both-requires-2
+    both-requires-3
+    either-requires-3
+    both-requires-4
+    both-requires-5
     returns)
