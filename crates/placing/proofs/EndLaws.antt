@@ -24,7 +24,7 @@ use Rattle.rules.specs.declared.Channel.{Channel}
 use Rattle.rules.specs.Neighbour.{Relation, split}
 use Rattle.rules.specs.Packets.{instant}
 use Rattle.rules.specs.Rules.{bankCount, dataDelay}
-use Rattle.rules.specs.Channel.{after, afterData}
+use Rattle.rules.specs.Channel.{settled, after, afterData}
 use Rattle.rules.proofs.Bools.{not-both, neither}
 use Rattle.channel.specs.Steps.{channelOf}
 use Rattle.plan.specs.declared.PlannerState.{PlannerState}
@@ -41,9 +41,11 @@ use Rattle.courses.proofs.CodeCourse.{codes-course}
 use Rattle.courses.proofs.CourseLaws.{read-sent, write-sent, refresh-sent, drain-sent}
 use Rattle.sending.specs.declared.Front.{Front}
 use Rattle.placing.specs.declared.Draft.{Draft as Drawn}
-use Rattle.placing.specs.Drafts.{recordsUpTo, dataOf, dataCount, waitOf, reachOf, bufferBy, refreshBy, maskBy, tailAfter, stateBy, lateBy, Placed}
-use Rattle.placing.proofs.TimeLaws.{in-time-one, all-refresh, all-mask}
-use Rattle.placing.proofs.GoingLaws.{Going, Under, packetsOf, not-late}
+use Rattle.turns.specs.declared.Series.{Series as SeriesOf}
+use Rattle.turns.specs.Series.{recordsUpTo, packetsOf, allSent, Sent}
+use Rattle.turns.proofs.TimeLaws.{in-time-one, all-refresh, all-mask}
+use Rattle.turns.proofs.GoingLaws.{not-late, late-not}
+use Rattle.placing.specs.Drafts.{dataOf, dataCount, waitOf, reachOf, loadsOf, refreshBy, maskBy, endingOf, tailBy, stateBy, lateBy, Placed}
 
 -- ---- what a request makes once its packets are sent
 
@@ -76,13 +78,13 @@ module _ (s : Settings) (z : Draft) where
 
   abbrev stateAt : Request → Channel → ℕ → ℕ → ℕ → PlannerState
   stateAt q ch t refresh mask =
-      record { channel = buffered ch (bufferBy q (ch .buffer)); now = record { 0 = t + waitOf q }; refresh = refreshBy q refresh; mask = maskBy q mask }
+      record { channel = buffered ch (cond (loadsOf q) (settled (ch .buffer)) (ch .buffer)); now = record { 0 = t + waitOf q }; refresh = refreshBy q refresh; mask = maskBy q mask }
 
   abbrev endState : Request → PlannerState
   endState q = stateAt q (z .planner .channel) now (z .planner .refresh) (z .planner .mask)
 
   end-state : (q : Request) → endState q ≡ endOf s q z .planner
-  unfolding loaded turned plannedWait after afterData bankCount bufferBy refreshBy maskBy waitOf
+  unfolding loaded turned plannedWait after afterData bankCount loadsOf refreshBy maskBy waitOf
   end-state (Read at) = rw (add-zero now)
   end-state (WriteTo at mask bytes) = rw (add-zero now)
   end-state RefreshBank = rw (add-zero now)
@@ -170,12 +172,15 @@ wait-reach s Drain = omega arith
 
 -- ---- the request
 
-module _ (s : Settings) (p : PlannerState) (q : Request) (free : ℕ) (f : Fields) (c : Course) (banks : List BankTrack) (w : Front) (ats : List ℕ) (i : ℕ) where
+module _ (s : Settings) (p : PlannerState) (q : Request) (free : ℕ) (f : Fields) (c : Course) (r : SeriesOf) where
+  abbrev w : Front
+  w = r .front
+
   abbrev start : Draft
   start = record { planner = p; records = [] }
 
   abbrev all : Draft
-  all = sentFrom s split p (packetsOf f c)
+  all = allSent s p f c
 
   module _ (v : plannerValid s split p ≡ true) (b : bankIn q ≡ true) (k : f ≡ fieldsIn p q) (h : Holds c (codesIn p q)) where
     refresh-in : p .refresh < 32
@@ -196,73 +201,59 @@ module _ (s : Settings) (p : PlannerState) (q : Request) (free : ℕ) (f : Field
         let a = ap (λ (d : Draft). length (d .records)) plan-is ∙ ap length (end-records s all q) ∙ length-append (all .records) (dataOf s q (all .planner .now .0)) in
         omega (arith, all-length s split (packetsOf f c) start, long, data-length s all q (all .planner .now .0))
 
-    module _ (u : Under s p f c banks w ats i) (o : (c .count ≤ i) ⊎ (w .late ≡ true)) where
+    module _ (u : Sent s p f c r) where
       -- none late: all are sent
       module _ (e : w .late ≡ false) where
-        at-end : i ≡ c .count
-        at-end = go o
-          where
-            go : (c .count ≤ i) ⊎ (w .late ≡ true) → i ≡ c .count
-            go (inl m) = omega (arith, u .within)
-            go (inr l) = not-both (w .late) l e
-
-        g : Going s p f (c .codes) (packetsOf f c) banks w ats i
-        g = u .on e
-
-        whole : sentFrom s split p (take i (packetsOf f c)) ≡ all
-        whole = ap (sentFrom s split p) (take-all i (packetsOf f c) (omega (arith, long, at-end)))
-
         now-is : w .now ≡ all .planner .now .0
-        now-is = g .now-is ∙ ap (λ (d : Draft). d .planner .now .0) whole
+        now-is = u .now-is e
 
-        made : recordsUpTo f (c .codes) ats (c .count) ≡ all .records
-        made = ap (recordsUpTo f (c .codes) ats) (sym at-end) ∙ g .done ∙ ap (λ (d : Draft). d .records) whole
+        early : inTime s (all .records) ≡ true
+        early = not-late (w .late) (inTime s (all .records)) (u .late) e
 
         time-is : timely s (planned s split q p) ≡ leb (w .now + reachOf s q) horizon
         time-is =
             ap (timely s) plan-is
-            ∙ end-time s all q (rw whole at (g .early)) (rw (sym now-is) (le-leb (w .now) horizon (g .range)))
+            ∙ end-time s all q early (rw (sym now-is) (le-leb (w .now) horizon (u .range e)))
             ∙ rw now-is
 
-        state-is : leb (w .now + reachOf s q) horizon ≡ true → stateBy banks (tailAfter q p w) ≡ planned s split q p .planner
+        state-is : leb (w .now + reachOf s q) horizon ≡ true → stateBy (r .banks) (tailBy (endingOf s q p) w) ≡ planned s split q p .planner
         state-is m =
-            let r : w .now + reachOf s q ≤ horizon = leb-true _ _ m in
+            let k : w .now + reachOf s q ≤ horizon = leb-true _ _ m in
             let n : leb (w .now + waitOf q) horizon ≡ true = le-leb (w .now + waitOf q) horizon (omega (arith, wait-reach s q)) in
-            let ch : channelOf banks (w .l) (w .buffer) ≡ all .planner .channel = g .channel ∙ ap (λ (d : Draft). d .planner .channel) whole in
             rw n
-            (end-at s all q (channelOf banks (w .l) (w .buffer)) (w .now) (p .refresh) (p .mask) ch now-is
+            (end-at s all q (channelOf (r .banks) (w .l) (w .buffer)) (w .now) (p .refresh) (p .mask) (u .channel e) now-is
             (sym (all-refresh s split (packetsOf f c) start)) (sym (all-mask s split (packetsOf f c) start))
             ∙ sym (ap (λ (d : Draft). d .planner) plan-is))
 
-      late-is : lateBy s q w ≡ not (timely s (planned s split q p))
+      late-is : lateBy (endingOf s q p) w ≡ not (timely s (planned s split q p))
       late-is = go (w .late) refl
         where
           go : (t : Bool) → w .late ≡ t → t || not (leb (w .now + reachOf s q) horizon) ≡ not (timely s (planned s split q p))
-          go true e = rw (plan-is, end-late s all q (u .lost e))
+          go true e = rw (plan-is, end-late s all q (late-not (w .late) (inTime s (all .records)) (u .late) e))
           go false e = rw (time-is e)
 
-      on-time : lateBy s q w ≡ false → (w .late ≡ false) × (leb (w .now + reachOf s q) horizon ≡ true)
+      on-time : lateBy (endingOf s q p) w ≡ false → (w .late ≡ false) × (leb (w .now + reachOf s q) horizon ≡ true)
       on-time e =
           let (a, n) = neither (w .late) _ e in
           (a, not-late (not (leb (w .now + reachOf s q) horizon)) (leb (w .now + reachOf s q) horizon) refl n)
 
       -- in time: the next state, and the records, with D by now of that state
-      next-is : lateBy s q w ≡ false → stateBy banks (tailAfter q p w) ≡ planned s split q p .planner
+      next-is : lateBy (endingOf s q p) w ≡ false → stateBy (r .banks) (tailBy (endingOf s q p) w) ≡ planned s split q p .planner
       next-is e = let (a, m) = on-time e in state-is a m
 
-      records-are : lateBy s q w ≡ false
-          → recordsUpTo f (c .codes) ats (c .count) ++ dataOf s q (planned s split q p .planner .now .0) ≡ planned s split q p .records
+      records-are : lateBy (endingOf s q p) w ≡ false
+          → recordsUpTo f (c .codes) (r .ats) (c .count) ++ dataOf s q (planned s split q p .planner .now .0) ≡ planned s split q p .records
       records-are e =
           let (a, m) = on-time e in
           let n : planned s split q p .planner .now .0 ≡ all .planner .now .0 + waitOf q =
           ap (λ (d : Draft). d .planner .now .0) plan-is ∙ sym (ap (λ (x : PlannerState). x .now .0) (end-state s all q))
           in
-          rw (made a, n, data-stays s all q (all .planner .now .0)) (sym (ap (λ (d : Draft). d .records) plan-is ∙ end-records s all q))
+          rw (u .records a, n, data-stays s all q (all .planner .now .0)) (sym (ap (λ (d : Draft). d .records) plan-is ∙ end-records s all q))
 
       -- the draft
-      module _ (late full : Bool) (le : late ≡ lateBy s q w) (fe : full ≡ ltb free (c .count + dataCount q)) (d : Drawn) (dl : d .late ≡ late) (df : d .full ≡ full)
-          (dc : d .course ≡ c) (dg : d .fields ≡ f) (da : d .ats ≡ ats) (ds : d .state ≡ cond (late || full) p (stateBy banks (tailAfter q p w))) where
-        kept : (t : Bool) → late || full ≡ t → cond t p (stateBy banks (tailAfter q p w)) ≡ cond t p (planned s split q p .planner)
+      module _ (late full : Bool) (le : late ≡ lateBy (endingOf s q p) w) (fe : full ≡ ltb free (c .count + dataCount q)) (d : Drawn) (dl : d .late ≡ late) (df : d .full ≡ full)
+          (dc : d .course ≡ c) (dg : d .fields ≡ f) (da : d .ats ≡ r .ats) (ds : d .state ≡ cond (late || full) p (stateBy (r .banks) (tailBy (endingOf s q p) w))) where
+        kept : (t : Bool) → late || full ≡ t → cond t p (stateBy (r .banks) (tailBy (endingOf s q p) w)) ≡ cond t p (planned s split q p .planner)
         kept true e = refl
         kept false e = let (a, n) = neither late full e in next-is (sym le ∙ a)
 
@@ -282,10 +273,9 @@ module _ (s : Settings) (p : PlannerState) (q : Request) (free : ℕ) (f : Field
                   rw (dg, dc, da, state-stays, x) (records-are (sym le ∙ sym dl ∙ e));
             }
 
-  pub placed-is : plannerValid s split p ≡ true → bankIn q ≡ true → f ≡ fieldsIn p q → Holds c (codesIn p q) → length (c .codes) ≡ 17
-      → Under s p f c banks w ats i → (c .count ≤ i) ⊎ (w .late ≡ true)
-      → (late full : Bool) → late ≡ lateBy s q w → full ≡ ltb free (c .count + dataCount q)
-      → (d : Drawn) → d .late ≡ late → d .full ≡ full → d .course ≡ c → d .fields ≡ f → d .ats ≡ ats
-      → d .state ≡ cond (late || full) p (stateBy banks (tailAfter q p w))
+  pub placed-is : plannerValid s split p ≡ true → bankIn q ≡ true → f ≡ fieldsIn p q → Holds c (codesIn p q) → Sent s p f c r
+      → (late full : Bool) → late ≡ lateBy (endingOf s q p) w → full ≡ ltb free (c .count + dataCount q)
+      → (d : Drawn) → d .late ≡ late → d .full ≡ full → d .course ≡ c → d .fields ≡ f → d .ats ≡ r .ats
+      → d .state ≡ cond (late || full) p (stateBy (r .banks) (tailBy (endingOf s q p) w))
       → Placed s p q free d
-  placed-is v b k h wide u o late full le fe d dl df dc dg da ds = drawn v b k h u o late full le fe d dl df dc dg da ds
+  placed-is v b k h u late full le fe d dl df dc dg da ds = drawn v b k h u late full le fe d dl df dc dg da ds

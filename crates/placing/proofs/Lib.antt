@@ -1,6 +1,2 @@
-pub mod CodeViews
-pub mod TimeLaws
-pub mod GoingLaws
-pub mod TurnLaws
 pub mod PlaceLaws
 pub mod EndLaws

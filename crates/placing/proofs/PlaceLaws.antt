@@ -32,7 +32,7 @@ use Rattle.courses.specs.declared.Course.{Course}
 use Rattle.courses.specs.Course.{bankIn}
 use Rattle.courses.specs.Codes.{Holds, isDrain, focusOf, codesOf, drainCodes, fieldsOf, codesIn, fieldsIn}
 use Rattle.courses.proofs.BankLaws.{codes-small, in-at}
-use Rattle.placing.specs.Drafts.{askedOf, tailOf, stateBy}
+use Rattle.placing.specs.Drafts.{askedOf, dataCount, tailOf, stateBy}
 
 -- ---- the request
 
@@ -44,6 +44,14 @@ asked-bank s b (Accepted (WriteTo at mask bytes)) q e f = rw f (lt-ltb _ _ (acce
 asked-bank s b (Accepted RefreshBank) q e f = rw f
 asked-bank s b (Accepted (Wait cycles)) q e f = rw f
 asked-bank s b (Accepted Drain) q e f = rw f
+
+pub data-few : (q : Request) → dataCount q < 2
+unfolding dataCount
+data-few (Read at) = omega arith
+data-few (WriteTo at mask bytes) = omega arith
+data-few RefreshBank = omega arith
+data-few (Wait cycles) = omega arith
+data-few Drain = omega arith
 
 -- ---- a state that is not refused
 
@@ -84,21 +92,6 @@ code-bank p q c b r h i n =
     let m : getD (codesIn p q) i 0 < 256 = in-at (codesIn p q) i (codes-small p q b r) (omega (arith, h .count)) in
     let e : getD (c .codes) i 0 ≡ getD (codesIn p q) i 0 = sym (getD-take (c .count) (c .codes) i 0 n) ∙ ap (λ (l : List ℕ). getD l i 0) (h .same) in
     omega arith
-
--- ---- the test of the loop
-
-pub goes-on : (t u : Bool) (i n : ℕ) → t ≡ (ltb i n && not u) → t ≡ true → (i < n) × (u ≡ false)
-goes-on t u i n e f =
-    let g : ltb i n && not u ≡ true = sym e ∙ f in
-    (ltb-true i n (and-left (ltb i n) (not u) g), not-true u (and-right (ltb i n) (not u) g))
-
-pub stops : (t u : Bool) (i n : ℕ) → t ≡ (ltb i n && not u) → t ≡ false → (n ≤ i) ⊎ (u ≡ true)
-stops t u i n e f = go (ltb i n) u refl refl (sym e ∙ f)
-  where
-    go : (a b : Bool) → ltb i n ≡ a → u ≡ b → a && not b ≡ false → (n ≤ i) ⊎ (u ≡ true)
-    go false b x y g = inl (ltb-false i n x)
-    go true true x y g = inr y
-    go true false x y g = absurd (not-both true refl g)
 
 -- ---- the state
 

@@ -28,18 +28,15 @@ use Rattle.plan.specs.Plan.{planned}
 use Rattle.plan.specs.Call.{timely}
 use Rattle.courses.specs.declared.Fields.{Fields}
 use Rattle.courses.specs.Codes.{recordIn}
+use Rattle.turns.specs.Series.{recordsUpTo, lastsIn}
 use Rattle.placing.specs.declared.Draft.{Draft as Drawn}
+use Rattle.placing.specs.declared.Ending.{Ending}
 use Rattle.placing.specs.declared.Tail.{Tail}
 
 -- what is planned of bytes: the request that they say, or a wait of no cycles, which makes nothing
 unfoldable pub askedOf : RequestRead → Request
 askedOf (RefusedRequest why) = Wait 0
 askedOf (Accepted q) = q
-
--- the first n packets of a course, each at its instant
-unfoldable pub recordsUpTo : Fields → List ℕ → List ℕ → ℕ → List Record
-recordsUpTo f codes ats zero = []
-recordsUpTo f codes ats (suc n) = recordsUpTo f codes ats n ++ (recordIn f (getD codes n 0) (getD ats n 0) ∷ [])
 
 -- the data of a write, whose WR stands at this instant
 unfoldable pub dataOf : Settings → Request → ℕ → List Record
@@ -73,13 +70,13 @@ reachOf s RefreshBank = 0
 reachOf s (Wait cycles) = cycles
 reachOf s Drain = 0
 
--- the write buffer once the data of a write have come
-unfoldable pub bufferBy : Request → Buffer → Buffer
-bufferBy (Read at) b = b
-bufferBy (WriteTo at mask bytes) b = settled b
-bufferBy RefreshBank b = b
-bufferBy (Wait cycles) b = b
-bufferBy Drain b = b
+-- whether it loads the write buffer
+unfoldable pub loadsOf : Request → Bool
+loadsOf (Read at) = false
+loadsOf (WriteTo at mask bytes) = true
+loadsOf RefreshBank = false
+loadsOf (Wait cycles) = false
+loadsOf Drain = false
 
 -- the bank of the next refresh
 unfoldable pub refreshBy : Request → ℕ → ℕ
@@ -97,39 +94,40 @@ maskBy RefreshBank mask = mask
 maskBy (Wait cycles) mask = mask
 maskBy Drain mask = mask
 
+-- what a request adds to its packets
+abbrev pub endingOf : Settings → Request → PlannerState → Ending
+endingOf s q p =
+    record {
+      count = dataCount q;
+      reach = reachOf s q;
+      wait = waitOf q;
+      loads = loadsOf q;
+      refresh = refreshBy q (p .refresh);
+      mask = maskBy q (p .mask);
+    }
+
 -- ---- a planner without its banks
-
--- the last instants of a channel
-abbrev pub lastsFrom : PacketAt → PacketAt → PacketAt → PacketAt → PacketAt → Lasts
-lastsFrom last row col pre rd = record { last = last .0; row = row .0; col = col .0; pre = pre .0; rd = rd .0 }
-
-abbrev pub lastsIn : PlannerState → Lasts
-lastsIn p = lastsFrom (p .channel .last) (p .channel .row) (p .channel .col) (p .channel .pre) (p .channel .rd)
-
--- before the first packet
-abbrev pub frontOf : PlannerState → Front
-frontOf p = record { now = p .now .0; l = lastsIn p; buffer = p .channel .buffer; late = false }
 
 abbrev pub tailOf : PlannerState → Tail
 tailOf p = record { now = p .now .0; l = lastsIn p; buffer = p .channel .buffer; refresh = p .refresh; mask = p .mask }
 
 -- after the last packet of a request
-abbrev pub tailAfter : Request → PlannerState → Front → Tail
-tailAfter q p w =
+abbrev pub tailBy : Ending → Front → Tail
+tailBy e w =
     record {
-      now = clip (w .now + waitOf q);
+      now = clip (w .now + e .wait);
       l = w .l;
-      buffer = bufferBy q (w .buffer);
-      refresh = refreshBy q (p .refresh);
-      mask = maskBy q (p .mask);
+      buffer = cond (e .loads) (settled (w .buffer)) (w .buffer);
+      refresh = e .refresh;
+      mask = e .mask;
     }
 
 abbrev pub stateBy : List BankTrack → Tail → PlannerState
 stateBy banks t = record { channel = channelOf banks (t .l) (t .buffer); now = record { 0 = t .now }; refresh = t .refresh; mask = t .mask }
 
 -- whether an instant of a packet or of its data, or now, would pass the last one
-abbrev pub lateBy : Settings → Request → Front → Bool
-lateBy s q w = w .late || not (leb (w .now + reachOf s q) horizon)
+abbrev pub lateBy : Ending → Front → Bool
+lateBy e w = w .late || not (leb (w .now + e .reach) horizon)
 
 -- ---- the draft
 

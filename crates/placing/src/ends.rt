@@ -1,9 +1,13 @@
 // What a request makes of a planner but for its banks: before its first packet, and after its last.
 ghost use mathlib.Core.Path.{_≡_};
+ghost use mathlib.Core.Bool.{cond};
 ghost use Prim.Native.Nat.{_+_, _<_};
 ghost use lib.Dec.{ltb};
 ghost use Rattle.sending.specs.Sending.{clip};
-ghost use Rattle.placing.specs.Drafts.{askedOf, dataCount, waitOf, reachOf, bufferBy, refreshBy, maskBy, lastsFrom, frontOf, tailOf, tailAfter, stateBy, lateBy};
+ghost use Rattle.rules.specs.Channel.{settled};
+ghost use Rattle.turns.specs.Series.{lastsFrom, frontOf};
+ghost use Rattle.placing.specs.Drafts.{askedOf, dataCount, waitOf, reachOf, loadsOf, refreshBy, maskBy, endingOf, tailOf, tailBy, stateBy, lateBy};
+use crate::Ending;
 use crate::Tail;
 use channel::Lasts;
 use plan::PlannerState;
@@ -63,15 +67,15 @@ fn reach_of(s: Settings, q: Request) -> u32
     }
 }
 
-fn buffer_by(q: Request, b: Buffer) -> Buffer
-    ensures { λ r. ⌜ r ≡ bufferBy q b ⌝ }
+fn loads_of(q: Request) -> bool
+    ensures { λ r. ⌜ r ≡ loadsOf q ⌝ }
 {
     match q {
-        Request::Read(_) => b,
-        Request::Write(_, _, _) => settle(b),
-        Request::Refresh => b,
-        Request::Wait(_) => b,
-        Request::Drain => b,
+        Request::Read(_) => false,
+        Request::Write(_, _, _) => true,
+        Request::Refresh => false,
+        Request::Wait(_) => false,
+        Request::Drain => false,
     }
 }
 
@@ -97,6 +101,20 @@ fn mask_by(q: Request, mask: u32) -> u32
         Request::Refresh => mask,
         Request::Wait(_) => mask,
         Request::Drain => mask,
+    }
+}
+
+pub(crate) fn ending_of(s: Settings, q: Request, p: PlannerState) -> Ending
+    requires { ⌜ p .refresh < 32 ⌝ }
+    ensures { λ r. ⌜ r ≡ endingOf s q p ⌝ }
+{
+    Ending {
+        count: data_count(q),
+        reach: reach_of(s, q),
+        wait: wait_of(q),
+        loads: loads_of(q),
+        refresh: refresh_by(q, p.refresh),
+        mask: mask_by(q, p.mask),
     }
 }
 
@@ -147,36 +165,45 @@ fn clipped(t: u64) -> u32
     if 1000000000 < t { 1000000000 } else { t as u32 }
 }
 
+// The write buffer once the data of a write have come.
+fn buffer_by(loads: bool, b: Buffer) -> Buffer
+    ensures { λ r. ⌜ r ≡ cond loads (settled b) b ⌝ }
+{
+    if loads {
+        return settle(b);
+    }
+    b
+}
+
 // After the last packet of a request.
-pub(crate) fn tail_after(q: Request, p: PlannerState, w: Front) -> Tail
-    requires { ⌜ p .refresh < 32 ⌝ }
-    ensures { λ r. ⌜ r ≡ tailAfter q p w ⌝ }
+pub(crate) fn tail_after(e: Ending, w: Front) -> Tail
+    ensures { λ r. ⌜ r ≡ tailBy e w ⌝ }
 {
     let l = w.l;
     let buffer = w.buffer;
     Tail {
-        now: clipped(num::wide32(w.now) + num::wide32(wait_of(q))),
+        now: clipped(num::wide32(w.now) + num::wide32(e.wait)),
         l: l,
-        buffer: buffer_by(q, buffer),
-        refresh: refresh_by(q, p.refresh),
-        mask: mask_by(q, p.mask),
+        buffer: buffer_by(e.loads, buffer),
+        refresh: e.refresh,
+        mask: e.mask,
     }
 }
 
 // Whether an instant of a packet or of its data, or now, would pass the last one.
-pub(crate) fn is_late(s: Settings, q: Request, w: Front) -> bool
-    ensures { λ r. ⌜ r ≡ lateBy s q w ⌝ }
+pub(crate) fn is_late(e: Ending, w: Front) -> bool
+    ensures { λ r. ⌜ r ≡ lateBy e w ⌝ }
 {
-    let end = num::wide32(w.now) + num::wide32(reach_of(s, q));
+    let end = num::wide32(w.now) + num::wide32(e.reach);
     num::either(w.late, 1000000000 < end)
 }
 
 // Whether fewer records are free than a request with so many packets makes.
-pub(crate) fn is_full(q: Request, packets: usize, free: usize) -> bool
-    requires { ⌜ packets < 18 ⌝ }
-    ensures { λ r. ⌜ r ≡ ltb free (packets + dataCount q) ⌝ }
+pub(crate) fn is_full(e: Ending, packets: usize, free: usize) -> bool
+    requires { ⌜ (packets < 18) × (e .count < 2) ⌝ }
+    ensures { λ r. ⌜ r ≡ ltb free (packets + e .count) ⌝ }
 {
-    free < packets + data_count(q)
+    free < packets + e.count
 }
 
 pub(crate) fn state_of(banks: [BankTrack; 32], t: Tail) -> PlannerState

@@ -37,7 +37,8 @@ use Rattle.plan.specs.Call.{listBytes, inTime, timely, outcomeOf, outcomeBy, pl
 use Rattle.courses.specs.declared.Fields.{Fields}
 use Rattle.courses.specs.Codes.{recordIn}
 use Rattle.placing.specs.declared.Draft.{Draft as Drawn}
-use Rattle.placing.specs.Drafts.{askedOf, recordsUpTo, dataOf, dataCount, Placed}
+use Rattle.turns.specs.Series.{recordsUpTo}
+use Rattle.placing.specs.Drafts.{askedOf, dataOf, dataCount, Placed}
 use Rattle.planner.specs.Answer.{servedAnswer, answerBy}
 
 -- ---- records as bytes

@@ -6,9 +6,6 @@ use Rattle.placing.proofs.ends.tail_after.Tie as tie
 wide32-requires : tie.Need-wide32-requires
 wide32-requires c κs = search needs
 
-wait-of-requires : tie.Need-wait-of-requires
-wait-of-requires c κs = search needs
-
 wide32-requires-2 : tie.Need-wide32-requires-2
 wide32-requires-2 c κs = search needs
 
@@ -21,25 +18,16 @@ clipped-requires c κs = search needs
 buffer-by-requires : tie.Need-buffer-by-requires
 buffer-by-requires c κs = search needs
 
-refresh-by-requires : tie.Need-refresh-by-requires
-refresh-by-requires c κs = search needs
-
-mask-by-requires : tie.Need-mask-by-requires
-mask-by-requires c κs = search needs
-
 returns : tie.Need-returns
-returns c = rw (c .mask-by .ensures, c .before .refresh-by .ensures, c .before .before .buffer-by .ensures, c .before .before .before .clipped .ensures, c .before .before .before .before .wide322 .ensures .0, c .before .before .before .before .before .wait-of .ensures, c .before .before .before .before .before .before .wide32 .ensures .0)
+returns c = rw (c .buffer-by .ensures, c .before .clipped .ensures, c .before .before .wide322 .ensures .0, c .before .before .before .wide32 .ensures .0)
 
 pub tail-after-spec : {M : Type 1} → statement M
 tail-after-spec =
     tie.close
     (tie.spec
     wide32-requires
-    wait-of-requires
     wide32-requires-2
     add-clipped
     clipped-requires
     buffer-by-requires
-    refresh-by-requires
-    mask-by-requires
     returns)

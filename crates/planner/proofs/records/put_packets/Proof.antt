@@ -5,7 +5,7 @@ use native.Mathlib.Omega.{arith}
 use lib.ListN.{length}
 use Rattle.num.specs.Bytes.{splice}
 use Rattle.plan.specs.Call.{listBytes}
-use Rattle.placing.specs.Drafts.{recordsUpTo}
+use Rattle.turns.specs.Series.{recordsUpTo}
 use Rattle.planner.proofs.AnswerLaws.{put-none, put-turn, length-put}
 use borrow.Author.Needs.{needs}
 use Rattle.planner.proofs.records.put_packets.Statement.{statement}

@@ -1,10 +1,10 @@
 -- `placing::commands::open_track` meets its contract: by its command.
 use Prim.Native.Nat.{ℕ, _/_, _%_}
 use mathlib.Core.Path.{_≡_, refl, sym, _∙_}
-use Rattle.placing.proofs.CodeViews.{act-is, refa-is, refa-code}
+use Rattle.turns.proofs.CodeViews.{act-is, refa-is, refa-code}
 use borrow.Author.Needs.{needs}
-use Rattle.placing.proofs.commands.open_track.Statement.{statement}
-use Rattle.placing.proofs.commands.open_track.Tie as tie
+use Rattle.turns.proofs.commands.open_track.Statement.{statement}
+use Rattle.turns.proofs.commands.open_track.Tie as tie
 
 act-track-requires : tie.Need-act-track-requires
 act-track-requires c κs = search needs

@@ -1,7 +1,7 @@
 -- `placing::commands::is_col` meets its contract: by its command.
 use borrow.Author.Needs.{needs}
-use Rattle.placing.proofs.commands.is_col.Statement.{statement}
-use Rattle.placing.proofs.commands.is_col.Tie as tie
+use Rattle.turns.proofs.commands.is_col.Statement.{statement}
+use Rattle.turns.proofs.commands.is_col.Tie as tie
 
 either-requires : tie.Need-either-requires
 either-requires c κs = search needs

@@ -16,7 +16,7 @@ use Rattle.rules.proofs.Bools.{not-both}
 use Rattle.courses.specs.declared.Fields.{Fields}
 use Rattle.courses.specs.Course.{fullMask}
 use Rattle.courses.specs.Codes.{rowBy, recordBy, packetIn}
-use Rattle.placing.specs.Turns.{isCol, isOpening}
+use Rattle.turns.specs.Turns.{isCol, isOpening}
 
 module _ (f : Fields) (code : ℕ) where
   abbrev bank : ℕ

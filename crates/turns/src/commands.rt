@@ -8,7 +8,7 @@ ghost use Rattle.channel.specs.declared.Held.{Held as HeldOf};
 ghost use Rattle.channel.specs.Steps.{ownNext};
 ghost use Rattle.courses.specs.declared.Fields.{Fields as FieldsOf};
 ghost use Rattle.sending.specs.Sending.{stampedAt, frontAfter};
-ghost use Rattle.placing.specs.Turns.{isCol, isOpening, viewIn};
+ghost use Rattle.turns.specs.Turns.{isCol, isOpening, viewIn};
 use rules::BankTrack;
 use sending::Front;
 use sending::act_track;

@@ -2,10 +2,10 @@
 use Prim.Native.Nat.{ℕ, _/_, _%_}
 use mathlib.Core.Path.{_≡_, refl, sym, _∙_}
 use Rattle.courses.specs.Course.{fullMask}
-use Rattle.placing.proofs.CodeViews.{rd-is, wr-is, nocop-is, nocop-code}
+use Rattle.turns.proofs.CodeViews.{rd-is, wr-is, nocop-is, nocop-code}
 use borrow.Author.Needs.{needs}
-use Rattle.placing.proofs.commands.col_step.Statement.{statement}
-use Rattle.placing.proofs.commands.col_step.Tie as tie
+use Rattle.turns.proofs.commands.col_step.Statement.{statement}
+use Rattle.turns.proofs.commands.col_step.Tie as tie
 
 read-step-requires : tie.Need-read-step-requires
 read-step-requires c κs = search needs

@@ -1,8 +1,8 @@
 -- `placing::commands::instant_of` meets its contract: by whether there is such a bank.
 use borrow.Author.Tests.{lt-ltb, le-ltb}
 use borrow.Author.Needs.{needs}
-use Rattle.placing.proofs.commands.instant_of.Statement.{statement}
-use Rattle.placing.proofs.commands.instant_of.Tie as tie
+use Rattle.turns.proofs.commands.instant_of.Statement.{statement}
+use Rattle.turns.proofs.commands.instant_of.Tie as tie
 
 returns : tie.Need-returns
 returns c = rw (lt-ltb _ _ (c .if1 .taken))

@@ -2,13 +2,13 @@
 -- Assumes nothing.
 use Prim.Native.Nat.{ℕ, _+_, _/_, _%_, _≤_, _<_, max}
 use mathlib.Core.Path.{_≡_, refl, sym, ap, _∙_}
-use mathlib.Core.Bool.{Bool, true, false, _||_, cond}
+use mathlib.Core.Bool.{Bool, true, false, not, _&&_, _||_, cond}
 use mathlib.Core.Logic.{_⊎_, ⊎-elim, inl, inr}
 use mathlib.Core.List.{List}
 use lib.Dec.{eqb, ltb}
 use lib.ListN.{length, getD, set}
 use lib.Seq.{set-getD}
-use borrow.Author.Tests.{lt-ltb, le-ltb, eqb-true, eqb-false}
+use borrow.Author.Tests.{lt-ltb, le-ltb, ltb-true, ltb-false, eqb-true, eqb-false, not-true}
 use native.Mathlib.Omega.{arith}
 use Rattle.settings.specs.declared.Settings.{Settings}
 use Rattle.packet.specs.declared.RowPacket.the-variants.{Act, Prer, Refa, Refp}
@@ -20,6 +20,7 @@ use Rattle.rules.specs.declared.Buffer.{Buffer}
 use Rattle.rules.specs.declared.Buffer.the-variants.{Empty, Waiting, Due}
 use Rattle.rules.specs.Channel.{never, idle}
 use Rattle.rules.specs.Checks.{since}
+use Rattle.rules.proofs.Bools.{not-both, and-left, and-right}
 use Rattle.channel.specs.declared.View.{View}
 use Rattle.channel.specs.declared.Held.{Held}
 use Rattle.channel.specs.declared.Tracks.{Tracks}
@@ -34,8 +35,23 @@ use Rattle.courses.specs.Codes.{packetIn}
 use Rattle.sending.specs.declared.Front.{Front}
 use Rattle.sending.specs.Sending.{actView, refaView, prerView, refpView, rdView, wrView, nocopView, stampedAt, clip, slotBy, frontAt, frontAfter, Latest, Opened, Precharged, ClosedOwn, ClosedSide, firstNear, lastNear}
 use Rattle.sending.proofs.SendLaws.{same-closing, three-most, readAt, retiredAt, read-stored, write-retire-stored, nocop-retire-stored, write-none-stored, nocop-none-stored, act-stored, refresh-stored, prer-stored}
-use Rattle.placing.specs.Turns.{isCol, isOpening, viewIn, slotIn, Turn}
-use Rattle.placing.proofs.CodeViews.{rd-is, wr-is, nocop-is, nocop-code, act-is, refa-is, refa-code, closing-is}
+use Rattle.turns.specs.Turns.{isCol, isOpening, viewIn, slotIn, Turn}
+use Rattle.turns.proofs.CodeViews.{rd-is, wr-is, nocop-is, nocop-code, act-is, refa-is, refa-code, closing-is}
+
+-- ---- the test of the loop
+
+pub goes-on : (t u : Bool) (i n : ℕ) → t ≡ (ltb i n && not u) → t ≡ true → (i < n) × (u ≡ false)
+goes-on t u i n e f =
+    let g : ltb i n && not u ≡ true = sym e ∙ f in
+    (ltb-true i n (and-left (ltb i n) (not u) g), not-true u (and-right (ltb i n) (not u) g))
+
+pub stops : (t u : Bool) (i n : ℕ) → t ≡ (ltb i n && not u) → t ≡ false → (n ≤ i) ⊎ (u ≡ true)
+stops t u i n e f = go (ltb i n) u refl refl (sym e ∙ f)
+  where
+    go : (a b : Bool) → ltb i n ≡ a → u ≡ b → a && not b ≡ false → (n ≤ i) ⊎ (u ≡ true)
+    go false b x y g = inl (ltb-false i n x)
+    go true true x y g = inr y
+    go true false x y g = absurd (not-both true refl g)
 
 -- a write that waits has a bank below 32 only where one waits
 waits-by : (b : Buffer) → heldOf b .bank < 32 → heldOf b .waits ≡ true

@@ -3,10 +3,11 @@
 use Prim.Native.Nat.{ℕ, zero, suc, _+_, _≤_, _<_, max}
 use mathlib.Core.Path.{_≡_, refl, sym, ap, _∙_}
 use mathlib.Core.Bool.{Bool, true, false, not, _&&_}
-use mathlib.Core.List.{List, [], _∷_, _++_, map}
+use mathlib.Core.Logic.{_⊎_, inl, inr}
+use mathlib.Core.List.{List, [], _∷_, _++_}
 use lib.Dec.{leb}
 use lib.ListN.{length, length-map, length-set, take, drop, getD, set, take-append-drop, List·getD-map}
-use lib.Seq.{take-suc, length-take-le, getD-take, getD-set-other, getD-set-same}
+use lib.Seq.{take-suc, take-all, length-take-le, getD-take, getD-set-other, getD-set-same}
 use borrow.Author.Tests.{le-leb, leb-true}
 use native.Mathlib.Numerals.{add-one}
 use native.Mathlib.Omega.{arith}
@@ -44,9 +45,10 @@ use Rattle.courses.proofs.ClosingLaws.{all-append, all-one}
 use Rattle.courses.proofs.CodeCourse.{placed}
 use Rattle.sending.specs.declared.Front.{Front}
 use Rattle.sending.specs.Sending.{stampedAt, clip, slotBy, frontAt}
-use Rattle.placing.specs.Drafts.{recordsUpTo, frontOf}
-use Rattle.placing.specs.Turns.{viewIn, slotIn, Turn}
-use Rattle.placing.proofs.TimeLaws.{sent-in-time, late-stays}
+use Rattle.turns.specs.declared.Series.{Series as SeriesOf}
+use Rattle.turns.specs.Series.{recordsUpTo, packetsOf, allSent, frontOf, Sent}
+use Rattle.turns.specs.Turns.{viewIn, slotIn, Turn}
+use Rattle.turns.proofs.TimeLaws.{sent-in-time, late-stays}
 
 -- ---- a view at another instant
 
@@ -184,19 +186,16 @@ module _ (s : Settings) (p : PlannerState) (f : Fields) (codes : List ℕ) (l : 
 
 -- ---- what holds in the loop
 
--- the packets of a course
-abbrev pub packetsOf : Fields → Course → List Record
-packetsOf f c = map (packetIn f) (take (c .count) (c .codes))
-
 -- in time so far and all as sent, or late
 pub record Under (s : Settings) (p : PlannerState) (f : Fields) (c : Course) (banks : List BankTrack) (w : Front) (ats : List ℕ) (i : ℕ) : Type 0 where
-  pub within : i ≤ c .count
-  pub size : length banks ≡ 32
-  pub wide : length ats ≡ 17
   pub on : w .late ≡ false → Going s p f (c .codes) (packetsOf f c) banks w ats i
-  pub lost : w .late ≡ true → inTime s (sentFrom s split p (packetsOf f c) .records) ≡ false
+  pub lost : w .late ≡ true → inTime s (allSent s p f c .records) ≡ false
 
--- ---- one packet more
+-- the same of every planner that has these banks and this front at the start
+abbrev pub UnderAny : Settings → List BankTrack → Front → Fields → Course → List BankTrack → Front → List ℕ → ℕ → Type 0
+UnderAny s start first f c banks w ats i = (p : PlannerState) → start ≡ p .channel .banks → first ≡ frontOf p → Under s p f c banks w ats i
+
+-- ---- one packet more, and the last
 
 module _ (s : Settings) (p : PlannerState) (f : Fields) (c : Course) (long : length (c .codes) ≡ 17) (most : c .count ≤ 17) where
   length-packets : length (packetsOf f c) ≡ c .count
@@ -205,26 +204,66 @@ module _ (s : Settings) (p : PlannerState) (f : Fields) (c : Course) (long : len
   packet-at : (i : ℕ) → i < length (packetsOf f c) → getD (packetsOf f c) i (packetIn f 0) ≡ packetIn f (getD (c .codes) i 0)
   packet-at i h = List·getD-map (packetIn f) (take (c .count) (c .codes)) i 0 ∙ ap (packetIn f) (getD-take (c .count) (c .codes) i 0 (rw length-packets at h))
 
-  pub under-turn : (banks : List BankTrack) (w : Front) (ats : List ℕ) (i : ℕ) → Under s p f c banks w ats i → i < c .count → w .late ≡ false
+  under-turn : (banks : List BankTrack) (w : Front) (ats : List ℕ) (i : ℕ) → Under s p f c banks w ats i → length banks ≡ 32 → length ats ≡ 17 → i < c .count → w .late ≡ false
       → (banks' : List BankTrack) (w' : Front) → Turn s (viewIn f (getD (c .codes) i 0)) banks w banks' w' → Under s p f c banks' w' (set ats i (w' .now)) (i + 1)
-  under-turn banks w ats i u h q banks' w' t =
+  under-turn banks w ats i u size wide h q banks' w' t =
       let n : i < length (packetsOf f c) = rw length-packets h in
       let g = u .on q in
       record {
-        within = omega arith;
-        size = rw (t .stored) (apart-length _ _ banks (u .size));
-        wide = length-set ats i (w' .now) ∙ u .wide;
-        on = turn-on s p f (c .codes) (packetsOf f c) packet-at banks w ats i g n (u .size) (let m = u .wide in omega arith) banks' w' t;
-        lost = turn-late s p f (c .codes) (packetsOf f c) packet-at banks w ats i g n (u .size) (let m = u .wide in omega arith) banks' w' t;
+        on = turn-on s p f (c .codes) (packetsOf f c) packet-at banks w ats i g n size (omega arith) banks' w' t;
+        lost = turn-late s p f (c .codes) (packetsOf f c) packet-at banks w ats i g n size (omega arith) banks' w' t;
       }
 
-pub under-start : (s : Settings) (p : PlannerState) (f : Fields) (c : Course) (w : Front) (ats : List ℕ) → w ≡ frontOf p → length (p .channel .banks) ≡ 32 → length ats ≡ 17
-    → p .now .0 ≤ horizon → Under s p f c (p .channel .banks) w ats 0
-under-start s p f c w ats e size wide n =
+  module _ (r : SeriesOf) (i : ℕ) (u : Under s p f c (r .banks) (r .front) (r .ats) i) (within : i ≤ c .count) (o : (c .count ≤ i) ⊎ (r .front .late ≡ true)) where
+    -- none late: all are sent
+    module _ (e : r .front .late ≡ false) where
+      at-end : i ≡ c .count
+      at-end = go o
+        where
+          go : (c .count ≤ i) ⊎ (r .front .late ≡ true) → i ≡ c .count
+          go (inl m) = omega arith
+          go (inr l) = not-both (r .front .late) l e
+
+      whole : sentFrom s split p (take i (packetsOf f c)) ≡ allSent s p f c
+      whole = ap (sentFrom s split p) (take-all i (packetsOf f c) (omega (arith, length-packets, at-end)))
+
+      g : Going s p f (c .codes) (packetsOf f c) (r .banks) (r .front) (r .ats) i
+      g = u .on e
+
+    late-all : r .front .late ≡ not (inTime s (allSent s p f c .records))
+    late-all = go (r .front .late) refl
+      where
+        go : (t : Bool) → r .front .late ≡ t → t ≡ not (inTime s (allSent s p f c .records))
+        go true e = rw (u .lost e)
+        go false e = rw (rw (whole e) at (g e .early))
+
+    sent-is : Sent s p f c r
+    sent-is =
+        record {
+          late = late-all;
+          channel = λ e. g e .channel ∙ ap (λ (d : Draft). d .planner .channel) (whole e);
+          now-is = λ e. g e .now-is ∙ ap (λ (d : Draft). d .planner .now .0) (whole e);
+          range = λ e. g e .range;
+          records = λ e. ap (recordsUpTo f (c .codes) (r .ats)) (sym (at-end e)) ∙ g e .done ∙ ap (λ (d : Draft). d .records) (whole e);
+        }
+
+under-start : (s : Settings) (p : PlannerState) (f : Fields) (c : Course) (w : Front) (ats : List ℕ) → w ≡ frontOf p → w .now ≤ horizon → Under s p f c (p .channel .banks) w ats 0
+under-start s p f c w ats e n =
     record {
-      within = omega arith;
-      size = size;
-      wide = wide;
-      on = λ q. going-start s p f (c .codes) (packetsOf f c) (p .channel .banks) w ats (rw e) (rw e) (rw e n);
+      on = λ q. going-start s p f (c .codes) (packetsOf f c) (p .channel .banks) w ats (rw e) (rw e) n;
       lost = λ q. not-both (w .late) q (rw e);
     }
+
+module _ (s : Settings) (start : List BankTrack) (first : Front) (f : Fields) (c : Course) where
+  pub any-start : (ats : List ℕ) → first .now ≤ horizon → UnderAny s start first f c start first ats 0
+  any-start ats n p eb ef = rw eb (under-start s p f c first ats ef n)
+
+  module _ (long : length (c .codes) ≡ 17) (most : c .count ≤ 17) where
+    pub any-turn : (banks : List BankTrack) (w : Front) (ats : List ℕ) (i : ℕ) → UnderAny s start first f c banks w ats i → length banks ≡ 32 → length ats ≡ 17 → i < c .count
+        → w .late ≡ false → (banks' : List BankTrack) (w' : Front) → Turn s (viewIn f (getD (c .codes) i 0)) banks w banks' w'
+        → UnderAny s start first f c banks' w' (set ats i (w' .now)) (i + 1)
+    any-turn banks w ats i u size wide h q banks' w' t p eb ef = under-turn s p f c long most banks w ats i (u p eb ef) size wide h q banks' w' t
+
+    pub any-sent : (r : SeriesOf) (i : ℕ) → UnderAny s start first f c (r .banks) (r .front) (r .ats) i → i ≤ c .count → (c .count ≤ i) ⊎ (r .front .late ≡ true)
+        → (p : PlannerState) → start ≡ p .channel .banks → first ≡ frontOf p → Sent s p f c r
+    any-sent r i u within o p eb ef = sent-is s p f c long most r i (u p eb ef) within o

@@ -1,0 +1,4 @@
+pub mod CodeViews
+pub mod TimeLaws
+pub mod GoingLaws
+pub mod TurnLaws
