@@ -42,9 +42,9 @@ use rules::BankTrack;
 use rules::Buffer;
 use settings::PacketAt;
 use settings::Settings;
-use state::bytes::buffer_in;
-use state::bytes::put_track;
-use state::bytes::track_in;
+use state_put::put_track;
+use state_read::buffer_in;
+use state_read::track_in;
 use store::touching::touch_of;
 
 // Whether the state that 752 bytes say is one that is not refused.
@@ -53,7 +53,7 @@ pub fn allowed(s: Settings, b: &[u8]) -> bool
     ensures { λ r. ⌜ r ≡ modelValid s split (modelIn (now (b .entry))) ⌝ }
 {
     num::both(
-        state::tested::channel_allowed(s, b),
+        state_tested::channel_allowed(s, b),
         num::u16_at(b, 732) < s.rows,
     )
 }
@@ -167,8 +167,8 @@ fn put_rest(b: &mut [u8], l: Lasts, buffer: Buffer, refr: u32, d: Dualoct)
     let col = PacketAt(l.col);
     let pre = PacketAt(l.pre);
     let rd = PacketAt(l.rd);
-    state::bytes::put_lasts(b, last, row, col, pre, rd);
-    state::bytes::put_buffer(b, buffer);
+    state_put::put_lasts(b, last, row, col, pre, rd);
+    state_put::put_buffer(b, buffer);
     puts::put_u16(b, 732, num::wide32(refr));
     puts::put_u16(b, 734, 0);
     puts::put_u64(b, 736, d.dqa);
