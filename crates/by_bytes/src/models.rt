@@ -61,10 +61,10 @@ pub fn step_by(
     }
     let zeros = num::u16_at(model, 734) == 0;
     let formed = state_read::buffer_right(model);
-    let allowed = device::lent::allowed(s, model);
+    let allowed = lent_read::allowed(s, model);
     let right = num::both(zeros, num::both(formed, allowed));
     if !right {
         return step_answer(Stepped::Refused(Refusal::Settings));
     }
-    step_answer(device::lent::step(s, model, store, given, room))
+    step_answer(lent::step(s, model, store, given, room))
 }
