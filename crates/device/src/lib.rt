@@ -10,7 +10,7 @@ ghost use Rattle.record.specs.Record.{recordFits};
 ghost use Rattle.rules.specs.Neighbour.{split};
 ghost use Rattle.model.specs.Store.{storeLength};
 ghost use Rattle.model.specs.Model.{freshModel, modelValid, modelNext};
-ghost use Rattle.model.specs.Step.{isTaken, recordAnswer, stepAnswer, stepModel, stepStore, stepRoom};
+ghost use Rattle.model.specs.Step.{recordAnswer, stepAnswer, stepModel, stepStore, stepRoom};
 ghost use Rattle.device.specs.Take.{takeModel, takeStore, takeRoom};
 use channel::beside::slot_of;
 use channel::views::held_of;
@@ -23,6 +23,7 @@ use record::Record;
 use record::RecordRead;
 use record::Refusal;
 use registers::bytes_next;
+use registers::is_taken;
 use registers::refr_next;
 use settings::Settings;
 use store::touching::touch_of;
@@ -36,18 +37,6 @@ pub struct Model {
 pub struct ModelStep {
     pub model: Model,
     pub answer: Stepped,
-}
-
-// Whether an answer is no refusal.
-pub fn is_taken(a: Stepped) -> bool
-    ensures { λ r. ⌜ r ≡ isTaken a ⌝ }
-{
-    match a {
-        Stepped::Refused(_) => false,
-        Stepped::Read => true,
-        Stepped::Retired(_) => true,
-        Stepped::Neither => true,
-    }
 }
 
 // The model after a record.

@@ -11,7 +11,6 @@ ghost use Rattle.model.specs.Step.{recordAnswer, stepAnswer, stepModel, stepSto
 ghost use Rattle.device.specs.Take.{takeModel, takeStore, takeRoom};
 use channel::views::held_of;
 use channel::views::view_of;
-use device::is_taken;
 use lent_put::put_next;
 use lent_read::data_in;
 use lent_read::judge_in;
@@ -20,6 +19,7 @@ use model::Stepped;
 use record::Record;
 use record::RecordRead;
 use record::Refusal;
+use registers::is_taken;
 use settings::Settings;
 use state_read::buffer_in;
 use store::touching::touch_of;

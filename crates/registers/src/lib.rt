@@ -1,9 +1,11 @@
-// What a model keeps beside the channel, after a record: REFR, and the data of the waiting write.
+// What a model keeps beside the channel, after a record: REFR, and the data of the waiting write; and whether the record is taken.
 ghost use mathlib.Core.Path.{_≡_};
 ghost use mathlib.Core.Bool.{cond};
 ghost use Prim.Native.Nat.{_+_, _%_, _<_};
 ghost use lib.Dec.{eqb};
 ghost use Rattle.model.specs.Model.{refrBy, refrNext, bytesNext};
+ghost use Rattle.model.specs.Step.{isTaken};
+use model::Stepped;
 use packet::RowPacket;
 use record::Dualoct;
 use record::Record;
@@ -54,5 +56,17 @@ pub fn bytes_next(r: Record, before: Dualoct) -> Dualoct
         Record::RowAt(_, _) => before,
         Record::ColAt(_, _) => before,
         Record::DataOf(_, d) => d,
+    }
+}
+
+// Whether an answer is no refusal.
+pub fn is_taken(a: Stepped) -> bool
+    ensures { λ r. ⌜ r ≡ isTaken a ⌝ }
+{
+    match a {
+        Stepped::Refused(_) => false,
+        Stepped::Read => true,
+        Stepped::Retired(_) => true,
+        Stepped::Neither => true,
     }
 }

@@ -1,8 +1,8 @@
--- `device::is_taken` meets its contract: by the answer.
+-- `registers::is_taken` meets its contract: by the answer.
 use Rattle.model.specs.Step.{isTaken}
 use borrow.Author.Needs.{needs}
-use Rattle.device.proofs.is_taken.Statement.{statement}
-use Rattle.device.proofs.is_taken.Tie as tie
+use Rattle.registers.proofs.is_taken.Statement.{statement}
+use Rattle.registers.proofs.is_taken.Tie as tie
 
 enum-told : tie.Need-enum-told
 enum-told c = search needs
