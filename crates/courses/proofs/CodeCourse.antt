@@ -19,7 +19,6 @@ use Rattle.record.specs.declared.Request.the-variants.{Read, Write as WriteTo, 
 use Rattle.rules.specs.declared.BankTrack.{BankTrack}
 use Rattle.rules.specs.declared.Buffer.{Buffer}
 use Rattle.rules.specs.Neighbour.{split}
-use Rattle.rules.specs.Packets.{isPacket}
 use Rattle.rules.specs.History.{isClosed}
 use Rattle.rules.specs.Channel.{idle, stateOf, waitingOf}
 use Rattle.rules.specs.Earliest.{placedAt}
@@ -29,10 +28,9 @@ use Rattle.plan.specs.declared.PlannerState.{PlannerState}
 use Rattle.plan.specs.Plan.{rowPacket, colPacket, openOn, hits}
 use Rattle.courses.specs.declared.Fields.{Fields}
 use Rattle.courses.specs.declared.Near.{Near}
-use Rattle.courses.specs.Course.{allPackets, bankAt, closing, closings, showsIn, threeOf, heldIn, fullMask, nocop, clearing, opening, isOpenAt, readCourse, writeMask, writeCourse, refreshCourse, drainCourse, bankIn}
+use Rattle.courses.specs.Course.{bankAt, closing, closings, showsIn, threeOf, heldIn, fullMask, nocop, clearing, opening, isOpenAt, readCourse, writeMask, writeCourse, refreshCourse, drainCourse, bankIn}
 use Rattle.courses.specs.Codes.{nocopCode, prerCode, actCode, refaCode, refpCode, rdCode, wrCode, rowBy, recordBy, recordIn, packetIn, closingCodes, threeCodes, showsBy, nearCodes, openCodes, readCodes, writeCodes, refreshCodes, drainCodes, codesOf, maskOf, fieldsOf, focusOf, isDrain, nearAt, nearIn, codesIn, fieldsIn, courseIn}
-use Rattle.courses.proofs.ShortLaws.{closings-same, clearing-short, drain-short, clearing-three}
-use Rattle.courses.proofs.CodeLaws.{near-short, saved}
+use Rattle.courses.proofs.ShortLaws.{closings-same, clearing-short, near-short, saved, drain-short, clearing-three}
 
 -- ---- a number as a packet
 
@@ -74,25 +72,7 @@ module _ (f : Fields) where
   unfolding recordBy
   wr-at x = by-parts x 6 0 (omega arith)
 
-  -- ---- each is a ROW or COL packet
-
-  pub code-packet : (code : ℕ) → isPacket (packetIn f code) ≡ true
-  unfolding recordBy isPacket
-  code-packet code = go (code / 8) (eqb (code % 8) 5) (eqb (code % 8) 6) (eqb (code % 8) 0)
-    where
-      go : (x : ℕ) (a b c : Bool)
-          → isPacket (cond a (colPacket (Rd x (f .column) fullMask)) (cond b (colPacket (Wr x (f .column) (f .carried))) (cond c (colPacket (Nocop (f .mask))) (rowPacket (rowBy x (code % 8) (f .row)))))) ≡ true
-      go x true b c = refl
-      go x false true c = refl
-      go x false false true = refl
-      go x false false false = refl
-
-  pub all-packets : (l : List ℕ) → allPackets (map (packetIn f) l) ≡ true
-  unfolding allPackets
-  all-packets [] = refl
-  all-packets (code ∷ l) = rw (code-packet code) (all-packets l)
-
-  -- and takes any instant
+  -- it takes any instant
   pub placed : (t code : ℕ) → placedAt t (packetIn f code) ≡ recordIn f code t
   unfolding recordBy placedAt
   placed t code = go (code / 8) (eqb (code % 8) 5) (eqb (code % 8) 6) (eqb (code % 8) 0)

@@ -2,7 +2,7 @@
 -- them one after the other is the plan of the request, in every state that is not refused.
 -- Assumes nothing.
 use Prim.Native.Nat.{ℕ, zero, suc, _+_, _-_, _%_}
-use mathlib.Core.Bool.{Bool, true, false, not, _&&_, _||_, cond}
+use mathlib.Core.Bool.{Bool, true, not, _&&_, _||_, cond}
 use mathlib.Core.List.{List, [], _∷_, _++_}
 use lib.Dec.{eqb, ltb}
 use lib.ListN.{getD}
@@ -16,18 +16,12 @@ use Rattle.record.specs.declared.Request.the-variants.{Read, Write as WriteTo, 
 use Rattle.rules.specs.declared.Bank.{Bank}
 use Rattle.rules.specs.declared.BankTrack.{BankTrack}
 use Rattle.rules.specs.Neighbour.{Relation, near}
-use Rattle.rules.specs.Packets.{isPacket}
 use Rattle.rules.specs.History.{isClosed}
 use Rattle.rules.specs.Channel.{idle, stateOf, waitingOf}
 use Rattle.channel.specs.declared.Held.{Held}
 use Rattle.channel.specs.View.{lowOf, highOf, heldOf}
 use Rattle.plan.specs.declared.PlannerState.{PlannerState}
 use Rattle.plan.specs.Plan.{Draft, rowPacket, colPacket, openOn, hits, sent}
-
--- all are ROW or COL packets, and none data
-unfoldable pub allPackets : List Record → Bool
-allPackets [] = true
-allPackets (r ∷ l) = isPacket r && allPackets l
 
 -- ---- banks closed
 

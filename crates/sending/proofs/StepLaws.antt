@@ -12,8 +12,9 @@ use Rattle.rules.specs.Checks.{since, boundIf}
 use Rattle.channel.specs.declared.Tracks.{Tracks}
 use Rattle.channel.specs.View.{three, rowView, colView, viewOf, heldOf}
 use Rattle.channel.specs.Earliest.{openBound, prechargeBound, readBound, writeBound, retireBound, earliestBy}
+use Rattle.tracks.specs.Tracks.{actView, refaView, prerView, refpView, rdView, wrView, nocopView}
 use Rattle.sending.specs.declared.Front.{Front}
-use Rattle.sending.specs.Sending.{actView, refaView, prerView, refpView, rdView, wrView, nocopView, slotBy, frontAt, frontAfter, Latest}
+use Rattle.sending.specs.Sending.{slotBy, frontAt, frontAfter, Latest}
 
 pub above-test : (a b : ℕ) → ltb a b ≡ not (leb b a)
 above-test a b = go (leb b a) refl
