@@ -26,11 +26,12 @@ use Rattle.rules.proofs.Bools.{not-both}
 use Rattle.validity.specs.Valid.{apart}
 use Rattle.channel.specs.View.{lowOf, highOf, heldOf}
 use Rattle.act_bounds.proofs.ActLaws.{near-test}
+use Rattle.tracks.specs.Tracks.{firstNear, lastNear}
 use Rattle.plan.specs.declared.PlannerState.{PlannerState}
 use Rattle.plan.specs.Plan.{rowPacket, colPacket}
 use Rattle.plan.proofs.Bound.{count, count-pairs}
 use Rattle.courses.specs.declared.Near.{Near}
-use Rattle.courses.specs.Course.{closing, closingIf, closings, showsIn, threeOf, firstNear, lastNear, heldIn, clearing}
+use Rattle.courses.specs.Course.{closing, closingIf, closings, showsIn, threeOf, heldIn, clearing}
 use Rattle.courses.specs.Codes.{nocopCode, prerCode, closingCodes, showsBy, nearCodes}
 
 -- ---- how many

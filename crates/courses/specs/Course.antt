@@ -1,7 +1,7 @@
 -- The packets of a request in their order, decided by the state before its first packet. A theorem in proofs/ says that sending
 -- them one after the other is the plan of the request, in every state that is not refused.
 -- Assumes nothing.
-use Prim.Native.Nat.{ℕ, zero, suc, _+_, _-_, _%_}
+use Prim.Native.Nat.{ℕ, zero, suc, _+_}
 use mathlib.Core.Bool.{Bool, true, not, _&&_, _||_, cond}
 use mathlib.Core.List.{List, [], _∷_, _++_}
 use lib.Dec.{eqb, ltb}
@@ -52,13 +52,6 @@ abbrev pub threeOf : ℕ → ℕ → ℕ → Bool → Bool → Bool → List Rec
 threeOf w mask b low own high = cond low (closing w mask (lowOf b)) [] ++ cond own (closing w mask b) [] ++ cond high (closing w mask (highOf b)) []
 
 -- ---- requests
-
--- the first and the last bank near a bank, where 15 and 16 are not neighbours
-abbrev pub firstNear : ℕ → ℕ
-firstNear b = cond (eqb (b % 16) 0) b (b - 1)
-
-abbrev pub lastNear : ℕ → ℕ
-lastNear b = cond (eqb (b % 16) 15) b (b + 1)
 
 abbrev pub heldIn : PlannerState → Held
 heldIn p = heldOf (p .channel .buffer)

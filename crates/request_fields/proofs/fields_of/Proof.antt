@@ -1,6 +1,6 @@
 -- `request_fields::fields_of` meets its contract: by the request.
-use mathlib.Core.Path.{_≡_}
-use Rattle.courses.specs.Codes.{maskOf, fieldsOf}
+use Rattle.courses.specs.Codes.{fieldsOf}
+use Rattle.request_fields.proofs.FieldLaws.{write-fields}
 use borrow.Author.Needs.{needs}
 use Rattle.request_fields.proofs.fields_of.Statement.{statement}
 use Rattle.request_fields.proofs.fields_of.Tie as tie
@@ -28,11 +28,9 @@ unfolding fieldsOf
 returns c = rw (c .before .q .given .1)
 
 returns-2 : tie.Need-returns-2
-unfolding fieldsOf
 returns-2 c =
     let z = c .before .before .before .before in
-    let carries : c .write-mask .result ≡ maskOf (z .args .t) (z .args .buffer) (z .args .mask) _ = c .write-mask .ensures in
-    rw (c .before .before .q2 .given .1, ← carries)
+    write-fields (z .args .q) (z .args .t) (z .args .buffer) (z .args .mask) _ _ _ _ (c .before .before .q2 .given .1) (c .write-mask .ensures)
 
 returns-3 : tie.Need-returns-3
 unfolding fieldsOf
