@@ -1,7 +1,7 @@
 -- The packets of a request in their order, decided by the state before its first packet. A theorem in proofs/ says that sending
 -- them one after the other is the plan of the request, in every state that is not refused.
 -- Assumes nothing.
-use Prim.Native.Nat.{ℕ, zero, suc, _+_}
+use Prim.Native.Nat.{ℕ, zero, suc}
 use mathlib.Core.Bool.{Bool, true, not, _&&_, _||_, cond}
 use mathlib.Core.List.{List, [], _∷_, _++_}
 use lib.Dec.{eqb, ltb}

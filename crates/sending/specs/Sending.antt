@@ -1,6 +1,6 @@
 -- A planner without its banks while packets are placed, after each packet.
 -- Assumes nothing.
-use Prim.Native.Nat.{ℕ, _+_, _-_, max}
+use Prim.Native.Nat.{ℕ, _+_, max}
 use mathlib.Core.Path.{_≡_}
 use mathlib.Core.Bool.{not, cond}
 use lib.Dec.{leb}

@@ -1,4 +1,4 @@
--- A view at another instant, the latest of a bank and its neighbours, and the stores that make the banks after a packet.
+-- The latest of a bank and its neighbours, and the stores that make the banks after a packet.
 -- Assumes nothing.
 use Prim.Native.Nat.{ℕ, _+_, _-_, _%_, _<_, max}
 use mathlib.Core.Path.{_≡_, refl, ap, sym, _∙_}
@@ -9,12 +9,6 @@ use borrow.Author.Tests.{eqb-false, lt-ltb}
 use lib.Dec.{eqb}
 use lib.ListN.{length, getD, set}
 use lib.Seq.{getD-set-same, getD-set-other, set-getD}
-use Rattle.settings.specs.declared.PacketAt.{PacketAt}
-use Rattle.packet.specs.declared.RowPacket.{RowPacket}
-use Rattle.packet.specs.declared.RowPacket.the-variants.{Act, Prer, Refa, Refp}
-use Rattle.packet.specs.declared.ColPacket.{ColPacket}
-use Rattle.packet.specs.declared.ColPacket.the-variants.{Nocop, Wr, Rd}
-use Rattle.record.specs.declared.Record.the-variants.{RowAt, ColAt}
 use Rattle.rules.specs.declared.BankTrack.{BankTrack}
 use Rattle.rules.specs.History.{isClosed}
 use Rattle.rules.specs.Checks.{since}
@@ -27,21 +21,6 @@ use Rattle.channel.proofs.JudgeLaws.{past}
 use Rattle.channel.proofs.StepLaws.{touch-in, touch-out}
 use Rattle.act_bounds.proofs.ActLaws.{since-max}
 use Rattle.tracks.specs.Tracks.{actView, refaView, prerView, refpView, rdView, wrView, nocopView, stampedAt, firstNear, lastNear}
-
--- ---- a view at another instant
-
-pub stamped-row : (t : ℕ) (u : PacketAt) (p : RowPacket) → stampedAt t (viewOf (RowAt u p)) ≡ viewOf (RowAt (record { 0 = t }) p)
-unfolding viewOf rowView
-stamped-row t u (Act b r) = refl
-stamped-row t u (Prer b) = refl
-stamped-row t u (Refa b) = refl
-stamped-row t u (Refp b) = refl
-
-pub stamped-col : (t : ℕ) (u : PacketAt) (p : ColPacket) → stampedAt t (viewOf (ColAt u p)) ≡ viewOf (ColAt (record { 0 = t }) p)
-unfolding viewOf colView
-stamped-col t u (Nocop m) = refl
-stamped-col t u (Wr b c m) = refl
-stamped-col t u (Rd b c m) = refl
 
 -- PRER and REFP are the same to the rules
 pub same-closing : (b : ℕ) → prerView b ≡ refpView b
@@ -229,10 +208,3 @@ module _ (t b : ℕ) (h : Held) where
           → z ≡ sideNext (stampedAt t (prerView b)) (getD (set (set banks b x) (firstNear b) y) (lastNear b) idle)
           → stores ≡ banksNext (stampedAt t (prerView b)) h banks
       prer-stored p q r = rw (r, q, p) closed-stored
-
-      pub refp-stored : x ≡ ownNext (stampedAt t (refpView b)) h (getD banks b idle)
-          → y ≡ sideNext (stampedAt t (refpView b)) (getD (set banks b x) (firstNear b) idle)
-          → z ≡ sideNext (stampedAt t (refpView b)) (getD (set (set banks b x) (firstNear b) y) (lastNear b) idle)
-          → stores ≡ banksNext (stampedAt t (refpView b)) h banks
-      unfolding viewOf rowView
-      refp-stored p q r = prer-stored p q r

@@ -1,6 +1,6 @@
 -- `ordering::push` meets its contract: a store at the end.
 use mathlib.Core.Path.{refl}
-use Rattle.ordering.proofs.ListedLaws.{codes-set}
+use Rattle.closing.proofs.NearCodeLaws.{codes-set}
 use borrow.Author.Needs.{needs}
 use Rattle.ordering.proofs.push.Statement.{statement}
 use Rattle.ordering.proofs.push.Tie as tie
