@@ -43,7 +43,8 @@ use Rattle.courses.specs.Codes.{recordIn, packetIn}
 use Rattle.courses.proofs.ClosingLaws.{all-append, all-one}
 use Rattle.courses.proofs.CodeCourse.{placed}
 use Rattle.sending.specs.declared.Front.{Front}
-use Rattle.sending.specs.Sending.{stampedAt, clip, slotBy, frontAt}
+use Rattle.tracks.specs.Tracks.{stampedAt}
+use Rattle.sending.specs.Sending.{clip, slotBy, frontAt}
 use Rattle.placing.specs.Drafts.{recordsUpTo, frontOf}
 use Rattle.placing.specs.Turns.{viewIn, slotIn, Turn}
 use Rattle.placing.proofs.TimeLaws.{sent-in-time, late-stays}
