@@ -60,11 +60,11 @@ pub fn step_by(
         return step_answer(Stepped::Refused(Refusal::Settings));
     }
     let zeros = num::u16_at(model, 734) == 0;
-    let formed = state::bytes::buffer_right(model);
-    let allowed = device::lent::allowed(s, model);
+    let formed = state_read::buffer_right(model);
+    let allowed = lent_read::allowed(s, model);
     let right = num::both(zeros, num::both(formed, allowed));
     if !right {
         return step_answer(Stepped::Refused(Refusal::Settings));
     }
-    step_answer(device::lent::step(s, model, store, given, room))
+    step_answer(lent::step(s, model, store, given, room))
 }

@@ -61,7 +61,7 @@ fn allowed(s: Settings, b: &[u8]) -> bool
     let fields = num::both(now, num::both(num::u16_at(b, 736) < 32, mask));
     let kind = num::wide(b[724]);
     let between = num::both(none_refreshed(b), num::both(kind < 2, fields));
-    num::both(state::tested::channel_allowed(s, b), between)
+    num::both(state_tested::channel_allowed(s, b), between)
 }
 
 // A plan call under settings that are accepted. The state of a refused call is the one that was given, and its bytes the same.
@@ -72,7 +72,7 @@ pub fn plan_by(s: Settings, planner: &mut [u8], request: &[u8], room: &mut [u8])
     if planner.len() != 740 {
         return plan_answer(Outcome::Refused(Refusal::Settings));
     }
-    let formed = state::bytes::buffer_right(planner);
+    let formed = state_read::buffer_right(planner);
     let right = num::both(formed, allowed(s, planner));
     if !right {
         return plan_answer(Outcome::Refused(Refusal::Settings));

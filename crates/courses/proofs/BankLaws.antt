@@ -1,7 +1,7 @@
 -- Every packet of a request is to a bank below 32.
 -- Assumes nothing.
-use Prim.Native.Nat.{ℕ, zero, suc, _+_, _*_, _≤_, _<_}
-use mathlib.Core.Path.{_≡_, refl, sym, _∙_}
+use Prim.Native.Nat.{ℕ, zero, suc, _≤_, _<_}
+use mathlib.Core.Path.{_≡_, refl}
 use mathlib.Core.Bool.{Bool, true, false, not, _&&_, cond, and-eq-true-iff}
 use mathlib.Core.List.{List, [], _∷_, _++_}
 use lib.Dec.{eqb, ltb}
@@ -20,7 +20,7 @@ use Rattle.plan.specs.declared.PlannerState.{PlannerState}
 use Rattle.plan.specs.Plan.{openOn, hits}
 use Rattle.courses.specs.declared.Near.{Near}
 use Rattle.courses.specs.Course.{bankAt, bankIn}
-use Rattle.courses.specs.Codes.{nocopCode, prerCode, actCode, refaCode, refpCode, rdCode, wrCode, inBanks, closingCodes, showsBy, nearCodes, openCodes, readCodes, writeCodes, refreshCodes, drainCodes, codesOf, focusOf, isDrain, nearIn, codesIn}
+use Rattle.courses.specs.Codes.{nocopCode, prerCode, actCode, refaCode, refpCode, rdCode, wrCode, inBanks, closingCodes, showsBy, nearCodes, openCodes, readCodes, writeCodes, refreshCodes, drainCodes, codesOf, isDrain, nearIn, codesIn}
 
 in-append : (a b : List ℕ) → inBanks a ≡ true → inBanks b ≡ true → inBanks (a ++ b) ≡ true
 unfolding inBanks

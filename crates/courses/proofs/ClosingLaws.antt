@@ -8,7 +8,7 @@ use mathlib.Core.List.{List, [], _∷_, _++_}
 use mathlib.Core.Logic.{_⊎_, ⊎-elim, inl, inr}
 use mathlib.Core.Option.{Option, none, some}
 use lib.Dec.{eqb}
-use borrow.Author.Tests.{eqb-true, eqb-false, eq-eqb, ne-eqb, not-true, not-false}
+use borrow.Author.Tests.{eqb-true, eqb-false, ne-eqb}
 use native.Mathlib.Omega.{arith}
 use Rattle.settings.specs.declared.Settings.{Settings}
 use Rattle.packet.specs.declared.RowPacket.the-variants.{Prer}
@@ -20,7 +20,7 @@ use Rattle.rules.specs.declared.Write.{Write}
 use Rattle.rules.specs.Neighbour.{Relation, near}
 use Rattle.rules.specs.History.{isClosed, bankOf}
 use Rattle.rules.specs.Rules.{bankCount, ofBank}
-use Rattle.rules.proofs.Bools.{not-both, and-left, and-right, eqb-sym}
+use Rattle.rules.proofs.Bools.{not-both, and-left, eqb-sym}
 use Rattle.plan.specs.Plan.{Draft, rowPacket, colPacket, when, waiting, stateIn, carried, maskFor, sent, flushed, closed, closedUpTo}
 use Rattle.plan.proofs.SentLaws.{when-either, Sized, flushed-waiting, saved, closed-state, closed-waiting, up-to-size, sent-mask}
 use Rattle.courses.specs.Course.{closing, closingIf, closings, sentAll}

@@ -5,34 +5,30 @@ use mathlib.Core.Path.{_≡_, refl, sym, ap, _∙_}
 use mathlib.Core.Bool.{Bool, true, false, not, _&&_, cond}
 use mathlib.Core.List.{List, [], _∷_, _++_, map, map-append}
 use lib.Dec.{eqb, ltb, leb, leb·zero}
-use lib.ListN.{length, length-append, length-map, getD}
+use lib.ListN.{length, length-map, getD}
 use borrow.Author.Tests.{ne-eqb, lt-ltb, ltb-true}
 use native.Mathlib.Omega.{arith}
 use Rattle.packet.specs.declared.RowPacket.the-variants.{Act, Prer, Refa, Refp}
 use Rattle.packet.specs.declared.ColPacket.the-variants.{Nocop, Wr, Rd}
-use Rattle.record.specs.declared.Dualoct.{Dualoct}
 use Rattle.record.specs.declared.Record.{Record}
 use Rattle.record.specs.declared.Record.the-variants.{RowAt, ColAt}
 use Rattle.record.specs.declared.Place.{Place}
 use Rattle.record.specs.declared.Request.{Request}
 use Rattle.record.specs.declared.Request.the-variants.{Read, Write as WriteTo, Refresh as RefreshBank, Wait, Drain}
 use Rattle.rules.specs.declared.BankTrack.{BankTrack}
-use Rattle.rules.specs.declared.Buffer.{Buffer}
 use Rattle.rules.specs.Neighbour.{split}
-use Rattle.rules.specs.Packets.{isPacket}
 use Rattle.rules.specs.History.{isClosed}
-use Rattle.rules.specs.Channel.{idle, stateOf, waitingOf}
+use Rattle.rules.specs.Channel.{idle, waitingOf}
 use Rattle.rules.specs.Earliest.{placedAt}
 use Rattle.validity.specs.Valid.{apart}
-use Rattle.channel.specs.View.{lowOf, highOf, slotOf, heldOf}
+use Rattle.channel.specs.View.{lowOf, highOf, slotOf}
 use Rattle.plan.specs.declared.PlannerState.{PlannerState}
 use Rattle.plan.specs.Plan.{rowPacket, colPacket, openOn, hits}
 use Rattle.courses.specs.declared.Fields.{Fields}
 use Rattle.courses.specs.declared.Near.{Near}
-use Rattle.courses.specs.Course.{allPackets, bankAt, closing, closings, showsIn, threeOf, heldIn, fullMask, nocop, clearing, opening, isOpenAt, readCourse, writeMask, writeCourse, refreshCourse, drainCourse, bankIn}
-use Rattle.courses.specs.Codes.{nocopCode, prerCode, actCode, refaCode, refpCode, rdCode, wrCode, rowBy, recordBy, recordIn, packetIn, closingCodes, threeCodes, showsBy, nearCodes, openCodes, readCodes, writeCodes, refreshCodes, drainCodes, codesOf, maskOf, fieldsOf, focusOf, isDrain, nearAt, nearIn, codesIn, fieldsIn, courseIn}
-use Rattle.courses.proofs.ShortLaws.{closings-same, clearing-short, drain-short, clearing-three}
-use Rattle.courses.proofs.CodeLaws.{near-short, saved}
+use Rattle.courses.specs.Course.{bankAt, closing, closings, showsIn, threeOf, heldIn, fullMask, nocop, clearing, opening, isOpenAt, readCourse, writeMask, writeCourse, refreshCourse, drainCourse, bankIn}
+use Rattle.courses.specs.Codes.{nocopCode, prerCode, actCode, refaCode, refpCode, rdCode, wrCode, rowBy, recordBy, recordIn, packetIn, closingCodes, threeCodes, showsBy, nearCodes, openCodes, readCodes, writeCodes, refreshCodes, drainCodes, codesOf, maskOf, fieldsOf, focusOf, isDrain, nearAt, codesIn, fieldsIn, courseIn}
+use Rattle.courses.proofs.ShortLaws.{closings-same, drain-short, clearing-three}
 
 -- ---- a number as a packet
 
@@ -74,25 +70,7 @@ module _ (f : Fields) where
   unfolding recordBy
   wr-at x = by-parts x 6 0 (omega arith)
 
-  -- ---- each is a ROW or COL packet
-
-  pub code-packet : (code : ℕ) → isPacket (packetIn f code) ≡ true
-  unfolding recordBy isPacket
-  code-packet code = go (code / 8) (eqb (code % 8) 5) (eqb (code % 8) 6) (eqb (code % 8) 0)
-    where
-      go : (x : ℕ) (a b c : Bool)
-          → isPacket (cond a (colPacket (Rd x (f .column) fullMask)) (cond b (colPacket (Wr x (f .column) (f .carried))) (cond c (colPacket (Nocop (f .mask))) (rowPacket (rowBy x (code % 8) (f .row)))))) ≡ true
-      go x true b c = refl
-      go x false true c = refl
-      go x false false true = refl
-      go x false false false = refl
-
-  pub all-packets : (l : List ℕ) → allPackets (map (packetIn f) l) ≡ true
-  unfolding allPackets
-  all-packets [] = refl
-  all-packets (code ∷ l) = rw (code-packet code) (all-packets l)
-
-  -- and takes any instant
+  -- it takes any instant
   pub placed : (t code : ℕ) → placedAt t (packetIn f code) ≡ recordIn f code t
   unfolding recordBy placedAt
   placed t code = go (code / 8) (eqb (code % 8) 5) (eqb (code % 8) 6) (eqb (code % 8) 0)
@@ -245,53 +223,3 @@ codes-course p (WriteTo at mask bytes) e m =
 codes-course p RefreshBank e m = refresh-map p (fieldsIn p RefreshBank) refl m
 codes-course p (Wait cycles) e m = refl
 codes-course p Drain e m = drain-map p (fieldsIn p Drain) refl
-
--- ---- how many
-
-near-few : (p : PlannerState) (b : ℕ) → b < 32 → length (nearCodes (nearAt (p .channel .banks) b) (p .channel .buffer) b) ≤ 4
-near-few p b m =
-    let f : Fields = record { row = 0; column = 0; mask = p .mask; carried = 0 } in
-    omega (arith, length-map (nearCodes (nearAt (p .channel .banks) b) (p .channel .buffer) b) (packetIn f), ap length (near-map p f refl b m), clearing-short p b m)
-
--- a bank reached, where it is not open
-reach-few : (t : Near) (buffer : Buffer) (b n : ℕ) → length (nearCodes t buffer b) ≤ n → (o : Bool) (l : List ℕ) → length l ≤ 1
-    → length (cond o l (nearCodes t buffer b ++ (actCode b ∷ []))) ≤ n + 1
-reach-few t buffer b n h true l k = omega arith
-reach-few t buffer b n h false l k = omega (arith, length-append (nearCodes t buffer b) (actCode b ∷ []))
-
-write-length : (t : Near) (buffer : Buffer) (at : Place) (n : ℕ) → length (nearCodes t buffer (at .bank)) ≤ n → length (writeCodes t buffer at) ≤ n + 2
-unfolding writeCodes
-write-length t buffer at n h =
-    let o : Bool = openOn (t .own .bank) (at .row) in
-    omega (arith, length-append (cond o [] (nearCodes t buffer (at .bank) ++ (actCode (at .bank) ∷ []))) (wrCode (at .bank) ∷ []), reach-few t buffer (at .bank) n h o [] (omega arith))
-
--- no write makes more than six packets
-pub write-few : (p : PlannerState) (at : Place) (mask : ℕ) (bytes : Dualoct) → bankIn (WriteTo at mask bytes) ≡ true → length (codesIn p (WriteTo at mask bytes)) ≤ 6
-unfolding bankIn isDrain focusOf codesOf codesIn
-write-few p at mask bytes e = write-length (nearAt (p .channel .banks) (at .bank)) (p .channel .buffer) at 4 (near-few p (at .bank) (ltb-true (at .bank) 32 e))
-
-module _ (t : Near) (buffer : Buffer) where
-  read-length : (at : Place) → length (readCodes t buffer at) ≤ 8
-  unfolding readCodes
-  read-length at =
-      let o : Bool = openOn (t .own .bank) (at .row) in
-      let h : Bool = hits (waitingOf buffer) (at .bank) (at .column) in
-      omega (arith, length-append (cond o (cond h (nocopCode ∷ []) []) (nearCodes t buffer (at .bank) ++ (actCode (at .bank) ∷ []))) (rdCode (at .bank) ∷ []), reach-few t buffer (at .bank) 6 (near-short t buffer (at .bank)) o (cond h (nocopCode ∷ []) []) (saved h))
-
-  refresh-length : (b : ℕ) → length (refreshCodes t buffer b) ≤ 8
-  unfolding refreshCodes
-  refresh-length b =
-      let l : List ℕ = nearCodes t buffer b in
-      omega (arith, length-append (l ++ (refaCode b ∷ [])) (refpCode b ∷ []), length-append l (refaCode b ∷ []), near-short t buffer b)
-
-pub codes-few : (p : PlannerState) (q : Request) → apart split (stateOf (p .channel)) ≡ true → length (codesIn p q) ≤ 17
-unfolding isDrain focusOf codesOf codesIn drainCodes
-codes-few p (Read at) e = omega (arith, read-length (nearIn p (Read at)) (p .channel .buffer) at)
-codes-few p (WriteTo at mask bytes) e =
-    let t : Near = nearIn p (WriteTo at mask bytes) in
-    omega (arith, write-length t (p .channel .buffer) at 6 (near-short t (p .channel .buffer) (at .bank)))
-codes-few p RefreshBank e = omega (arith, refresh-length (nearIn p RefreshBank) (p .channel .buffer) (p .refresh))
-codes-few p (Wait cycles) e = omega arith
-codes-few p Drain e =
-    let w : Bool = heldOf (p .channel .buffer) .waits in
-    omega (arith, length-append (cond w (nocopCode ∷ []) []) (openCodes (p .channel .banks) 32), saved w, open-short (p .channel .banks) e)

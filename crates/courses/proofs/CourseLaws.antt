@@ -1,20 +1,20 @@
 -- The plan of a request is its course sent packet after packet, in every state that is not refused.
 -- Assumes nothing.
 use Prim.Native.Nat.{ℕ, zero, suc, _≤_, _<_}
-use mathlib.Core.Path.{_≡_, refl, sym, ap, ap₂, _∙_}
-use mathlib.Core.Bool.{Bool, true, false, not, _&&_, _||_, cond}
+use mathlib.Core.Path.{_≡_, refl, sym, ap, _∙_}
+use mathlib.Core.Bool.{Bool, true, false, not, _&&_, cond}
 use mathlib.Core.List.{List, [], _∷_, _++_}
-use mathlib.Core.Logic.{_⊎_, ⊎-elim, inl, inr}
+use mathlib.Core.Logic.{⊎-elim}
 use mathlib.Core.Option.{Option, none, some}
 use lib.Dec.{eqb}
 use native.Mathlib.Omega.{arith}
 use Rattle.settings.specs.declared.Settings.{Settings}
 use Rattle.packet.specs.declared.RowPacket.the-variants.{Act, Refa, Refp}
-use Rattle.packet.specs.declared.ColPacket.the-variants.{Nocop, Wr, Rd}
+use Rattle.packet.specs.declared.ColPacket.the-variants.{Nocop}
 use Rattle.record.specs.declared.Dualoct.{Dualoct}
 use Rattle.record.specs.declared.Record.{Record}
 use Rattle.record.specs.declared.Place.{Place}
-use Rattle.record.specs.declared.Request.the-variants.{Read, Write as WriteTo, Refresh as RefreshBank, Wait, Drain}
+use Rattle.record.specs.declared.Request.the-variants.{Read, Write as WriteTo, Refresh as RefreshBank, Drain}
 use Rattle.rules.specs.declared.Bank.{Bank}
 use Rattle.rules.specs.declared.Bank.the-variants.{Closed, Open, Refresh}
 use Rattle.rules.specs.declared.Write.{Write}
@@ -27,10 +27,10 @@ use Rattle.rules.specs.Channel.{stateOf, waitingOf}
 use Rattle.rules.proofs.Bools.{neither}
 use Rattle.channel.specs.View.{heldOf}
 use Rattle.plan.specs.declared.PlannerState.{PlannerState}
-use Rattle.plan.specs.Plan.{Draft, rowPacket, colPacket, when, waiting, stateIn, carried, maskFor, openOn, hits, sent, flushed, closedUpTo, reached, plannedRead, loaded, written, plannedWrite, turned, plannedRefresh, plannedDrain, stepsOf, planned}
+use Rattle.plan.specs.Plan.{Draft, rowPacket, colPacket, when, waiting, stateIn, carried, maskFor, hits, sent, flushed, closedUpTo, reached, plannedRead, loaded, written, plannedWrite, turned, plannedRefresh, plannedDrain, stepsOf, planned}
 use Rattle.plan.proofs.SentLaws.{Sized, row-waiting, sent-mask, flushed-waiting, flushed-size, flushed-state}
 use Rattle.plan.proofs.Invariant.{WriteIn, Inv}
-use Rattle.courses.specs.Course.{closings, closingIf, heldIn, fullMask, nocop, clearing, opening, isOpenAt, rdAt, readCourse, wrAt, writeMask, writeCourse, refreshCourse, drainCourse, sentAll, sentFrom}
+use Rattle.courses.specs.Course.{closings, heldIn, fullMask, nocop, clearing, opening, isOpenAt, rdAt, readCourse, wrAt, writeMask, writeCourse, refreshCourse, drainCourse, sentAll, sentFrom}
 use Rattle.courses.proofs.ClosingLaws.{all-append, all-one, Waits, no-write, one-write, still, mask-same, closings-sent}
 
 -- a planner before its first packet of a call

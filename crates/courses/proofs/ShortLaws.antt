@@ -2,12 +2,12 @@
 -- closed, so that at most 16 banks are open.
 -- Assumes nothing.
 use Prim.Native.Nat.{ℕ, zero, suc, _+_, _-_, _*_, _/_, _%_, _≤_, _<_}
-use mathlib.Core.Path.{_≡_, refl, sym, ap, ap₂, _∙_}
-use mathlib.Core.Bool.{Bool, true, false, not, _&&_, _||_, cond, and-eq-true-iff}
+use mathlib.Core.Path.{_≡_, refl, sym, _∙_}
+use mathlib.Core.Bool.{Bool, true, false, not, _&&_, _||_, cond}
 use mathlib.Core.List.{List, [], _∷_, _++_, append-nil}
 use lib.Dec.{eqb, leb, ltb, leb·zero}
 use lib.ListN.{length, length-append}
-use borrow.Author.Tests.{eq-eqb, ne-eqb, eqb-true, eqb-false, lt-ltb, le-ltb, ltb-true, ltb-false, le-leb, lt-leb, leb-true, leb-false}
+use borrow.Author.Tests.{eq-eqb, eqb-true, eqb-false, lt-ltb, le-ltb, ltb-true, le-leb, lt-leb}
 use native.Mathlib.Numerals.{add-one}
 use native.Mathlib.Nat.{add-suc, add-zero}
 use native.Mathlib.Omega.{arith}
@@ -16,34 +16,25 @@ use Rattle.num.proofs.SearchLaws.{all-at}
 use Rattle.packet.specs.declared.RowPacket.the-variants.{Prer}
 use Rattle.packet.specs.declared.ColPacket.the-variants.{Nocop}
 use Rattle.record.specs.declared.Record.{Record}
-use Rattle.record.specs.declared.Place.{Place}
 use Rattle.rules.specs.declared.Bank.{Bank}
+use Rattle.rules.specs.declared.Buffer.{Buffer}
 use Rattle.rules.specs.Neighbour.{split, near}
-use Rattle.rules.specs.Packets.{isPacket}
 use Rattle.rules.specs.History.{isClosed}
 use Rattle.rules.specs.Rules.{bankCount}
 use Rattle.rules.specs.Channel.{stateOf}
-use Rattle.rules.proofs.Bools.{iff-eq, not-both, and-left, and-right}
+use Rattle.rules.proofs.Bools.{not-both}
 use Rattle.validity.specs.Valid.{apart}
-use Rattle.channel.specs.View.{lowOf, highOf}
-use Rattle.channel.proofs.NearLaws.{Beside, own, low, high, near-beside, near-own, near-low, near-high}
+use Rattle.channel.specs.View.{lowOf, highOf, heldOf}
+use Rattle.act_bounds.proofs.ActLaws.{near-test}
+use Rattle.tracks.specs.Tracks.{firstNear, lastNear}
 use Rattle.plan.specs.declared.PlannerState.{PlannerState}
 use Rattle.plan.specs.Plan.{rowPacket, colPacket}
 use Rattle.plan.proofs.Bound.{count, count-pairs}
-use Rattle.courses.specs.Course.{allPackets, closing, closingIf, closings, showsIn, threeOf, firstNear, lastNear, heldIn, clearing, opening, readCourse, writeCourse, refreshCourse, drainCourse}
-use Rattle.courses.proofs.ListedLaws.{packets-append}
+use Rattle.courses.specs.declared.Near.{Near}
+use Rattle.courses.specs.Course.{closing, closingIf, closings, showsIn, threeOf, heldIn, clearing}
+use Rattle.courses.specs.Codes.{nocopCode, prerCode, closingCodes, showsBy, nearCodes}
 
 -- ---- how many
-
-count-from : (p : ℕ → Bool) (from n : ℕ) → count (λ x. leb from x && p x) n ≤ n - from
-unfolding count
-count-from p from zero = omega arith
-count-from p from (suc n) = go (leb from n) (p n) refl (count-from p from n)
-  where
-    go : (a b : Bool) → leb from n ≡ a → count (λ x. leb from x && p x) n ≤ n - from → cond (a && b) 1 0 + count (λ x. leb from x && p x) n ≤ suc n - from
-    go true true e ih = let l : from ≤ n = leb-true from n e in omega arith
-    go true false e ih = omega arith
-    go false b e ih = omega arith
 
 -- whether a number is below another, as a number
 bit-up : (w n : ℕ) → cond (ltb w n) 1 0 ≤ cond (ltb w (suc n)) 1 0
@@ -82,13 +73,6 @@ module _ (state : ℕ → Bank) (w mask : ℕ) (pick : ℕ → Bool) where
       go true false e ih = omega (arith, bit-up w n)
       go false u e ih = omega (arith, bit-up w n)
 
-  -- more banks, more packets
-  pub closings-grow : (n k : ℕ) → length (closings state w mask pick n) ≤ length (closings state w mask pick (n + k))
-  unfolding closings
-  closings-grow n zero = rw (add-zero n) (omega arith)
-  closings-grow n (suc k) =
-      rw (add-suc n k, length-append (closings state w mask pick (n + k)) (closingIf state w mask pick (n + k))) (omega (arith, closings-grow n k))
-
   -- banks that are not picked add none
   pub closings-past : (n k : ℕ) → ((x : ℕ) → n ≤ x → x < n + k → pick x ≡ false) → closings state w mask pick (n + k) ≡ closings state w mask pick n
   unfolding closings
@@ -96,16 +80,6 @@ module _ (state : ℕ → Bank) (w mask : ℕ) (pick : ℕ → Bool) where
   closings-past n (suc k) h =
       rw (add-suc n k, h (n + k) (omega arith) (omega arith), append-nil (closings state w mask pick (n + k)))
       (closings-past n k (λ x a b. h x a (omega arith)))
-
-  pub closings-packets : (n : ℕ) → allPackets (closings state w mask pick n) ≡ true
-  unfolding closings allPackets isPacket
-  closings-packets zero = refl
-  closings-packets (suc n) = packets-append (closings state w mask pick n) (closingIf state w mask pick n) ∙ rw (closings-packets n) (go (isOpenBank n) (eqb n w))
-    where
-      go : (t u : Bool) → allPackets (cond t (cond u (colPacket (Nocop mask) ∷ rowPacket (Prer n) ∷ []) (rowPacket (Prer n) ∷ [])) []) ≡ true
-      go true true = refl
-      go true false = refl
-      go false u = refl
 
 -- banks picked alike are closed alike
 pub closings-same : (state : ℕ → Bank) (w mask : ℕ) (p q : ℕ → Bool) (n : ℕ) → ((x : ℕ) → x < n → p x ≡ q x) → closings state w mask p n ≡ closings state w mask q n
@@ -122,74 +96,6 @@ closings-none state w mask from =
 
 -- ---- banks near a bank
 
-module _ (b x : ℕ) (m : x < 32) where
-  low-at : x + 1 ≡ b → (b % 16 ≡ 0 → ⊥) → near split b x ≡ true
-  low-at q n =
-      let e : lowOf b ≡ x = rw (ne-eqb (b % 16) 0 n) (omega arith) in
-      rw e at (near-low b (rw e m))
-
-  high-at : x ≡ b + 1 → (b % 16 ≡ 15 → ⊥) → near split b x ≡ true
-  high-at q n =
-      let e : highOf b ≡ x = rw (ne-eqb (b % 16) 15 n) (omega arith) in
-      rw e at (near-high b (rw e m))
-
-  own-at : x ≡ b → near split b x ≡ true
-  own-at q = rw q (near-own b)
-
-  inside : firstNear b ≤ x → x ≤ lastNear b → near split b x ≡ true
-  inside = go (eqb (b % 16) 0) (eqb (b % 16) 15) refl refl
-    where
-      beside : (b % 16 ≡ 0 → b ≤ x) → (b % 16 ≡ 15 → x ≤ b) → b ≤ x + 1 → x ≤ b + 1 → near split b x ≡ true
-      beside f g i j = pick3 (eqb x b) (ltb x b) refl refl
-        where
-          pick3 : (t u : Bool) → eqb x b ≡ t → ltb x b ≡ u → near split b x ≡ true
-          pick3 true u e k = own-at (eqb-true x b e)
-          pick3 false true e k = let l : x < b = ltb-true x b k in low-at (omega arith) (λ z. let y = f z in omega arith)
-          pick3 false false e k = let l : b ≤ x = ltb-false x b k in let n : x ≡ b → ⊥ = eqb-false x b e in high-at (omega arith) (λ z. let y = g z in omega arith)
-
-      go : (t u : Bool) → eqb (b % 16) 0 ≡ t → eqb (b % 16) 15 ≡ u → cond t b (b - 1) ≤ x → x ≤ cond u b (b + 1) → near split b x ≡ true
-      go true true e f i j = own-at (omega arith)
-      go true false e f i j = let n : b % 16 ≡ 15 → ⊥ = eqb-false (b % 16) 15 f in beside (λ z. i) (λ z. absurd (n z)) (omega arith) (omega arith)
-      go false true e f i j = let n : b % 16 ≡ 0 → ⊥ = eqb-false (b % 16) 0 e in beside (λ z. absurd (n z)) (λ z. j) (omega arith) (omega arith)
-      go false false e f i j = let n : b % 16 ≡ 0 → ⊥ = eqb-false (b % 16) 0 e in let o : b % 16 ≡ 15 → ⊥ = eqb-false (b % 16) 15 f in beside (λ z. absurd (n z)) (λ z. absurd (o z)) (omega arith) (omega arith)
-
-  outside : Beside b x → (firstNear b ≤ x) × (x ≤ lastNear b)
-  outside (own q) = (first (eqb (b % 16) 0), last (eqb (b % 16) 15))
-    where
-      first : (t : Bool) → cond t b (b - 1) ≤ x
-      first true = omega arith
-      first false = omega arith
-
-      last : (t : Bool) → x ≤ cond t b (b + 1)
-      last true = omega arith
-      last false = omega arith
-  outside (low q) = (first (eqb (b % 16) 0) q, last (eqb (b % 16) 0) (eqb (b % 16) 15) q)
-    where
-      first : (t : Bool) → x ≡ cond t 32 (b - 1) → cond t b (b - 1) ≤ x
-      first true e = absurd (omega arith)
-      first false e = omega arith
-
-      last : (t u : Bool) → x ≡ cond t 32 (b - 1) → x ≤ cond u b (b + 1)
-      last true u e = absurd (omega arith)
-      last false true e = omega arith
-      last false false e = omega arith
-  outside (high q) = (first (eqb (b % 16) 15) (eqb (b % 16) 0) q, last (eqb (b % 16) 15) q)
-    where
-      first : (t u : Bool) → x ≡ cond t 32 (b + 1) → cond u b (b - 1) ≤ x
-      first true u e = absurd (omega arith)
-      first false true e = omega arith
-      first false false e = omega arith
-
-      last : (t : Bool) → x ≡ cond t 32 (b + 1) → x ≤ cond t b (b + 1)
-      last true e = absurd (omega arith)
-      last false e = omega arith
-
-  near-range : near split b x ≡ leb (firstNear b) x && leb x (lastNear b)
-  near-range =
-      iff-eq (near split b x) (leb (firstNear b) x && leb x (lastNear b))
-      (λ e. let o = outside (near-beside b x e) in rw (le-leb (firstNear b) x (o .0), le-leb x (lastNear b) (o .1)))
-      (λ e. inside (leb-true _ _ (and-left (leb (firstNear b) x) _ e)) (leb-true _ _ (and-right (leb (firstNear b) x) _ e)))
-
 near-three : (b : ℕ) → (firstNear b ≤ lastNear b + 1) × (lastNear b + 1 ≤ firstNear b + 3) × (b < 32 → lastNear b + 1 ≤ 32)
 near-three b = go (eqb (b % 16) 0) (eqb (b % 16) 15) refl
   where
@@ -202,9 +108,6 @@ near-three b = go (eqb (b % 16) 0) (eqb (b % 16) 15) refl
 -- ---- a bank and its neighbours closed
 
 module _ (p : PlannerState) (b : ℕ) (m : b < 32) where
-  abbrev ranged : List Record
-  ranged = closings (stateOf (p .channel)) (heldIn p .bank) (p .mask) (leb (firstNear b)) (lastNear b + 1)
-
   pub clearing-range : clearing split p b ≡ closings (stateOf (p .channel)) (heldIn p .bank) (p .mask) (leb (firstNear b)) (lastNear b + 1)
   unfolding clearing
   clearing-range =
@@ -212,9 +115,9 @@ module _ (p : PlannerState) (b : ℕ) (m : b < 32) where
       let k : ℕ = 32 - (lastNear b + 1) in
       let e : lastNear b + 1 + k ≡ 32 = omega arith in
       rw e at (closings-past (stateOf (p .channel)) (heldIn p .bank) (p .mask) (near split b) (lastNear b + 1) k
-      (λ x i j. near-range b x (omega arith) ∙ rw (lt-leb x (lastNear b) (omega arith)) (and-none (leb (firstNear b) x))))
+      (λ x i j. near-test b x (omega arith) ∙ rw (lt-leb x (lastNear b) (omega arith)) (and-none (leb (firstNear b) x))))
       ∙ closings-same (stateOf (p .channel)) (heldIn p .bank) (p .mask) (near split b) (leb (firstNear b)) (lastNear b + 1)
-      (λ x l. near-range b x (omega arith) ∙ rw (le-leb x (lastNear b) (omega arith)) (and-all (leb (firstNear b) x)))
+      (λ x l. near-test b x (omega arith) ∙ rw (le-leb x (lastNear b) (omega arith)) (and-all (leb (firstNear b) x)))
     where
       and-none : (a : Bool) → a && false ≡ false
       and-none true = refl
@@ -224,13 +127,27 @@ module _ (p : PlannerState) (b : ℕ) (m : b < 32) where
       and-all true = refl
       and-all false = refl
 
-  ranged-short : length ranged ≤ 4
-  ranged-short =
-      let n = near-three b in
-      omega (arith, closings-length (stateOf (p .channel)) (heldIn p .bank) (p .mask) (leb (firstNear b)) (lastNear b + 1), count-from (λ x. not (isClosed (stateOf (p .channel) x))) (firstNear b) (lastNear b + 1), bit-le (ltb (heldIn p .bank) (lastNear b + 1)))
+-- ---- the same as numbers
 
-  pub clearing-short : length (clearing split p b) ≤ 4
-  clearing-short = rw clearing-range ranged-short
+-- whichever banks are not closed, and whichever bank the write waits in
+pub near-short : (t : Near) (buffer : Buffer) (b : ℕ) → length (nearCodes t buffer b) ≤ 6
+unfolding nearCodes
+near-short t buffer b = three (heldOf buffer .bank) (lowOf b) (highOf b) (showsBy (lowOf b) (t .low)) (showsBy b (t .own)) (showsBy (highOf b) (t .high))
+  where
+    one : (x : ℕ) (t u : Bool) → length (cond t (cond u (nocopCode ∷ prerCode x ∷ []) (prerCode x ∷ [])) []) ≤ 2
+    one x true true = omega arith
+    one x true false = omega arith
+    one x false u = omega arith
+
+    three : (w x z : ℕ) (l o u : Bool) → length (cond l (closingCodes w x) [] ++ cond o (closingCodes w b) [] ++ cond u (closingCodes w z) []) ≤ 6
+    three w x z l o u =
+        let a = length-append (cond l (closingCodes w x) [] ++ cond o (closingCodes w b) []) (cond u (closingCodes w z) []) in
+        let d = length-append (cond l (closingCodes w x) []) (cond o (closingCodes w b) []) in
+        omega (arith, a, d, one x l (eqb x w), one b o (eqb b w), one z u (eqb z w))
+
+pub saved : (t : Bool) → length (cond t (nocopCode ∷ []) []) ≤ 1
+saved true = omega arith
+saved false = omega arith
 
 -- ---- all banks closed
 
@@ -258,34 +175,6 @@ drain-short state mask e =
         (all-at (λ y. not (split (2 * j) y) || (isClosed (state (2 * j)) || isClosed (state y))) 32 (2 * j + 1)
         (all-at (λ x. allUpTo (λ y. not (split x y) || (isClosed (state x) || isClosed (state y))) 32) 32 (2 * j) e (omega arith)) (omega arith))
         (twins j))
-
--- ---- one bank more, as a loop takes it
-
-module _ (state : ℕ → Bank) (w mask : ℕ) (pick : ℕ → Bool) (x : ℕ) where
-  pub closings-shut : isClosed (state x) ≡ true → closings state w mask pick (x + 1) ≡ closings state w mask pick x
-  unfolding closings
-  closings-shut e = rw (add-one x, e) (go (pick x))
-    where
-      go : (t : Bool) → closings state w mask pick x ++ cond (t && false) (closing w mask x) [] ≡ closings state w mask pick x
-      go true = append-nil (closings state w mask pick x)
-      go false = append-nil (closings state w mask pick x)
-
-  pub closings-open : pick x ≡ true → isClosed (state x) ≡ false → closings state w mask pick (x + 1) ≡ closings state w mask pick x ++ closing w mask x
-  unfolding closings
-  closings-open p e = rw (add-one x, p, e)
-
--- the packets of one bank fit where those of all banks do
-pub closing-fits : (state : ℕ → Bank) (w mask from to x n before : ℕ) → from ≤ x → x < to → isClosed (state x) ≡ false
-    → n ≡ before + length (closings state w mask (leb from) x) → before + length (closings state w mask (leb from) to) ≤ 17
-    → n + length (closing w mask x) ≤ 17
-closing-fits state w mask from to x n before l h e a b =
-    let k : ℕ = to - (x + 1) in
-    let q : x + 1 + k ≡ to = omega arith in
-    let g : length (closings state w mask (leb from) (x + 1)) ≤ length (closings state w mask (leb from) to) = rw q at (closings-grow state w mask (leb from) (x + 1) k) in
-    let o : length (closings state w mask (leb from) (x + 1)) ≡ length (closings state w mask (leb from) x) + length (closing w mask x) =
-    ap length (closings-open state w mask (leb from) x (le-leb from x l) e) ∙ length-append (closings state w mask (leb from) x) (closing w mask x)
-    in
-    omega arith
 
 -- ---- the packets of a bank and its neighbours, one bank after the other
 

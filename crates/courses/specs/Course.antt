@@ -1,8 +1,8 @@
 -- The packets of a request in their order, decided by the state before its first packet. A theorem in proofs/ says that sending
 -- them one after the other is the plan of the request, in every state that is not refused.
 -- Assumes nothing.
-use Prim.Native.Nat.{ℕ, zero, suc, _+_, _-_, _%_}
-use mathlib.Core.Bool.{Bool, true, false, not, _&&_, _||_, cond}
+use Prim.Native.Nat.{ℕ, zero, suc}
+use mathlib.Core.Bool.{Bool, true, not, _&&_, _||_, cond}
 use mathlib.Core.List.{List, [], _∷_, _++_}
 use lib.Dec.{eqb, ltb}
 use lib.ListN.{getD}
@@ -16,18 +16,12 @@ use Rattle.record.specs.declared.Request.the-variants.{Read, Write as WriteTo, 
 use Rattle.rules.specs.declared.Bank.{Bank}
 use Rattle.rules.specs.declared.BankTrack.{BankTrack}
 use Rattle.rules.specs.Neighbour.{Relation, near}
-use Rattle.rules.specs.Packets.{isPacket}
 use Rattle.rules.specs.History.{isClosed}
 use Rattle.rules.specs.Channel.{idle, stateOf, waitingOf}
 use Rattle.channel.specs.declared.Held.{Held}
 use Rattle.channel.specs.View.{lowOf, highOf, heldOf}
 use Rattle.plan.specs.declared.PlannerState.{PlannerState}
 use Rattle.plan.specs.Plan.{Draft, rowPacket, colPacket, openOn, hits, sent}
-
--- all are ROW or COL packets, and none data
-unfoldable pub allPackets : List Record → Bool
-allPackets [] = true
-allPackets (r ∷ l) = isPacket r && allPackets l
 
 -- ---- banks closed
 
@@ -58,13 +52,6 @@ abbrev pub threeOf : ℕ → ℕ → ℕ → Bool → Bool → Bool → List Rec
 threeOf w mask b low own high = cond low (closing w mask (lowOf b)) [] ++ cond own (closing w mask b) [] ++ cond high (closing w mask (highOf b)) []
 
 -- ---- requests
-
--- the first and the last bank near a bank, where 15 and 16 are not neighbours
-abbrev pub firstNear : ℕ → ℕ
-firstNear b = cond (eqb (b % 16) 0) b (b - 1)
-
-abbrev pub lastNear : ℕ → ℕ
-lastNear b = cond (eqb (b % 16) 15) b (b + 1)
 
 abbrev pub heldIn : PlannerState → Held
 heldIn p = heldOf (p .channel .buffer)

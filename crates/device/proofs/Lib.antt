@@ -1,4 +1,3 @@
 pub mod BytesLaws
 pub mod CallLaws
-pub mod LentLaws
 pub mod TakeLaws

@@ -25,7 +25,7 @@ impl Model {
     {
         Model {
             state: ModelState {
-                channel: state::bytes::read_channel(b),
+                channel: state_read::read_channel(b),
                 refr: num::u16_at(b, 732),
                 bytes: Dualoct {
                     dqa: num::u64_at(b, 736),
@@ -41,7 +41,7 @@ impl Model {
         ensures { λ _. ⌜ now (out .exit) ≡ modelBytes (self .state) ⌝ }
     {
         let ch = self.state.channel;
-        state::bytes::put_channel(out, ch);
+        state_planes::put_channel(out, ch);
         puts::put_u16(out, 732, num::wide32(self.state.refr));
         puts::put_u16(out, 734, 0);
         puts::put_u64(out, 736, self.state.bytes.dqa);

@@ -1,19 +1,17 @@
 // The device model: one record a call, with the store and a buffer for the answer lent.
-pub mod after;
 pub mod bytes;
-pub mod lent;
 
 ghost use mathlib.Core.Path.{_≡_};
 ghost use mathlib.Core.Bool.{true};
+ghost use Prim.Native.Nat.{_<_};
 ghost use lib.ListN.{length};
 ghost use Rattle.settings.specs.Settings.{valid};
 ghost use Rattle.record.specs.Record.{recordFits};
 ghost use Rattle.rules.specs.Neighbour.{split};
 ghost use Rattle.model.specs.Store.{storeLength};
-ghost use Rattle.model.specs.Model.{freshModel, modelValid};
-ghost use Rattle.model.specs.Step.{isTaken, recordAnswer, stepAnswer, stepModel, stepStore, stepRoom};
+ghost use Rattle.model.specs.Model.{freshModel, modelValid, modelNext};
+ghost use Rattle.model.specs.Step.{recordAnswer, stepAnswer, stepModel, stepStore, stepRoom};
 ghost use Rattle.device.specs.Take.{takeModel, takeStore, takeRoom};
-use crate::after::model_next;
 use channel::beside::slot_of;
 use channel::views::held_of;
 use channel::views::view_of;
@@ -24,6 +22,9 @@ use record::Place;
 use record::Record;
 use record::RecordRead;
 use record::Refusal;
+use registers::bytes_next;
+use registers::is_taken;
+use registers::refr_next;
 use settings::Settings;
 use store::touching::touch_of;
 
@@ -38,15 +39,17 @@ pub struct ModelStep {
     pub answer: Stepped,
 }
 
-// Whether an answer is no refusal.
-pub(crate) fn is_taken(a: Stepped) -> bool
-    ensures { λ r. ⌜ r ≡ isTaken a ⌝ }
+// The model after a record.
+fn model_next(s: Settings, m: ModelState, r: Record) -> ModelState
+    requires { ⌜ m .refr < s .rows ⌝ }
+    ensures { λ n. ⌜ n ≡ modelNext s split m r ⌝ }
 {
-    match a {
-        Stepped::Refused(_) => false,
-        Stepped::Read => true,
-        Stepped::Retired(_) => true,
-        Stepped::Neither => true,
+    let ch = m.channel;
+    let bytes = m.bytes;
+    ModelState {
+        channel: steps::next(ch, r),
+        refr: refr_next(s, r, m.refr),
+        bytes: bytes_next(r, bytes),
     }
 }
 

@@ -3,11 +3,10 @@ pub mod tests;
 
 ghost use mathlib.Core.Path.{_≡_};
 ghost use mathlib.Core.Bool.{cond};
-ghost use Prim.Native.Nat.{_+_, _-_, _%_, max};
-ghost use lib.Dec.{eqb};
 ghost use Rattle.rules.specs.Neighbour.{split};
 ghost use Rattle.rules.specs.Checks.{judged};
-ghost use Rattle.channel.specs.Tests.{actBound, pinRules, rowRules, colRules, bufferRules, found, aroundOf};
+ghost use Rattle.channel.specs.Tests.{pinRules, rowRules, colRules, bufferRules, found, aroundOf};
+use act_bounds::act_bound;
 use channel::Held;
 use channel::Lasts;
 use channel::Tracks;
@@ -16,8 +15,6 @@ use channel::beside::high_of;
 use channel::beside::low_of;
 use channel::beside::slot_of;
 use channel::beside::track_of;
-use channel::bounds::after_gap;
-use channel::bounds::later;
 use channel::views::held_of;
 use channel::views::view_of;
 use record::Record;
@@ -80,48 +77,6 @@ pub fn find(s: Settings, v: View, h: Held, k: Tracks, act: u64, l: Lasts) -> u32
     let n9 = col_rules(s, v, h, k, l.rd, n14);
     let n4 = row_rules(s, v, k, act, l.pre, n9);
     pin_rules(s, v, l, n4)
-}
-
-// The later of two instants.
-fn latest(a: u32, b: u32) -> u32
-    ensures { λ r. ⌜ r ≡ max a b ⌝ }
-{
-    if a < b { b } else { a }
-}
-
-// The first and the last of a bank and its neighbours.
-fn first_near(b: u32) -> u32
-    ensures { λ r. ⌜ r ≡ cond (eqb (b % 16) 0) b (b - 1) ⌝ }
-{
-    if b % 16 == 0 { b } else { b - 1 }
-}
-
-fn last_near(b: u32) -> u32
-    ensures { λ r. ⌜ r ≡ cond (eqb (b % 16) 15) b (b + 1) ⌝ }
-{
-    if b % 16 == 15 { b } else { b + 1 }
-}
-
-// What all banks ask of an ACT to bank b by rule 5: the latest near it by tRC, and the latest of the others by tRR.
-pub fn act_bound(s: Settings, banks: [BankTrack; 32], b: u32) -> u64
-    ensures { λ r. ⌜ r ≡ actBound s banks b ⌝ }
-{
-    let first = first_near(b);
-    let last = last_near(b);
-    let mut close: u32 = 0;
-    let mut far: u32 = 0;
-    let mut x: u32 = 0;
-    while x < 32 {
-        let i = x as usize;
-        let t = banks[i].opened.0;
-        if num::both(first <= x, x <= last) {
-            close = latest(close, t);
-        } else {
-            far = latest(far, t);
-        }
-        x += 1;
-    }
-    later(after_gap(close, s.rc), after_gap(far, s.rr))
 }
 
 // The tracks of a bank, of its neighbours and of the waiting write's bank, from what stands at their indices.

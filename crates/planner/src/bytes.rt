@@ -85,7 +85,7 @@ impl Planner {
     {
         let now = PacketAt(num::u32_at(b, 732));
         let state = PlannerState {
-            channel: state::bytes::read_channel(b),
+            channel: state_read::read_channel(b),
             now: now,
             refresh: num::u16_at(b, 736),
             mask: num::u16_at(b, 738),
@@ -100,7 +100,7 @@ impl Planner {
     {
         let p = self.state;
         let ch = p.channel;
-        state::bytes::put_channel(out, ch);
+        state_planes::put_channel(out, ch);
         puts::put_u32(out, 732, num::wide32(p.now.0));
         puts::put_u16(out, 736, num::wide32(p.refresh));
         puts::put_u16(out, 738, num::wide32(p.mask));

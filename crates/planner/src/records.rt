@@ -29,7 +29,7 @@ pub(crate) fn put_packets(s: Settings, room: &mut [u8], c: Course, f: Fields, at
     let codes = c.codes;
     let mut i = 0;
     while i < n {
-        let r = courses::record_of(codes[i], f, ats[i]);
+        let r = request_fields::record_of(codes[i], f, ats[i]);
         record_bytes::put_record(s, room, 32 * i, r);
         i += 1;
     }

@@ -33,7 +33,8 @@ use Rattle.channel.specs.Steps.{channelOf}
 use Rattle.channel.proofs.NearLaws.{Beside, own, low, high, near-beside, max-least, or-left}
 use Rattle.channel.proofs.JudgeLaws.{past, judged-is}
 use Rattle.quick.specs.declared.Near.{Near}
-use Rattle.quick.specs.Quick.{lowSlot, highSlot, lastOf, nearOf, comesAfter, opensWell, closesWell, readsWell, writesWell, retiresWell, rowWell, colWell, inRange, comesWell, passing, tracksWith}
+use Rattle.tracks.specs.Tracks.{firstNear, lastNear}
+use Rattle.quick.specs.Quick.{lastOf, nearOf, comesAfter, opensWell, closesWell, readsWell, writesWell, retiresWell, rowWell, colWell, inRange, comesWell, passing, tracksWith}
 
 -- ---- tests that pass
 
@@ -93,14 +94,14 @@ module _ (banks : List BankTrack) (e : length banks ≡ 32) (b : ℕ) where
   at x = getD banks x idle
 
   module _ (f : BankTrack → ℕ) (z : f idle ≡ 0) where
-    low-most : f (at (lowOf b)) ≤ max (f (at b)) (f (at (lowSlot b)))
+    low-most : f (at (lowOf b)) ≤ max (f (at b)) (f (at (firstNear b)))
     low-most = go (eqb (b % 16) 0) refl
       where
         go : (t : Bool) → eqb (b % 16) 0 ≡ t → f (at (cond t 32 (b - 1))) ≤ max (f (at b)) (f (at (cond t b (b - 1))))
         go true q = let p : f (at 32) ≡ 0 = ap f (past banks e 32 (omega arith)) ∙ z in omega arith
         go false q = omega arith
 
-    high-most : f (at (highOf b)) ≤ max (f (at b)) (f (at (highSlot b)))
+    high-most : f (at (highOf b)) ≤ max (f (at b)) (f (at (lastNear b)))
     high-most = go (eqb (b % 16) 15) refl
       where
         go : (t : Bool) → eqb (b % 16) 15 ≡ t → f (at (cond t 32 (b + 1))) ≤ max (f (at b)) (f (at (cond t b (b + 1))))
@@ -108,7 +109,7 @@ module _ (banks : List BankTrack) (e : length banks ≡ 32) (b : ℕ) where
         go false q = omega arith
 
     abbrev latest3 : ℕ
-    latest3 = lastOf (f (at b)) (f (at (lowSlot b))) (f (at (highSlot b)))
+    latest3 = lastOf (f (at b)) (f (at (firstNear b))) (f (at (lastNear b)))
 
     three-ready : (g t : ℕ) → comesAfter latest3 g t ≡ true → leb (three (f (at b)) (f (at (lowOf b))) (f (at (highOf b))) g) t ≡ true
     three-ready g t h =
@@ -120,7 +121,7 @@ module _ (banks : List BankTrack) (e : length banks ≡ 32) (b : ℕ) where
         let q = high-most in
         le-leb _ t (omega arith)
 
-  low-closed : isClosed (at b .bank) ≡ true → isClosed (at (lowSlot b) .bank) ≡ true → isClosed (at (lowOf b) .bank) ≡ true
+  low-closed : isClosed (at b .bank) ≡ true → isClosed (at (firstNear b) .bank) ≡ true → isClosed (at (lowOf b) .bank) ≡ true
   unfolding isClosed
   low-closed o l = go (eqb (b % 16) 0) refl l
     where
@@ -128,7 +129,7 @@ module _ (banks : List BankTrack) (e : length banks ≡ 32) (b : ℕ) where
       go true q l = ap (λ (k : BankTrack). isClosed (k .bank)) (past banks e 32 (omega arith))
       go false q l = l
 
-  high-closed : isClosed (at b .bank) ≡ true → isClosed (at (highSlot b) .bank) ≡ true → isClosed (at (highOf b) .bank) ≡ true
+  high-closed : isClosed (at b .bank) ≡ true → isClosed (at (lastNear b) .bank) ≡ true → isClosed (at (highOf b) .bank) ≡ true
   unfolding isClosed
   high-closed o l = go (eqb (b % 16) 15) refl l
     where
@@ -136,11 +137,11 @@ module _ (banks : List BankTrack) (e : length banks ≡ 32) (b : ℕ) where
       go true q l = ap (λ (k : BankTrack). isClosed (k .bank)) (past banks e 32 (omega arith))
       go false q l = l
 
-  all-closed : (isClosed (at b .bank) && (isClosed (at (lowSlot b) .bank) && isClosed (at (highSlot b) .bank))) ≡ true
+  all-closed : (isClosed (at b .bank) && (isClosed (at (firstNear b) .bank) && isClosed (at (lastNear b) .bank))) ≡ true
       → (isClosed (at b .bank) && (isClosed (at (lowOf b) .bank) && isClosed (at (highOf b) .bank))) ≡ true
   all-closed h =
-      let p = both-of (isClosed (at b .bank)) (isClosed (at (lowSlot b) .bank) && isClosed (at (highSlot b) .bank)) h in
-      let q = both-of (isClosed (at (lowSlot b) .bank)) (isClosed (at (highSlot b) .bank)) (p .1) in
+      let p = both-of (isClosed (at b .bank)) (isClosed (at (firstNear b) .bank) && isClosed (at (lastNear b) .bank)) h in
+      let q = both-of (isClosed (at (firstNear b) .bank)) (isClosed (at (lastNear b) .bank)) (p .1) in
       rw (p .0, low-closed (p .0) (q .0), high-closed (p .0) (q .1))
 
   -- rule 5: near banks by tRC, every other by tRR from the latest of all
@@ -178,10 +179,10 @@ module _ (s : Settings) (banks : List BankTrack) (e : length banks ≡ 32) (l : 
   track x = getD banks x idle
 
   abbrev met : ℕ → Tracks
-  met b = tracksWith (track b) (track (lowSlot b)) (track (highSlot b)) (track (slotOf (h .bank)))
+  met b = tracksWith (track b) (track (firstNear b)) (track (lastNear b)) (track (slotOf (h .bank)))
 
   abbrev beside : ℕ → Near
-  beside b = nearOf (track b) (track (lowSlot b)) (track (highSlot b))
+  beside b = nearOf (track b) (track (firstNear b)) (track (lastNear b))
 
   -- ACT, REFA
   open-none : (t b : ℕ) (state : Bank) (acts : Bool) → passing s (rowTo t b state true acts false) h (met b) latest l ≡ true
@@ -312,7 +313,7 @@ module _ (s : Settings) (banks : List BankTrack) (e : length banks ≡ 32) (l : 
 pub passing-none : (s : Settings) (banks : List BankTrack) → length banks ≡ 32 → (l : Lasts) (buffer : Buffer) (latest : ℕ)
     → ((x : ℕ) → getD banks x idle .opened .0 ≤ latest) → (heldOf buffer .waits ≡ true → heldOf buffer .bank < 32) → (r : Record) → viewOf r .bank < 32
     → passing s (viewOf r) (heldOf buffer)
-    (tracksWith (getD banks (slotOf (viewOf r .bank)) idle) (getD banks (lowSlot (slotOf (viewOf r .bank))) idle) (getD banks (highSlot (slotOf (viewOf r .bank))) idle) (getD banks (slotOf (heldOf buffer .bank)) idle))
+    (tracksWith (getD banks (slotOf (viewOf r .bank)) idle) (getD banks (firstNear (slotOf (viewOf r .bank))) idle) (getD banks (lastNear (slotOf (viewOf r .bank))) idle) (getD banks (slotOf (heldOf buffer .bank)) idle))
     latest l
     ≡ true
     → judged s split (channelOf banks l buffer) r ≡ 0

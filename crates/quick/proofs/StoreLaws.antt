@@ -31,7 +31,8 @@ use Rattle.channel.specs.View.{lowOf, highOf, slotOf, nothing, rowTo, colTo, ro
 use Rattle.channel.specs.Tests.{retired}
 use Rattle.channel.specs.Steps.{stamp, spotOf, sideOf, ownNext, sideNext, touch, banksNext, bufferStep}
 use Rattle.channel.proofs.StepLaws.{touch-in, touch-out, touch-at, length-touch}
-use Rattle.quick.specs.Quick.{lowSlot, highSlot, openedTrack, closedTrack, latestNext}
+use Rattle.tracks.specs.Tracks.{firstNear, lastNear}
+use Rattle.quick.specs.Quick.{openedTrack, closedTrack, latestNext}
 use Rattle.quick.proofs.Picks.{picked}
 
 -- ---- the banks that records name
@@ -165,14 +166,14 @@ side-closed v k q = rw q (ap (withBank k) (sym (closed-is (k .bank) q)))
 
 module _ (v : View) (b : ℕ) (i : b < 32) where
   module _ (l : List BankTrack) (e : length l ≡ 32) (c : isClosed (getD l b idle .bank) ≡ true) where
-    low-store : set l (lowSlot b) (sideNext v (getD l (lowSlot b) idle)) ≡ touch (sideNext v) (lowOf b) l
+    low-store : set l (firstNear b) (sideNext v (getD l (firstNear b) idle)) ≡ touch (sideNext v) (lowOf b) l
     low-store = go (eqb (b % 16) 0) refl
       where
         go : (t : Bool) → eqb (b % 16) 0 ≡ t → set l (cond t b (b - 1)) (sideNext v (getD l (cond t b (b - 1)) idle)) ≡ touch (sideNext v) (cond t 32 (b - 1)) l
         go true q = kept-set l b _ (side-closed v (getD l b idle) c) ∙ sym (touch-out (sideNext v) 32 l (omega arith))
         go false q = sym (touch-in (sideNext v) (b - 1) l (omega arith))
 
-    high-store : set l (highSlot b) (sideNext v (getD l (highSlot b) idle)) ≡ touch (sideNext v) (highOf b) l
+    high-store : set l (lastNear b) (sideNext v (getD l (lastNear b) idle)) ≡ touch (sideNext v) (highOf b) l
     high-store = go (eqb (b % 16) 15) refl
       where
         go : (t : Bool) → eqb (b % 16) 15 ≡ t → set l (cond t b (b + 1)) (sideNext v (getD l (cond t b (b + 1)) idle)) ≡ touch (sideNext v) (cond t 32 (b + 1)) l
@@ -190,13 +191,13 @@ module _ (v : View) (b : ℕ) (i : b < 32) where
 
   -- the two stores beside
   side-stores : (l : List BankTrack) → length l ≡ 32 → isClosed (getD l b idle .bank) ≡ true → (f : BankTrack → BankTrack) → ((k : BankTrack) → f k ≡ sideNext v k)
-      → (y z : ℕ) → y ≡ lowSlot b → z ≡ highSlot b
+      → (y z : ℕ) → y ≡ firstNear b → z ≡ lastNear b
       → set (set l y (f (getD l y idle))) z (f (getD (set l y (f (getD l y idle))) z idle)) ≡ touch (sideNext v) (highOf b) (touch (sideNext v) (lowOf b) l)
   side-stores l e c f fq y z yq zq =
       let m : List BankTrack = touch (sideNext v) (lowOf b) l in
       let e1 : length m ≡ 32 = length-touch (sideNext v) (lowOf b) l ∙ e in
-      let first : set l y (f (getD l y idle)) ≡ m = ap (λ (x : ℕ). set l x (f (getD l x idle))) yq ∙ ap (set l (lowSlot b)) (fq (getD l (lowSlot b) idle)) ∙ low-store l e c in
-      ap (λ (k : List BankTrack). set k z (f (getD k z idle))) first ∙ ap (λ (x : ℕ). set m x (f (getD m x idle))) zq ∙ ap (set m (highSlot b)) (fq (getD m (highSlot b) idle))
+      let first : set l y (f (getD l y idle)) ≡ m = ap (λ (x : ℕ). set l x (f (getD l x idle))) yq ∙ ap (set l (firstNear b)) (fq (getD l (firstNear b) idle)) ∙ low-store l e c in
+      ap (λ (k : List BankTrack). set k z (f (getD k z idle))) first ∙ ap (λ (x : ℕ). set m x (f (getD m x idle))) zq ∙ ap (set m (lastNear b)) (fq (getD m (lastNear b) idle))
       ∙ high-store m e1 (side-keeps l e c (lowOf b))
 
 slot-in : (b : ℕ) → b < 32 → slotOf b ≡ b
@@ -204,7 +205,7 @@ slot-in b i = picked (ltb b 32) b 0 (lt-ltb b 32 i)
 
 module _ (l : List BankTrack) (e : length l ≡ 32) (h : Held) (within : h .waits ≡ true → h .bank < 32) where
   abbrev stored : View → List BankTrack
-  stored v = allStores v h (slotOf (v .bank)) (lowSlot (slotOf (v .bank))) (highSlot (slotOf (v .bank))) (slotOf (h .bank)) l
+  stored v = allStores v h (slotOf (v .bank)) (firstNear (slotOf (v .bank))) (lastNear (slotOf (v .bank))) (slotOf (h .bank)) l
 
   -- no store of columns
   col-kept : (v : View) (x w : ℕ) (k : List BankTrack) → v .reads ≡ false → v .retires ≡ false → colStores v h x w k ≡ k
@@ -235,12 +236,12 @@ module _ (l : List BankTrack) (e : length l ≡ 32) (h : Held) (within : h .wait
       let k : BankTrack = getD l (slotOf b) idle in
       let own : List BankTrack = set l (slotOf b) (closedTrack v k) in
       let e1 : length own ≡ 32 = length-set l (slotOf b) (closedTrack v k) ∙ e in
-      let y : ℕ = lowSlot (slotOf b) in
-      let z : ℕ = highSlot (slotOf b) in
+      let y : ℕ = firstNear (slotOf b) in
+      let z : ℕ = lastNear (slotOf b) in
       let s : slotOf b ≡ b = slot-in b i in
       let c : isClosed (getD own b idle .bank) ≡ true =
       ap (λ (x : ℕ). isClosed (getD (set l x (closedTrack v (getD l x idle))) b idle .bank)) s ∙ ap (λ (k : BankTrack). isClosed (k .bank)) (getD-set-same l b (closedTrack v (getD l b idle)) idle (omega arith)) in
-      col-kept v (slotOf b) (slotOf (h .bank)) (threeStores v (slotOf b) y z l) refl refl ∙ side-stores v b i own e1 c (sideNext v) (λ k. refl) y z (ap lowSlot s) (ap highSlot s)
+      col-kept v (slotOf b) (slotOf (h .bank)) (threeStores v (slotOf b) y z l) refl refl ∙ side-stores v b i own e1 c (sideNext v) (λ k. refl) y z (ap firstNear s) (ap lastNear s)
       ∙ ap (λ (m : List BankTrack). touch (sideNext v) (highOf b) (touch (sideNext v) (lowOf b) m)) (ap (set l (slotOf b)) (sym (picked (ltb b 32) (closedTrack v k) k (lt-ltb b 32 i))))
 
   read-stored : (t b c m : ℕ) → b < 32 → stored (colTo t b c true false false m) ≡ banksNext (colTo t b c true false false m) h l

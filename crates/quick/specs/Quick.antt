@@ -2,7 +2,7 @@
 -- its neighbours, rule 5's also of the latest ACT or REFA of all banks, and takes 0, which stands for no instant, as one. So it
 -- can fail on a record that breaks no rule; then the sixteen tests decide.
 -- Assumes nothing.
-use Prim.Native.Nat.{ℕ, _+_, _-_, _%_, max}
+use Prim.Native.Nat.{ℕ, _+_, _-_, max}
 use mathlib.Core.Bool.{Bool, not, _&&_, cond}
 use lib.Dec.{eqb, leb}
 use Rattle.settings.specs.declared.Settings.{Settings}
@@ -18,13 +18,6 @@ use Rattle.channel.specs.declared.Lasts.{Lasts}
 use Rattle.channel.specs.Tests.{delayOf}
 use Rattle.channel.specs.Steps.{stamp}
 use Rattle.quick.specs.declared.Near.{Near}
-
--- the indices of the banks beside a bank; the bank's own where it has none there
-abbrev pub lowSlot : ℕ → ℕ
-lowSlot x = cond (eqb (x % 16) 0) x (x - 1)
-
-abbrev pub highSlot : ℕ → ℕ
-highSlot x = cond (eqb (x % 16) 15) x (x + 1)
 
 -- the latest of three instants
 abbrev pub lastOf : ℕ → ℕ → ℕ → ℕ

@@ -1,9 +1,8 @@
 // A quick test of a record: where it passes, the record breaks no rule. It works on the latest instants, without a case for none
 // and without a walk over all banks, so it can fail on a record that breaks no rule; the sixteen tests decide then.
 ghost use mathlib.Core.Path.{_≡_};
-ghost use Prim.Native.Nat.{_<_, _-_, max};
-ghost use lib.Dec.{leb};
-ghost use Rattle.quick.specs.Quick.{lowSlot, highSlot, lastOf, nearOf, comesAfter, opensWell, closesWell, readsWell, writesWell, retiresWell, rowWell, colWell, inRange, comesWell, passing, openedTrack, closedTrack, tracksWith, latestNext};
+ghost use Prim.Native.Nat.{_-_, max};
+ghost use Rattle.quick.specs.Quick.{lastOf, nearOf, comesAfter, opensWell, closesWell, readsWell, writesWell, retiresWell, rowWell, colWell, inRange, comesWell, passing, openedTrack, closedTrack, tracksWith, latestNext};
 use channel::Held;
 use channel::Lasts;
 use channel::Tracks;
@@ -25,22 +24,6 @@ pub struct Near {
     pub pre: u32,
     pub rd: u32,
     pub retire: u32,
-}
-
-// The index of the neighbour below a bank, or the bank's own.
-pub fn low_slot(x: usize) -> usize
-    requires { ⌜ x < 32 ⌝ }
-    ensures { λ r. ⌜ (r ≡ lowSlot x) × (r < 32) ⌝ }
-{
-    if x % 16 == 0 { x } else { x - 1 }
-}
-
-// The index of the neighbour above a bank, or the bank's own.
-pub fn high_slot(x: usize) -> usize
-    requires { ⌜ x < 32 ⌝ }
-    ensures { λ r. ⌜ (r ≡ highSlot x) × (r < 32) ⌝ }
-{
-    if x % 16 == 15 { x } else { x + 1 }
 }
 
 // The later of two instants.

@@ -1,19 +1,10 @@
--- The least instant of each kind of packet, by what the rules ask of that kind alone.
+-- A test and its opposite.
 -- Assumes nothing.
-use Prim.Native.Nat.{ℕ, _+_, _-_, max}
-use mathlib.Core.Path.{_≡_, refl, ap, sym, _∙_}
+use Prim.Native.Nat.{ℕ}
+use mathlib.Core.Path.{_≡_, refl}
 use mathlib.Core.Bool.{Bool, true, false, not}
-use native.Mathlib.Nat.{zero-max, max-zero}
-use native.Mathlib.Omega.{arith}
 use borrow.Author.Tests.{le-ltb, lt-ltb, leb-true, leb-false}
 use lib.Dec.{leb, ltb}
-use Rattle.settings.specs.declared.Settings.{Settings}
-use Rattle.rules.specs.Checks.{since, boundIf}
-use Rattle.channel.specs.declared.Tracks.{Tracks}
-use Rattle.channel.specs.View.{three, rowView, colView, viewOf, heldOf}
-use Rattle.channel.specs.Earliest.{openBound, prechargeBound, readBound, writeBound, retireBound, earliestBy}
-use Rattle.sending.specs.declared.Front.{Front}
-use Rattle.sending.specs.Sending.{actView, refaView, prerView, refpView, rdView, wrView, nocopView, slotBy, frontAt, frontAfter, Latest}
 
 pub above-test : (a b : ℕ) → ltb a b ≡ not (leb b a)
 above-test a b = go (leb b a) refl
@@ -21,99 +12,3 @@ above-test a b = go (leb b a) refl
     go : (t : Bool) → leb b a ≡ t → ltb a b ≡ not t
     go true e = le-ltb a b (leb-true b a e)
     go false e = lt-ltb a b (leb-false b a e)
-
--- ---- the bounds of each kind among the bounds of all; the others are 0
-
-max-assoc : (a b c : ℕ) → max (max a b) c ≡ max a (max b c)
-max-assoc a b c = omega arith
-
-max-left : (a b c : ℕ) → max a (max b c) ≡ max b (max a c)
-max-left a b c = omega arith
-
-read-max : (n l c a : ℕ) → max (max n (max (max 4 l) c)) a ≡ max n (max (max (max 4 l) (max 0 c)) (max (max 0 0) (max (max a 0) 0)))
-read-max n l c a = simp (zero-max, max-zero, max-assoc, max-left)
-
--- w is what a WR asks, 0 of a NOCOP
-retire-max : (n l c w h : ℕ) → max (max (max n (max (max 4 l) c)) w) h ≡ max n (max (max (max 4 l) (max 0 c)) (max (max 0 0) (max (max 0 w) h)))
-retire-max n l c w h = simp (zero-max, max-assoc, max-left)
-
-open-part : (n l r a : ℕ) → max (max n (max (max 4 l) r)) a ≡ max n (max (max (max 4 l) (max r 0)) (max (max a 0) (max (max 0 0) 0)))
-open-part n l r a = simp (zero-max, max-zero, max-assoc, max-left)
-
-close-part : (n l r p : ℕ) → max (max n (max (max 4 l) r)) p ≡ max n (max (max (max 4 l) (max r 0)) (max (max 0 p) (max (max 0 0) 0)))
-close-part n l r p = simp (zero-max, max-zero, max-assoc, max-left)
-
--- ---- the state after each kind
-
-module _ (s : Settings) (w : Front) where
-  abbrev colBase : ℕ
-  colBase = max (w .now) (max (max 4 (w .l .last)) (since (w .l .col) (s .cc)))
-
-  abbrev rowBase : ℕ
-  rowBase = max (w .now) (max (max 4 (w .l .last)) (since (w .l .row) 4))
-
-  abbrev retireAsks : ℕ → ℕ
-  retireAsks held = boundIf (heldOf (w .buffer) .waits) (max (since held (s .rcd)) (heldOf (w .buffer) .at + s .rtr))
-
-  pub read-front : (own : ℕ) (k : Tracks) (act b c m : ℕ) → k .own .act .0 ≡ own
-      → frontAt s (rdView b c m) w (max colBase (since own (s .rcd))) ≡ frontAfter s (rdView b c m) w k act
-  unfolding slotBy earliestBy openBound prechargeBound readBound writeBound retireBound viewOf colView
-  read-front own k act b c m e =
-      rw (← e) (ap (frontAt s (rdView b c m) w) (read-max (w .now) (w .l .last) (since (w .l .col) (s .cc)) (since (k .own .act .0) (s .rcd))))
-
-  pub write-front : (bank column own held : ℕ) (k : Tracks) (act m : ℕ) → k .own .act .0 ≡ own → k .held .act .0 ≡ held
-      → frontAt s (wrView bank column m) w
-      (max (max colBase (max (since own (s .rcd - s .rtr)) (since (w .l .rd) (s .cc + s .cac - s .cwd)))) (retireAsks held))
-      ≡ frontAfter s (wrView bank column m) w k act
-  unfolding slotBy earliestBy openBound prechargeBound readBound writeBound retireBound viewOf colView
-  write-front bank column own held k act m e f =
-      rw (← e, ← f)
-      (ap (frontAt s (wrView bank column m) w)
-      (retire-max (w .now) (w .l .last) (since (w .l .col) (s .cc))
-      (max (since (k .own .act .0) (s .rcd - s .rtr)) (since (w .l .rd) (s .cc + s .cac - s .cwd))) (retireAsks (k .held .act .0))))
-
-  pub retire-front : (held : ℕ) (k : Tracks) (act m : ℕ) → k .held .act .0 ≡ held
-      → frontAt s (nocopView m) w (max colBase (retireAsks held)) ≡ frontAfter s (nocopView m) w k act
-  unfolding slotBy earliestBy openBound prechargeBound readBound writeBound retireBound viewOf colView
-  retire-front held k act m e =
-      rw (← e)
-      (ap (frontAt s (nocopView m) w)
-      (ap (λ x. max x (retireAsks (k .held .act .0))) (sym (max-zero colBase))
-      ∙ retire-max (w .now) (w .l .last) (since (w .l .col) (s .cc)) 0 (retireAsks (k .held .act .0))))
-
-  -- ACT and REFA, for both the same by the bounds
-  module _ (act pre : ℕ) (k : Tracks) (e : Latest (λ t. t .pre .0) k pre) where
-    open-max : max rowBase (max act (since pre (s .rp)))
-        ≡ max (w .now) (max (max (max 4 (w .l .last)) (max (since (w .l .row) 4) 0))
-        (max (max (max act (three (k .own .pre .0) (k .low .pre .0) (k .high .pre .0) (s .rp))) 0) (max (max 0 0) 0)))
-    open-max = rw (e (s .rp)) (open-part (w .now) (w .l .last) (since (w .l .row) 4) (max act (since pre (s .rp))))
-
-    pub act-front : (b row : ℕ) → frontAt s (actView b row) w (max rowBase (max act (since pre (s .rp)))) ≡ frontAfter s (actView b row) w k act
-    unfolding slotBy earliestBy openBound prechargeBound readBound writeBound retireBound viewOf rowView
-    act-front b row = ap (frontAt s (actView b row) w) open-max
-
-    pub refa-front : (b : ℕ) → frontAt s (refaView b) w (max rowBase (max act (since pre (s .rp)))) ≡ frontAfter s (refaView b) w k act
-    unfolding slotBy earliestBy openBound prechargeBound readBound writeBound retireBound viewOf rowView
-    refa-front b = ap (frontAt s (refaView b) w) open-max
-
-  -- PRER and REFP
-  module _ (opened rd retire : ℕ) (k : Tracks) (e : Latest (λ t. t .opened .0) k opened) (f : Latest (λ t. t .rd .0) k rd)
-      (g : Latest (λ t. t .retire .0) k retire) where
-    abbrev closeAsks : ℕ
-    closeAsks = max (max (since opened (s .ras)) (since (w .l .pre) (s .pp))) (max (since rd (s .rdp)) (since retire (s .rtp)))
-
-    close-max : max rowBase closeAsks
-        ≡ max (w .now) (max (max (max 4 (w .l .last)) (max (since (w .l .row) 4) 0))
-        (max (max 0
-        (max (max (three (k .own .opened .0) (k .low .opened .0) (k .high .opened .0) (s .ras)) (since (w .l .pre) (s .pp)))
-        (max (three (k .own .rd .0) (k .low .rd .0) (k .high .rd .0) (s .rdp)) (three (k .own .retire .0) (k .low .retire .0) (k .high .retire .0) (s .rtp)))))
-        (max (max 0 0) 0)))
-    close-max = rw (e (s .ras), f (s .rdp), g (s .rtp)) (close-part (w .now) (w .l .last) (since (w .l .row) 4) closeAsks)
-
-    pub prer-front : (act b : ℕ) → frontAt s (prerView b) w (max rowBase closeAsks) ≡ frontAfter s (prerView b) w k act
-    unfolding slotBy earliestBy openBound prechargeBound readBound writeBound retireBound viewOf rowView
-    prer-front act b = ap (frontAt s (prerView b) w) close-max
-
-    pub refp-front : (act b : ℕ) → frontAt s (refpView b) w (max rowBase closeAsks) ≡ frontAfter s (refpView b) w k act
-    unfolding slotBy earliestBy openBound prechargeBound readBound writeBound retireBound viewOf rowView
-    refp-front act b = ap (frontAt s (refpView b) w) close-max

@@ -1,68 +1,21 @@
--- A planner without its banks while packets are placed, after each packet; and the banks beside a bank as indices.
+-- A planner without its banks while packets are placed, after each packet.
 -- Assumes nothing.
-use Prim.Native.Nat.{ℕ, _+_, _-_, _%_, max}
+use Prim.Native.Nat.{ℕ, _+_, max}
 use mathlib.Core.Path.{_≡_}
 use mathlib.Core.Bool.{not, cond}
-use lib.Dec.{eqb, leb}
+use lib.Dec.{leb}
 use Rattle.settings.specs.declared.Settings.{Settings}
 use Rattle.settings.specs.Instants.{horizon}
-use Rattle.packet.specs.declared.RowPacket.the-variants.{Act, Prer, Refa, Refp}
-use Rattle.packet.specs.declared.ColPacket.the-variants.{Nocop, Wr, Rd}
-use Rattle.record.specs.declared.Record.the-variants.{RowAt, ColAt}
 use Rattle.rules.specs.declared.BankTrack.{BankTrack}
 use Rattle.rules.specs.Checks.{since}
-use Rattle.rules.specs.Channel.{never}
 use Rattle.channel.specs.declared.View.{View}
-use Rattle.channel.specs.declared.Held.{Held}
 use Rattle.channel.specs.declared.Tracks.{Tracks}
-use Rattle.channel.specs.View.{three, viewOf, heldOf}
+use Rattle.channel.specs.View.{three, heldOf}
 use Rattle.channel.specs.Tests.{delayOf}
-use Rattle.channel.specs.Steps.{ownNext, sideNext, bufferStep, lastsNext}
+use Rattle.channel.specs.Steps.{bufferStep, lastsNext}
 use Rattle.channel.specs.Earliest.{earliestBy}
+use Rattle.tracks.specs.Tracks.{actView, refaView, prerView, refpView, stampedAt}
 use Rattle.sending.specs.declared.Front.{Front}
-
--- ---- the packets, before they have an instant
-
-abbrev pub actView : ℕ → ℕ → View
-actView b row = viewOf (RowAt never (Act b row))
-
-abbrev pub refaView : ℕ → View
-refaView b = viewOf (RowAt never (Refa b))
-
-abbrev pub prerView : ℕ → View
-prerView b = viewOf (RowAt never (Prer b))
-
-abbrev pub refpView : ℕ → View
-refpView b = viewOf (RowAt never (Refp b))
-
-abbrev pub rdView : ℕ → ℕ → ℕ → View
-rdView b c m = viewOf (ColAt never (Rd b c m))
-
-abbrev pub wrView : ℕ → ℕ → ℕ → View
-wrView b c m = viewOf (ColAt never (Wr b c m))
-
-abbrev pub nocopView : ℕ → View
-nocopView m = viewOf (ColAt never (Nocop m))
-
--- a view at another instant
-abbrev pub stampedAt : ℕ → View → View
-stampedAt t v =
-    record {
-      at = t;
-      bank = v .bank;
-      column = v .column;
-      state = v .state;
-      opens = v .opens;
-      acts = v .acts;
-      precharges = v .precharges;
-      reads = v .reads;
-      writes = v .writes;
-      row = v .row;
-      col = v .col;
-      retires = v .retires;
-      masked = v .masked;
-      packet = v .packet;
-    }
 
 -- ---- the state after a packet
 
@@ -103,23 +56,3 @@ pub record Precharged (s : Settings) (w : Front) (opened rd retire : ℕ) (r : F
       → r ≡ frontAfter s (prerView b) w k act
   pub by-refp : (k : Tracks) (act b : ℕ) → Latest (λ t. t .opened .0) k opened → Latest (λ t. t .rd .0) k rd → Latest (λ t. t .retire .0) k retire
       → r ≡ frontAfter s (refpView b) w k act
-
--- ---- the tracks of the banks after a PRER or REFP
-
--- the bank that it names
-pub record ClosedOwn (at : ℕ) (k r : BankTrack) : Type 0 where
-  pub by-prer : (b : ℕ) (h : Held) → r ≡ ownNext (stampedAt at (prerView b)) h k
-  pub by-refp : (b : ℕ) (h : Held) → r ≡ ownNext (stampedAt at (refpView b)) h k
-
--- a neighbour
-pub record ClosedSide (at : ℕ) (k r : BankTrack) : Type 0 where
-  pub by-prer : (b : ℕ) → r ≡ sideNext (stampedAt at (prerView b)) k
-  pub by-refp : (b : ℕ) → r ≡ sideNext (stampedAt at (refpView b)) k
-
--- ---- the first and the last of a bank and its neighbours
-
-abbrev pub firstNear : ℕ → ℕ
-firstNear x = cond (eqb (x % 16) 0) x (x - 1)
-
-abbrev pub lastNear : ℕ → ℕ
-lastNear x = cond (eqb (x % 16) 15) x (x + 1)

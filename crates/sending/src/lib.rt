@@ -1,30 +1,13 @@
-// Packets at their least instants, one function for each kind: what the planner's loop does with a packet, on numbers and
-// single tracks.
+// A planner without its banks while packets are placed. The state after each packet is in specs/; here are the parts that all
+// packets have.
 ghost use mathlib.Core.Path.{_≡_};
 ghost use mathlib.Core.Bool.{not};
-ghost use Prim.Native.Nat.{ℕ, _+_, _-_, _<_, max};
+ghost use Prim.Native.Nat.{_+_};
 ghost use lib.Dec.{leb};
 ghost use Rattle.settings.specs.Instants.{horizon};
-ghost use Rattle.rules.specs.Checks.{since, boundIf};
-ghost use Rattle.channel.specs.declared.Tracks.{Tracks as TracksOf};
-ghost use Rattle.channel.specs.declared.Held.{Held as HeldOf};
-ghost use Rattle.channel.specs.Steps.{ownNext};
-ghost use Rattle.sending.specs.Sending.{actView, refaView, rdView, wrView, nocopView, stampedAt, clip, frontAfter, Opened, Precharged, ClosedOwn, ClosedSide, firstNear, lastNear};
-use channel::Held;
+ghost use Rattle.sending.specs.Sending.{clip};
 use channel::Lasts;
-use channel::bounds::after_gap;
-use channel::bounds::later;
-use channel::bounds::minus;
-use channel::bounds::since_wide;
-use channel::views::held_of;
-use channel::views::is_closed;
-use rules::Bank;
-use rules::BankTrack;
 use rules::Buffer;
-use rules::Write;
-use settings::PacketAt;
-use settings::Settings;
-use steps::settle;
 
 // A planner without its banks while packets are placed. Late: the instant of a packet or of its data would pass the last one;
 // then the rest says nothing.
@@ -36,7 +19,7 @@ pub struct Front {
 }
 
 // An instant, or the last one where it would pass that.
-fn clipped(slot: u64) -> u32
+pub fn clipped(slot: u64) -> u32
     ensures { λ r. ⌜ r ≡ clip slot ⌝ }
 {
     if 1000000000 < slot {
@@ -47,251 +30,11 @@ fn clipped(slot: u64) -> u32
 }
 
 // Whether an instant, or that of the data after it, would pass the last one.
-fn is_late(slot: u64, delay: u32) -> bool
+pub fn is_late(slot: u64, delay: u32) -> bool
     ensures { λ r. ⌜ r ≡ not (leb (slot + delay) horizon) ⌝ }
 {
     if 1000000000 < slot {
         return true;
     }
     1000000000 < slot + num::wide32(delay)
-}
-
-// What rules 1 and 3 ask of a COL packet, not before now.
-fn col_base(now: u32, l: Lasts, gap: u32) -> u64
-    ensures { λ r. ⌜ r ≡ max now (max (max 4 (l .last)) (since (l .col) gap)) ⌝ }
-{
-    let order = later(4, num::wide32(l.last));
-    later(num::wide32(now), later(order, after_gap(l.col, gap)))
-}
-
-// What rules 1 and 2 ask of a ROW packet, not before now.
-fn row_base(now: u32, l: Lasts) -> u64
-    ensures { λ r. ⌜ r ≡ max now (max (max 4 (l .last)) (since (l .row) 4)) ⌝ }
-{
-    let order = later(4, num::wide32(l.last));
-    later(num::wide32(now), later(order, after_gap(l.row, 4)))
-}
-
-// What rules 10 and 11 ask of a WR.
-fn writing(s: Settings, own: u32, rd: u32) -> u64
-    ensures { λ r. ⌜ r ≡ max (since own (s .rcd - s .rtr)) (since rd (s .cc + s .cac - s .cwd)) ⌝ }
-{
-    let least = minus(num::wide32(s.rcd), num::wide32(s.rtr));
-    let sum = num::wide32(s.cc) + num::wide32(s.cac);
-    let gap = minus(sum, num::wide32(s.cwd));
-    later(since_wide(own, least), since_wide(rd, gap))
-}
-
-// What rules 10 and 12 ask of a packet that retires a waiting write.
-fn retiring(s: Settings, h: Held, held: u32) -> u64
-    ensures { λ r. ⌜ r ≡ boundIf (h .waits) (max (since held (s .rcd)) (h .at + s .rtr)) ⌝ }
-{
-    if h.waits {
-        let write = num::wide32(h.at) + num::wide32(s.rtr);
-        return later(after_gap(held, s.rcd), write);
-    }
-    0
-}
-
-// An RD; own is the ACT of its bank.
-pub fn read_step(s: Settings, w: Front, own: u32) -> Front
-    ensures { λ r. ⌜ ((k : TracksOf) (act b c m : ℕ) → k .own .act .0 ≡ own → r ≡ frontAfter s (rdView b c m) w k act) ⌝ }
-{
-    let l = w.l;
-    let buffer = w.buffer;
-    let slot = later(col_base(w.now, l, s.cc), after_gap(own, s.rcd));
-    let now = clipped(slot);
-    let next = Lasts {
-        last: now,
-        col: now,
-        rd: now,
-        ..l
-    };
-    let waiting = settle(buffer);
-    Front {
-        now: now,
-        l: next,
-        buffer: waiting,
-        late: is_late(slot, s.cac),
-    }
-}
-
-// A WR to a bank and column; own is the ACT of that bank, held that of the waiting write's.
-pub fn write_step(s: Settings, w: Front, bank: u32, column: u32, own: u32, held: u32) -> Front
-    ensures { λ r. ⌜ ((k : TracksOf) (act m : ℕ) → k .own .act .0 ≡ own → k .held .act .0 ≡ held → r ≡ frontAfter s (wrView bank column m) w k act) ⌝ }
-{
-    let l = w.l;
-    let buffer = w.buffer;
-    let base = later(col_base(w.now, l, s.cc), writing(s, own, l.rd));
-    let slot = later(base, retiring(s, held_of(buffer), held));
-    let now = clipped(slot);
-    let next = Lasts {
-        last: now,
-        col: now,
-        ..l
-    };
-    let at = PacketAt(now);
-    let write = Write {
-        bank: bank,
-        column: column,
-        at: at,
-    };
-    Front {
-        now: now,
-        l: next,
-        buffer: Buffer::Due(write),
-        late: is_late(slot, s.cwd),
-    }
-}
-
-// A NOCOP; held is the ACT of the waiting write's bank.
-pub fn retire_step(s: Settings, w: Front, held: u32) -> Front
-    ensures { λ r. ⌜ ((k : TracksOf) (act m : ℕ) → k .held .act .0 ≡ held → r ≡ frontAfter s (nocopView m) w k act) ⌝ }
-{
-    let l = w.l;
-    let buffer = w.buffer;
-    let slot = later(col_base(w.now, l, s.cc), retiring(s, held_of(buffer), held));
-    let now = clipped(slot);
-    let next = Lasts {
-        last: now,
-        col: now,
-        ..l
-    };
-    Front {
-        now: now,
-        l: next,
-        buffer: Buffer::Empty,
-        late: is_late(slot, 0),
-    }
-}
-
-// An ACT or REFA; act is what all banks ask by rule 5, pre the latest PRER or REFP of its bank and the neighbours.
-pub fn open_step(s: Settings, w: Front, act: u64, pre: u32) -> Front
-    ensures { λ r. ⌜ Opened s w act pre r ⌝ }
-{
-    let l = w.l;
-    let buffer = w.buffer;
-    let slot = later(row_base(w.now, l), later(act, after_gap(pre, s.rp)));
-    let now = clipped(slot);
-    let next = Lasts {
-        last: now,
-        row: now,
-        ..l
-    };
-    Front {
-        now: now,
-        l: next,
-        buffer: settle(buffer),
-        late: is_late(slot, 0),
-    }
-}
-
-// A PRER or REFP; opened, rd and retire are the latest of its bank and the neighbours.
-pub fn close_step(s: Settings, w: Front, opened: u32, rd: u32, retire: u32) -> Front
-    ensures { λ r. ⌜ Precharged s w opened rd retire r ⌝ }
-{
-    let l = w.l;
-    let buffer = w.buffer;
-    let rows = later(after_gap(opened, s.ras), after_gap(l.pre, s.pp));
-    let columns = later(after_gap(rd, s.rdp), after_gap(retire, s.rtp));
-    let slot = later(row_base(w.now, l), later(rows, columns));
-    let now = clipped(slot);
-    let next = Lasts {
-        last: now,
-        row: now,
-        pre: now,
-        ..l
-    };
-    Front {
-        now: now,
-        l: next,
-        buffer: settle(buffer),
-        late: is_late(slot, 0),
-    }
-}
-
-// The bank that an ACT opens.
-pub fn act_track(row: u32, at: u32, k: BankTrack) -> BankTrack
-    ensures { λ r. ⌜ ((b : ℕ) (h : HeldOf) → r ≡ ownNext (stampedAt at (actView b row)) h k) ⌝ }
-{
-    let t = PacketAt(at);
-    BankTrack {
-        bank: Bank::Open(row),
-        opened: t,
-        act: t,
-        ..k
-    }
-}
-
-// The bank that a REFA refreshes.
-pub fn refresh_track(at: u32, k: BankTrack) -> BankTrack
-    ensures { λ r. ⌜ ((b : ℕ) (h : HeldOf) → r ≡ ownNext (stampedAt at (refaView b)) h k) ⌝ }
-{
-    let begun = PacketAt(at);
-    BankTrack {
-        bank: Bank::Refresh,
-        opened: begun,
-        ..k
-    }
-}
-
-// The bank that a PRER or REFP names.
-pub fn closed_track(at: u32, k: BankTrack) -> BankTrack
-    ensures { λ r. ⌜ ClosedOwn at k r ⌝ }
-{
-    let pre = PacketAt(at);
-    BankTrack {
-        bank: Bank::Closed,
-        pre: pre,
-        ..k
-    }
-}
-
-// A neighbour of that bank: one that was not closed is closed by it.
-pub fn side_track(at: u32, k: BankTrack) -> BankTrack
-    ensures { λ r. ⌜ ClosedSide at k r ⌝ }
-{
-    if is_closed(k) {
-        BankTrack {
-            bank: Bank::Closed,
-            ..k
-        }
-    } else {
-        let closed = PacketAt(at);
-        BankTrack {
-            bank: Bank::Closed,
-            pre: closed,
-            ..k
-        }
-    }
-}
-
-// The neighbour below a bank, or the bank where there is none.
-pub fn first_near(x: usize) -> usize
-    requires { ⌜ x < 32 ⌝ }
-    ensures { λ r. ⌜ (r ≡ firstNear x) × (r < 32) ⌝ }
-{
-    if x % 16 == 0 { x } else { x - 1 }
-}
-
-// The neighbour above a bank, or the bank where there is none.
-pub fn last_near(x: usize) -> usize
-    requires { ⌜ x < 32 ⌝ }
-    ensures { λ r. ⌜ (r ≡ lastNear x) × (r < 32) ⌝ }
-{
-    if x % 16 == 15 { x } else { x + 1 }
-}
-
-// The larger of two.
-pub fn most(a: u32, b: u32) -> u32
-    ensures { λ r. ⌜ r ≡ max a b ⌝ }
-{
-    if a < b { b } else { a }
-}
-
-// The largest of three.
-pub fn most3(a: u32, b: u32, c: u32) -> u32
-    ensures { λ r. ⌜ r ≡ max (max a b) c ⌝ }
-{
-    most(most(a, b), c)
 }

@@ -55,7 +55,7 @@ fn stream_by(s: Settings, planner: &[u8], requests: &[u8], room: &mut [u8]) -> u
         return 0;
     }
     let p = Planner::read(planner);
-    let formed = state::bytes::buffer_right(planner);
+    let formed = state_read::buffer_right(planner);
     let allowed = p.valid(s);
     let right = num::both(formed, allowed);
     if !right {

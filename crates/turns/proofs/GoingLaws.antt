@@ -44,7 +44,8 @@ use Rattle.courses.specs.Codes.{recordIn, packetIn}
 use Rattle.courses.proofs.ClosingLaws.{all-append, all-one}
 use Rattle.courses.proofs.CodeCourse.{placed}
 use Rattle.sending.specs.declared.Front.{Front}
-use Rattle.sending.specs.Sending.{stampedAt, clip, slotBy, frontAt}
+use Rattle.tracks.specs.Tracks.{stampedAt}
+use Rattle.sending.specs.Sending.{clip, slotBy, frontAt}
 use Rattle.turns.specs.declared.Series.{Series as SeriesOf}
 use Rattle.turns.specs.Series.{recordsUpTo, packetsOf, allSent, frontOf, Sent}
 use Rattle.turns.specs.Turns.{viewIn, slotIn, Turn}

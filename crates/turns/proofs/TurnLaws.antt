@@ -33,8 +33,9 @@ use Rattle.courses.specs.declared.Fields.{Fields}
 use Rattle.courses.specs.Course.{fullMask}
 use Rattle.courses.specs.Codes.{packetIn}
 use Rattle.sending.specs.declared.Front.{Front}
-use Rattle.sending.specs.Sending.{actView, refaView, prerView, refpView, rdView, wrView, nocopView, stampedAt, clip, slotBy, frontAt, frontAfter, Latest, Opened, Precharged, ClosedOwn, ClosedSide, firstNear, lastNear}
-use Rattle.sending.proofs.SendLaws.{same-closing, three-most, readAt, retiredAt, read-stored, write-retire-stored, nocop-retire-stored, write-none-stored, nocop-none-stored, act-stored, refresh-stored, prer-stored}
+use Rattle.tracks.specs.Tracks.{actView, refaView, prerView, refpView, rdView, wrView, nocopView, stampedAt, ClosedOwn, ClosedSide, firstNear, lastNear}
+use Rattle.sending.specs.Sending.{clip, slotBy, frontAt, frontAfter, Latest, Opened, Precharged}
+use Rattle.tracks.proofs.StoreLaws.{same-closing, three-most, readAt, retiredAt, read-stored, write-retire-stored, nocop-retire-stored, write-none-stored, nocop-none-stored, act-stored, refresh-stored, prer-stored}
 use Rattle.turns.specs.Turns.{isCol, isOpening, viewIn, slotIn, Turn}
 use Rattle.turns.proofs.CodeViews.{rd-is, wr-is, nocop-is, nocop-code, act-is, refa-is, refa-code, closing-is}
 

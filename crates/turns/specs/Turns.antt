@@ -14,7 +14,8 @@ use Rattle.channel.specs.Steps.{banksNext}
 use Rattle.courses.specs.declared.Fields.{Fields}
 use Rattle.courses.specs.Codes.{packetIn}
 use Rattle.sending.specs.declared.Front.{Front}
-use Rattle.sending.specs.Sending.{stampedAt, clip, slotBy, frontAt}
+use Rattle.tracks.specs.Tracks.{stampedAt}
+use Rattle.sending.specs.Sending.{clip, slotBy, frontAt}
 
 -- by the command of a code: NOCOP, RD and WR are COL packets; ACT and REFA open a bank; the others close it
 abbrev pub isCol : ℕ → Bool

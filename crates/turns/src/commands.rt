@@ -7,16 +7,17 @@ ghost use Rattle.channel.specs.declared.Tracks.{Tracks as TracksOf};
 ghost use Rattle.channel.specs.declared.Held.{Held as HeldOf};
 ghost use Rattle.channel.specs.Steps.{ownNext};
 ghost use Rattle.courses.specs.declared.Fields.{Fields as FieldsOf};
-ghost use Rattle.sending.specs.Sending.{stampedAt, frontAfter};
+ghost use Rattle.tracks.specs.Tracks.{stampedAt};
+ghost use Rattle.sending.specs.Sending.{frontAfter};
 ghost use Rattle.turns.specs.Turns.{isCol, isOpening, viewIn};
+use col_steps::read_step;
+use col_steps::retire_step;
+use col_steps::write_step;
 use rules::BankTrack;
 use sending::Front;
-use sending::act_track;
-use sending::read_step;
-use sending::refresh_track;
-use sending::retire_step;
-use sending::write_step;
 use settings::Settings;
+use tracks::act_track;
+use tracks::refresh_track;
 
 // Whether it is a COL packet: NOCOP, RD or WR.
 pub(crate) fn is_col(code: u32) -> bool

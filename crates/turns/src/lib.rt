@@ -14,21 +14,21 @@ use crate::commands::is_col;
 use crate::commands::is_opening;
 use crate::commands::is_read;
 use crate::commands::open_track;
+use act_bounds::act_bound;
 use channel::beside::slot_of;
 use channel::views::held_of;
 use courses::Course;
 use courses::Fields;
-use judging::act_bound;
+use row_steps::close_step;
+use row_steps::open_step;
 use rules::BankTrack;
 use sending::Front;
-use sending::close_step;
-use sending::closed_track;
-use sending::first_near;
-use sending::last_near;
-use sending::most3;
-use sending::open_step;
-use sending::side_track;
 use settings::Settings;
+use tracks::closed_track;
+use tracks::first_near;
+use tracks::last_near;
+use tracks::most3;
+use tracks::side_track;
 
 // What packets leave: the banks, the rest of the state that the rules use, and the instant of each packet.
 pub struct Series {

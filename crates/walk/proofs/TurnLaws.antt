@@ -27,7 +27,8 @@ use Rattle.channel.specs.View.{slotOf, viewOf, heldOf}
 use Rattle.channel.specs.Tests.{retired}
 use Rattle.channel.specs.Steps.{sideNext, banksNext, bufferStep, lastsNext, channelOf}
 use Rattle.channel.proofs.StepLaws.{apart-after, apart-length}
-use Rattle.quick.specs.Quick.{lowSlot, highSlot, passing, openedTrack, closedTrack, tracksWith, latestNext}
+use Rattle.tracks.specs.Tracks.{firstNear, lastNear}
+use Rattle.quick.specs.Quick.{passing, openedTrack, closedTrack, tracksWith, latestNext}
 use Rattle.quick.proofs.Picks.{picked, passed-over}
 use Rattle.quick.proofs.QuickLaws.{passing-none}
 use Rattle.quick.proofs.StoreLaws.{Opened, withRd, withRetire, openStores, threeStores, closeStores, allStores, fits-bank, within-next, opened-next, stored-next}
@@ -67,7 +68,7 @@ unformed s blocks b i e = ap isKnown e
 
 module _ (r : Record) (banks : List BankTrack) (e : length banks ≡ 32) (buffer : Buffer) (latest : ℕ) (top : Opened latest banks)
     (within : heldOf buffer .waits ≡ true → heldOf buffer .bank < 32) (inside : viewOf r .bank < 32)
-    (v : View) (h : Held) (x y z w : ℕ) (vq : v ≡ viewOf r) (hq : h ≡ heldOf buffer) (xq : x ≡ slotOf (v .bank)) (yq : y ≡ lowSlot x) (zq : z ≡ highSlot x) (wq : w ≡ slotOf (h .bank)) where
+    (v : View) (h : Held) (x y z w : ℕ) (vq : v ≡ viewOf r) (hq : h ≡ heldOf buffer) (xq : x ≡ slotOf (v .bank)) (yq : y ≡ firstNear x) (zq : z ≡ lastNear x) (wq : w ≡ slotOf (h .bank)) where
   pub quick-here : (s : Settings) (l : Lasts) (k : Tracks) (ok : Bool) → k ≡ tracksWith (getD banks x idle) (getD banks y idle) (getD banks z idle) (getD banks w idle)
       → ok ≡ passing s v h k latest l → ok ≡ true → judged s split (channelOf banks l buffer) r ≡ 0
   quick-here s l k ok kq p t =

@@ -11,9 +11,7 @@ use channel::views::held_of;
 use channel::views::view_of;
 use judging::judge;
 use quick::closed_track;
-use quick::high_slot;
 use quick::latest_after;
-use quick::low_slot;
 use quick::opened_track;
 use quick::passes;
 use quick::tracks_of;
@@ -29,6 +27,8 @@ use steps::lasts_after;
 use steps::no_lasts;
 use steps::pick;
 use steps::side_next;
+use tracks::first_near;
+use tracks::last_near;
 
 // Where a walk over records stopped: its end with rule 0, a record that is none with rule 0, or one that breaks this rule.
 pub struct Stop {
@@ -82,8 +82,8 @@ pub fn walk(s: Settings, b: &[u8], n: usize, blocks: bool) -> Stop
         let v = view_of(r);
         let h = held_of(buffer);
         let x = slot_of(v.bank);
-        let y = low_slot(x);
-        let z = high_slot(x);
+        let y = first_near(x);
+        let z = last_near(x);
         let w = slot_of(h.bank);
         let k = tracks_of(banks[x], banks[y], banks[z], banks[w]);
         if !passes(s, v, h, k, latest, l) {

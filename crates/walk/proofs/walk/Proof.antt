@@ -75,11 +75,11 @@ held-of-requires c κs = search needs
 slot-of-requires : tie.Need-slot-of-requires Inv-loop μ-loop
 slot-of-requires c κs = search needs
 
-low-slot-requires : tie.Need-low-slot-requires Inv-loop μ-loop
-low-slot-requires c κs = search needs
+first-near-requires : tie.Need-first-near-requires Inv-loop μ-loop
+first-near-requires c κs = search needs
 
-high-slot-requires : tie.Need-high-slot-requires Inv-loop μ-loop
-high-slot-requires c κs = search needs
+last-near-requires : tie.Need-last-near-requires Inv-loop μ-loop
+last-near-requires c κs = search needs
 
 slot-of-requires-2 : tie.Need-slot-of-requires-2 Inv-loop μ-loop
 slot-of-requires-2 c κs = search needs
@@ -169,41 +169,41 @@ array-set-from-banks-2 c =
 
 mul-side-next : tie.Need-mul-side-next Inv-loop μ-loop
 mul-side-next c =
-    let e = c .before .before .before .before .before .before .before .before .before .before .before .before .before .low-slot .ensures .1 in omega arith
+    let e = c .before .before .before .before .before .before .before .before .before .before .before .before .before .first-near .ensures .1 in omega arith
 
 array-copy-out-side-next : tie.Need-array-copy-out-side-next Inv-loop μ-loop
 array-copy-out-side-next c =
-    let e = c .before .before .before .before .before .before .before .before .before .before .before .before .before .low-slot .ensures .1 in omega arith
+    let e = c .before .before .before .before .before .before .before .before .before .before .before .before .before .first-near .ensures .1 in omega arith
 
 side-next-requires : tie.Need-side-next-requires Inv-loop μ-loop
 side-next-requires c κs = search needs
 
 mul-banks-3 : tie.Need-mul-banks-3 Inv-loop μ-loop
 mul-banks-3 c =
-    let e = c .before .before .before .before .before .before .before .before .before .before .before .before .before .before .before .low-slot .ensures .1 in omega arith
+    let e = c .before .before .before .before .before .before .before .before .before .before .before .before .before .before .before .first-near .ensures .1 in omega arith
 
 array-set-from-banks-3 : tie.Need-array-set-from-banks-3 Inv-loop μ-loop
 array-set-from-banks-3 c =
-    let e = c .before .before .before .before .before .before .before .before .before .before .before .before .before .before .before .low-slot .ensures .1 in omega arith
+    let e = c .before .before .before .before .before .before .before .before .before .before .before .before .before .before .before .first-near .ensures .1 in omega arith
 
 mul-side-next-2 : tie.Need-mul-side-next-2 Inv-loop μ-loop
 mul-side-next-2 c =
-    let e = c .before .before .before .before .before .before .before .before .before .before .before .before .before .before .high-slot .ensures .1 in omega arith
+    let e = c .before .before .before .before .before .before .before .before .before .before .before .before .before .before .last-near .ensures .1 in omega arith
 
 array-copy-out-side-next-2 : tie.Need-array-copy-out-side-next-2 Inv-loop μ-loop
 array-copy-out-side-next-2 c =
-    let e = c .before .before .before .before .before .before .before .before .before .before .before .before .before .before .high-slot .ensures .1 in omega arith
+    let e = c .before .before .before .before .before .before .before .before .before .before .before .before .before .before .last-near .ensures .1 in omega arith
 
 side-next-requires-2 : tie.Need-side-next-requires-2 Inv-loop μ-loop
 side-next-requires-2 c κs = search needs
 
 mul-banks-4 : tie.Need-mul-banks-4 Inv-loop μ-loop
 mul-banks-4 c =
-    let e = c .before .before .before .before .before .before .before .before .before .before .before .before .before .before .before .before .high-slot .ensures .1 in omega arith
+    let e = c .before .before .before .before .before .before .before .before .before .before .before .before .before .before .before .before .last-near .ensures .1 in omega arith
 
 array-set-from-banks-4 : tie.Need-array-set-from-banks-4 Inv-loop μ-loop
 array-set-from-banks-4 c =
-    let e = c .before .before .before .before .before .before .before .before .before .before .before .before .before .before .before .before .high-slot .ensures .1 in omega arith
+    let e = c .before .before .before .before .before .before .before .before .before .before .before .before .before .before .before .before .last-near .ensures .1 in omega arith
 
 mul-pick : tie.Need-mul-pick Inv-loop μ-loop
 mul-pick c = search needs
@@ -274,14 +274,14 @@ loop-again c =
     let v = g .before .before .before .before .before .view-of .result in
     let h = g .before .before .before .before .held-of .result in
     let x = g .before .before .before .slot-of .result in
-    let y = g .before .before .low-slot .result in
-    let z = g .before .high-slot .result in
+    let y = g .before .before .first-near .result in
+    let z = g .before .last-near .result in
     let w = g .slot-of2 .result in
     let vq = g .before .before .before .before .before .view-of .ensures in
     let hq = g .before .before .before .before .held-of .ensures in
     let xq = g .before .before .before .slot-of .ensures .0 in
-    let yq = g .before .before .low-slot .ensures .0 in
-    let zq = g .before .high-slot .ensures .0 in
+    let yq = g .before .before .first-near .ensures .0 in
+    let zq = g .before .last-near .ensures .0 in
     let wq = g .slot-of2 .ensures .0 in
     let n = c .before .before .before .before .before .before .before .before .before .if3 .banks in
     let m = c .before .before .before .before .before .before .before .before .if4 .banks in
@@ -332,8 +332,8 @@ walk-spec =
     view-of-requires
     held-of-requires
     slot-of-requires
-    low-slot-requires
-    high-slot-requires
+    first-near-requires
+    last-near-requires
     slot-of-requires-2
     mul-tracks-of
     array-copy-out-tracks-of

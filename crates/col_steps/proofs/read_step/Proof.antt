@@ -1,0 +1,53 @@
+-- `col_steps::read_step` meets its contract: the bounds are those that the rules ask of an RD.
+use Rattle.channel.specs.View.{colView, viewOf}
+use Rattle.channel.specs.Steps.{bufferStep, lastsNext}
+use Rattle.sending.specs.Sending.{frontAt}
+use Rattle.col_steps.proofs.ColLaws.{read-front}
+use borrow.Author.Needs.{needs}
+use Rattle.col_steps.proofs.read_step.Statement.{statement}
+use Rattle.col_steps.proofs.read_step.Tie as tie
+
+col-base-requires : tie.Need-col-base-requires
+col-base-requires c κs = search needs
+
+after-gap-requires : tie.Need-after-gap-requires
+after-gap-requires c κs = search needs
+
+later-requires : tie.Need-later-requires
+later-requires c κs = search needs
+
+clipped-requires : tie.Need-clipped-requires
+clipped-requires c κs = search needs
+
+settle-requires : tie.Need-settle-requires
+settle-requires c κs = search needs
+
+is-late-requires : tie.Need-is-late-requires
+is-late-requires c κs = search needs
+
+returns : tie.Need-returns
+unfolding frontAt bufferStep lastsNext viewOf colView
+returns c =
+    λ k act b n m e.
+    let a = c .before .before .before .before .before .before .before .args in
+    rw (
+      c .is-late .ensures,
+      c .before .settle .ensures,
+      c .before .before .clipped .ensures,
+      c .before .before .before .later .ensures,
+      c .before .before .before .before .after-gap .ensures,
+      c .before .before .before .before .before .col-base .ensures,
+    )
+    (read-front (a .s) (a .w) (a .own) k act b n m e)
+
+pub read-step-spec : {M : Type 1} → statement M
+read-step-spec =
+    tie.close
+    (tie.spec
+    col-base-requires
+    after-gap-requires
+    later-requires
+    clipped-requires
+    settle-requires
+    is-late-requires
+    returns)

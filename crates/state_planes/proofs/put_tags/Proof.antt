@@ -1,0 +1,86 @@
+-- `state_planes::put_tags` meets its contract: after x turns the first x banks are put.
+use mathlib.Core.Path.{_≡_, _∙_, ap}
+use Prim.Native.Nat.{_*_, _-_, _≤_}
+use native.Mathlib.Omega.{arith}
+use lib.ListN.{length}
+use Rattle.num.specs.Bytes.{splice, bytes}
+use Rattle.num.proofs.SpliceLaws.{splice-none, splice-more, length-splice}
+use Rattle.state.specs.ChannelBytes.{plane}
+use Rattle.state.specs.Planes.{tags}
+use Rattle.state.proofs.PlaneLaws.{length-plane, plane-next}
+use borrow.Author.Needs.{needs}
+use Rattle.state_planes.proofs.put_tags.Statement.{statement}
+use Rattle.state_planes.proofs.put_tags.Tie as tie
+
+abbrev Inv-loop : tie.InvT-loop
+Inv-loop out₀ ch x₀ out x = (x ≤ 32) × (out ≡ splice out₀ 640 (plane 2 (tags (ch .banks)) x))
+
+abbrev μ-loop : tie.MeasureT-loop
+μ-loop out₀ ch x₀ out x = 32 - x
+
+-- the lent slice keeps its length
+held : (c : tie.At-loop Inv-loop μ-loop) → length (c .loop .out) ≡ length (c .before .before .args .out .now)
+held c =
+    let a = c .before .before .args in
+    let n = length-plane 2 (tags (a .t2 .banks)) (c .loop .x) in
+    ap length (c .loop .inv .1) ∙ length-splice (a .out .now) 640 (plane 2 (tags (a .t2 .banks)) (c .loop .x)) (omega arith)
+
+loop-holds : tie.Need-loop-holds Inv-loop μ-loop
+unfolding plane
+loop-holds c = (omega arith, splice-none (c .before .args .out .now) 640)
+
+mul-t : tie.Need-mul-t Inv-loop μ-loop
+mul-t c = search needs
+
+element-copy-out-t : tie.Need-element-copy-out-t Inv-loop μ-loop
+element-copy-out-t c = search needs
+
+mul-put-u16 : tie.Need-mul-put-u16 Inv-loop μ-loop
+mul-put-u16 c = search needs
+
+add-put-u16 : tie.Need-add-put-u16 Inv-loop μ-loop
+add-put-u16 c = search needs
+
+bank-tag-requires : tie.Need-bank-tag-requires Inv-loop μ-loop
+bank-tag-requires c κs = search needs
+
+put-u16-requires : tie.Need-put-u16-requires Inv-loop μ-loop
+put-u16-requires c κs = let h = held (c .before .before .before .before) in omega arith
+
+add-x : tie.Need-add-x Inv-loop μ-loop
+add-x c = search needs
+
+loop-less : tie.Need-loop-less Inv-loop μ-loop
+loop-less c = search needs
+
+loop-again : tie.Need-loop-again Inv-loop μ-loop
+loop-again c =
+    let a = c .before .before .before .before .before .before .before .before .before .args in
+    let k = c .before .before .before .before .before .before .before .loop in
+    let n = length-plane 2 (tags (a .t2 .banks)) (k .x) in
+    (search needs, c .before .before .put-u16 .ensures ∙ rw (k .inv .1, c .before .before .before .bank-tag .ensures, plane-next 2 (tags (a .t2 .banks)) (k .x)) (splice-more (a .out .now) 640 (plane 2 (tags (a .t2 .banks)) (k .x)) (bytes 2 (tags (a .t2 .banks) (k .x))) (2 * k .x) n (omega arith)))
+
+same-length : tie.Need-same-length Inv-loop μ-loop
+same-length c = held (c .before)
+
+returns : tie.Need-returns Inv-loop μ-loop
+returns c = let e : c .before .loop .x ≡ 32 = omega arith in rw e at (c .before .loop .inv .1)
+
+pub put-tags-spec : {M : Type 1} → statement M
+put-tags-spec =
+    tie.close
+    (tie.spec
+    Inv-loop
+    μ-loop
+    loop-holds
+    mul-t
+    element-copy-out-t
+    mul-put-u16
+    add-put-u16
+    bank-tag-requires
+    put-u16-requires
+    add-x
+    loop-less
+    loop-again
+    same-length
+    returns)
