@@ -18,7 +18,6 @@ use channel::views::view_of;
 use model::ModelState;
 use model::Stepped;
 use record::Dualoct;
-use record::Place;
 use record::Record;
 use record::RecordRead;
 use record::Refusal;

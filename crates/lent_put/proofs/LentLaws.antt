@@ -1,6 +1,6 @@
 -- A model's bytes with the banks that a record changes, and all that comes after the banks, put into them.
 -- Assumes nothing.
-use Prim.Native.Nat.{ℕ, _+_, _*_, _<_, _≤_}
+use Prim.Native.Nat.{ℕ, _<_}
 use mathlib.Core.Path.{_≡_, refl, sym, ap, _∙_}
 use mathlib.Core.Bool.{Bool, true, false, cond}
 use mathlib.Core.List.{List, _++_, append-assoc}
@@ -20,24 +20,23 @@ use Rattle.rules.specs.declared.BankTrack.{BankTrack}
 use Rattle.rules.specs.declared.Buffer.{Buffer}
 use Rattle.rules.specs.declared.Channel.{Channel}
 use Rattle.rules.specs.Neighbour.{split}
-use Rattle.rules.specs.Channel.{idle, after}
+use Rattle.rules.specs.Channel.{idle}
 use Rattle.channel.specs.declared.View.{View}
 use Rattle.channel.specs.declared.Held.{Held}
 use Rattle.channel.specs.declared.Lasts.{Lasts}
 use Rattle.channel.specs.View.{lowOf, highOf, slotOf, viewOf, heldOf}
 use Rattle.channel.specs.Tests.{lastsOf}
 use Rattle.channel.specs.Steps.{spotOf, sideOf, ownNext, sideNext, changed, banksNext, bufferStep, lastsNext, channelOf}
-use Rattle.channel.proofs.StepLaws.{apart-after, apart-length}
+use Rattle.channel.proofs.StepLaws.{apart-after}
 use Rattle.state.specs.ChannelBytes.{plane, bufferBytes, lastsBytes, channelBytes, bufferIn, channelIn}
 use Rattle.state.specs.Planes.{trackPut, fivePlanes, tags}
 use Rattle.state.proofs.PlaneLaws.{length-plane, length-planes, channel-parts, splice-five}
 use Rattle.state.proofs.PutLaws.{rebanked, track-put}
-use Rattle.state.proofs.RoundTrip.{channel-length, length-buffer}
+use Rattle.state.proofs.RoundTrip.{length-buffer}
 use Rattle.lent_read.proofs.ReadLaws.{banks-count, buffer-read}
 use Rattle.model.specs.declared.ModelState.{ModelState}
 use Rattle.model.specs.Model.{modelNext, refrNext, bytesNext}
 use Rattle.model.specs.ModelBytes.{modelBytes, modelIn}
-use Rattle.model.proofs.ModelRoundTrip.{model-length}
 use Rattle.lent_put.specs.Lent.{restBytes, bankedBy}
 
 -- ---- the banks

@@ -5,7 +5,6 @@ use mathlib.Core.List.{List, _++_}
 use Rattle.num.specs.Bytes.{bytes}
 use Rattle.record.specs.declared.Dualoct.{Dualoct}
 use Rattle.rules.specs.declared.Buffer.{Buffer}
-use Rattle.rules.specs.declared.Channel.{Channel}
 use Rattle.channel.specs.declared.View.{View}
 use Rattle.channel.specs.declared.Held.{Held}
 use Rattle.channel.specs.declared.Lasts.{Lasts}

@@ -2,12 +2,10 @@
 -- Assumes nothing.
 use Prim.Native.Nat.{ℕ, _+_, _≤_, _<_}
 use mathlib.Core.Path.{_≡_, refl, sym, ap, _∙_}
-use mathlib.Core.Logic.{_⊎_, inl, inr}
 use mathlib.Core.Bool.{Bool, true, false, not, _&&_, _||_, cond}
 use mathlib.Core.List.{List, [], _∷_, _++_, map, append-nil}
 use lib.Dec.{leb, ltb}
-use lib.ListN.{length, length-append, length-map, take}
-use lib.Seq.{take-all}
+use lib.ListN.{length, length-append, length-map}
 use borrow.Author.Tests.{le-leb, leb-true, ltb-true}
 use native.Mathlib.Nat.{add-zero}
 use native.Mathlib.Omega.{arith}
@@ -18,14 +16,13 @@ use Rattle.record.specs.declared.Record.{Record}
 use Rattle.record.specs.declared.Record.the-variants.{DataOf}
 use Rattle.record.specs.declared.Request.{Request}
 use Rattle.record.specs.declared.Request.the-variants.{Read, Write as WriteTo, Refresh as RefreshBank, Wait, Drain}
-use Rattle.rules.specs.declared.BankTrack.{BankTrack}
 use Rattle.rules.specs.declared.Buffer.{Buffer}
 use Rattle.rules.specs.declared.Channel.{Channel}
 use Rattle.rules.specs.Neighbour.{Relation, split}
 use Rattle.rules.specs.Packets.{instant}
 use Rattle.rules.specs.Rules.{bankCount, dataDelay}
 use Rattle.rules.specs.Channel.{settled, after, afterData}
-use Rattle.rules.proofs.Bools.{not-both, neither}
+use Rattle.rules.proofs.Bools.{neither}
 use Rattle.channel.specs.Steps.{channelOf}
 use Rattle.plan.specs.declared.PlannerState.{PlannerState}
 use Rattle.plan.specs.Planner.{plannerValid}

@@ -2,13 +2,12 @@
 -- Assumes nothing.
 use Prim.Native.Nat.{ℕ, _/_, _≤_, _<_}
 use mathlib.Core.Path.{_≡_, refl, sym, ap, _∙_}
-use mathlib.Core.Bool.{Bool, true, false, not, _&&_}
-use mathlib.Core.Logic.{_⊎_, inl, inr}
+use mathlib.Core.Bool.{Bool, true, false, not}
 use mathlib.Core.List.{List}
-use lib.Dec.{leb, ltb}
-use lib.ListN.{length, getD}
+use lib.Dec.{leb}
+use lib.ListN.{getD}
 use lib.Seq.{getD-take}
-use borrow.Author.Tests.{leb-true, ltb-true, ltb-false, lt-ltb, not-true}
+use borrow.Author.Tests.{leb-true, ltb-true, lt-ltb}
 use native.Mathlib.Omega.{arith}
 use Rattle.settings.specs.declared.Settings.{Settings}
 use Rattle.settings.specs.Instants.{horizon}
@@ -21,7 +20,7 @@ use Rattle.record.proofs.RequestLaws.{accepted-place, accepted-place-write}
 use Rattle.rules.specs.Neighbour.{split}
 use Rattle.rules.specs.Rules.{bankCount}
 use Rattle.rules.specs.Channel.{idle, stateOf}
-use Rattle.rules.proofs.Bools.{not-both, and-left, and-right}
+use Rattle.rules.proofs.Bools.{and-right}
 use Rattle.channel.specs.View.{slotOf, lowOf, highOf}
 use Rattle.validity.specs.Valid.{apart}
 use Rattle.plan.specs.declared.PlannerState.{PlannerState}

@@ -1,13 +1,12 @@
 -- What the code's draft of a request says of the plan of the request.
 -- Assumes nothing.
-use Prim.Native.Nat.{ℕ, zero, suc, _+_, _%_, _≤_}
+use Prim.Native.Nat.{ℕ, _+_, _%_, _≤_}
 use mathlib.Core.Path.{_≡_}
 use mathlib.Core.Bool.{Bool, true, false, not, _||_, cond}
 use mathlib.Core.List.{List, [], _∷_, _++_}
-use lib.Dec.{eqb, leb, ltb}
-use lib.ListN.{length, getD}
+use lib.Dec.{leb, ltb}
+use lib.ListN.{length}
 use Rattle.settings.specs.declared.Settings.{Settings}
-use Rattle.settings.specs.declared.PacketAt.{PacketAt}
 use Rattle.settings.specs.Instants.{horizon}
 use Rattle.record.specs.declared.Record.{Record}
 use Rattle.record.specs.declared.Record.the-variants.{DataOf}
@@ -16,18 +15,14 @@ use Rattle.record.specs.declared.Request.the-variants.{Read, Write as WriteTo, 
 use Rattle.record.specs.declared.RequestRead.{RequestRead}
 use Rattle.record.specs.declared.RequestRead.the-variants.{Refused as RefusedRequest, Accepted}
 use Rattle.rules.specs.declared.BankTrack.{BankTrack}
-use Rattle.rules.specs.declared.Buffer.{Buffer}
 use Rattle.rules.specs.Neighbour.{split}
 use Rattle.rules.specs.Channel.{settled}
-use Rattle.channel.specs.declared.Lasts.{Lasts}
 use Rattle.channel.specs.Steps.{channelOf}
 use Rattle.sending.specs.declared.Front.{Front}
 use Rattle.sending.specs.Sending.{clip}
 use Rattle.plan.specs.declared.PlannerState.{PlannerState}
 use Rattle.plan.specs.Plan.{planned}
 use Rattle.plan.specs.Call.{timely}
-use Rattle.courses.specs.declared.Fields.{Fields}
-use Rattle.courses.specs.Codes.{recordIn}
 use Rattle.turns.specs.Series.{recordsUpTo, lastsIn}
 use Rattle.placing.specs.declared.Draft.{Draft as Drawn}
 use Rattle.placing.specs.declared.Ending.{Ending}

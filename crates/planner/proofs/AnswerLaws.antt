@@ -1,6 +1,6 @@
 -- The answer to a request, and its records in the lent buffer, by its draft.
 -- Assumes nothing.
-use Prim.Native.Nat.{ℕ, zero, suc, _+_, _*_, _/_, _≤_, _<_, _^_}
+use Prim.Native.Nat.{ℕ, zero, suc, _+_, _*_, _/_, _≤_}
 use mathlib.Core.Path.{_≡_, refl, sym, ap, _∙_}
 use mathlib.Core.Bool.{Bool, true, false, not, _||_, cond}
 use lib.Dec.{leb}
@@ -10,13 +10,11 @@ use borrow.Author.Tests.{leb-true, ltb-true, ltb-false, le-leb, lt-leb}
 use native.Mathlib.Nat.{add-zero}
 use native.Mathlib.Numerals.{add-one}
 use native.Mathlib.Omega.{arith}
-use Rattle.num.specs.Bytes.{bytes, splice}
+use Rattle.num.specs.Bytes.{splice}
 use Rattle.num.proofs.ByteLaws.{length-bytes}
 use Rattle.num.proofs.SpliceLaws.{splice-none, splice-next, length-splice}
 use Rattle.settings.specs.declared.Settings.{Settings}
-use Rattle.settings.specs.Settings.{valid}
 use Rattle.settings.specs.Instants.{horizon}
-use Rattle.settings.proofs.SettingsLaws.{bounds}
 use Rattle.record.specs.declared.Record.{Record}
 use Rattle.record.specs.declared.Record.the-variants.{RowAt, ColAt, DataOf}
 use Rattle.record.specs.declared.Request.{Request}

@@ -1,7 +1,6 @@
 // The planner's state as 740 bytes, and which states are refused.
 ghost use mathlib.Core.Path.{_≡_};
 ghost use lib.ListN.{length};
-ghost use Rattle.num.specs.Bytes.{part, splice};
 ghost use Rattle.num.specs.Search.{allUpTo};
 ghost use Rattle.settings.specs.Instants.{isInstant};
 ghost use Rattle.rules.specs.Neighbour.{split};

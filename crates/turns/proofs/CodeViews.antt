@@ -1,15 +1,13 @@
 -- The packet of a code by its command, and what it is to the rules.
 -- Assumes nothing.
 use Prim.Native.Nat.{ℕ, _/_, _%_}
-use mathlib.Core.Path.{_≡_, refl, sym, _∙_}
-use mathlib.Core.Bool.{Bool, true, false, _||_, cond}
+use mathlib.Core.Path.{_≡_, refl}
+use mathlib.Core.Bool.{Bool, true, false, _||_}
 use mathlib.Core.Logic.{_⊎_, inl, inr}
 use lib.Dec.{eqb}
 use borrow.Author.Tests.{eqb-true, ne-eqb}
-use Rattle.packet.specs.declared.RowPacket.{RowPacket}
 use Rattle.packet.specs.declared.RowPacket.the-variants.{Act, Prer, Refa, Refp}
 use Rattle.packet.specs.declared.ColPacket.the-variants.{Nocop, Wr, Rd}
-use Rattle.record.specs.declared.Record.{Record}
 use Rattle.record.specs.declared.Record.the-variants.{RowAt, ColAt}
 use Rattle.rules.specs.Channel.{never}
 use Rattle.rules.proofs.Bools.{not-both}

@@ -2,11 +2,11 @@
 -- Assumes nothing.
 use Prim.Native.Nat.{ℕ, zero, suc, _+_, _≤_, _<_, max}
 use mathlib.Core.Path.{_≡_, refl, sym, ap, _∙_}
-use mathlib.Core.Bool.{Bool, true, false, not, _&&_}
+use mathlib.Core.Bool.{Bool, true, false, not}
 use mathlib.Core.Logic.{_⊎_, inl, inr}
 use mathlib.Core.List.{List, [], _∷_, _++_}
 use lib.Dec.{leb}
-use lib.ListN.{length, length-map, length-set, take, drop, getD, set, take-append-drop, List·getD-map}
+use lib.ListN.{length, length-map, take, drop, getD, set, take-append-drop, List·getD-map}
 use lib.Seq.{take-suc, take-all, length-take-le, getD-take, getD-set-other, getD-set-same}
 use borrow.Author.Tests.{le-leb, leb-true}
 use native.Mathlib.Numerals.{add-one}
@@ -18,20 +18,16 @@ use Rattle.packet.specs.declared.ColPacket.the-variants.{Nocop, Wr, Rd}
 use Rattle.record.specs.declared.Record.{Record}
 use Rattle.record.specs.declared.Record.the-variants.{RowAt, ColAt, DataOf}
 use Rattle.rules.specs.declared.BankTrack.{BankTrack}
-use Rattle.rules.specs.declared.Buffer.{Buffer}
-use Rattle.rules.specs.declared.Channel.{Channel}
 use Rattle.rules.specs.Neighbour.{split}
-use Rattle.rules.specs.Rules.{dataDelay}
-use Rattle.rules.specs.Channel.{never, idle, after}
-use Rattle.rules.specs.Earliest.{placedAt, earliest}
+use Rattle.rules.specs.Channel.{after}
+use Rattle.rules.specs.Earliest.{placedAt}
 use Rattle.rules.proofs.Bools.{not-both}
 use Rattle.channel.specs.declared.View.{View}
 use Rattle.channel.specs.View.{rowView, colView, viewOf, heldOf}
-use Rattle.channel.specs.Tests.{tracksOf, actBound, delayOf}
+use Rattle.channel.specs.Tests.{delayOf}
 use Rattle.channel.specs.Steps.{banksNext, bufferStep, lastsNext, channelOf}
-use Rattle.channel.specs.Earliest.{earliestBy}
 use Rattle.channel.proofs.ViewLaws.{view-delay}
-use Rattle.channel.proofs.StepLaws.{apart-after, apart-length}
+use Rattle.channel.proofs.StepLaws.{apart-after}
 use Rattle.channel.proofs.EarliestLaws.{earliest-is}
 use Rattle.plan.specs.declared.PlannerState.{PlannerState}
 use Rattle.plan.specs.Plan.{Draft, slot, sent}

@@ -1,8 +1,8 @@
 -- What the loop does with a packet is what the packet makes of the state.
 -- Assumes nothing.
-use Prim.Native.Nat.{ℕ, _+_, _/_, _%_, _≤_, _<_, max}
+use Prim.Native.Nat.{ℕ, _/_, _%_, _≤_, _<_, max}
 use mathlib.Core.Path.{_≡_, refl, sym, ap, _∙_}
-use mathlib.Core.Bool.{Bool, true, false, not, _&&_, _||_, cond}
+use mathlib.Core.Bool.{Bool, true, false, not, _&&_, cond}
 use mathlib.Core.Logic.{_⊎_, ⊎-elim, inl, inr}
 use mathlib.Core.List.{List}
 use lib.Dec.{eqb, ltb}
@@ -11,29 +11,27 @@ use lib.Seq.{set-getD}
 use borrow.Author.Tests.{lt-ltb, le-ltb, ltb-true, ltb-false, eqb-true, eqb-false, not-true}
 use native.Mathlib.Omega.{arith}
 use Rattle.settings.specs.declared.Settings.{Settings}
-use Rattle.packet.specs.declared.RowPacket.the-variants.{Act, Prer, Refa, Refp}
-use Rattle.packet.specs.declared.ColPacket.the-variants.{Nocop, Wr, Rd}
+use Rattle.packet.specs.declared.ColPacket.the-variants.{Nocop}
 use Rattle.record.specs.declared.Record.{Record}
-use Rattle.record.specs.declared.Record.the-variants.{RowAt, ColAt}
+use Rattle.record.specs.declared.Record.the-variants.{ColAt}
 use Rattle.rules.specs.declared.BankTrack.{BankTrack}
 use Rattle.rules.specs.declared.Buffer.{Buffer}
 use Rattle.rules.specs.declared.Buffer.the-variants.{Empty, Waiting, Due}
 use Rattle.rules.specs.Channel.{never, idle}
-use Rattle.rules.specs.Checks.{since}
 use Rattle.rules.proofs.Bools.{not-both, and-left, and-right}
 use Rattle.channel.specs.declared.View.{View}
 use Rattle.channel.specs.declared.Held.{Held}
 use Rattle.channel.specs.declared.Tracks.{Tracks}
-use Rattle.channel.specs.View.{slotOf, lowOf, highOf, rowView, colView, viewOf, heldOf, three}
+use Rattle.channel.specs.View.{slotOf, rowView, colView, viewOf, heldOf}
 use Rattle.channel.specs.Tests.{tracksOf, actBound}
-use Rattle.channel.specs.Steps.{spotOf, changed, touch, ownNext, sideNext, banksNext}
+use Rattle.channel.specs.Steps.{ownNext, banksNext}
 use Rattle.channel.specs.Earliest.{openBound, prechargeBound, readBound, writeBound, retireBound, earliestBy}
 use Rattle.channel.proofs.JudgeLaws.{slot-read}
 use Rattle.courses.specs.declared.Fields.{Fields}
 use Rattle.courses.specs.Course.{fullMask}
 use Rattle.courses.specs.Codes.{packetIn}
 use Rattle.sending.specs.declared.Front.{Front}
-use Rattle.tracks.specs.Tracks.{actView, refaView, prerView, refpView, rdView, wrView, nocopView, stampedAt, ClosedOwn, ClosedSide, firstNear, lastNear}
+use Rattle.tracks.specs.Tracks.{prerView, wrView, nocopView, stampedAt, ClosedOwn, ClosedSide, firstNear, lastNear}
 use Rattle.sending.specs.Sending.{clip, slotBy, frontAt, frontAfter, Latest, Opened, Precharged}
 use Rattle.tracks.proofs.StoreLaws.{same-closing, three-most, readAt, retiredAt, read-stored, write-retire-stored, nocop-retire-stored, write-none-stored, nocop-none-stored, act-stored, refresh-stored, prer-stored}
 use Rattle.turns.specs.Turns.{isCol, isOpening, viewIn, slotIn, Turn}

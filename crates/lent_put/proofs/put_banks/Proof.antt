@@ -1,7 +1,7 @@
 -- `lent_put::put_banks` meets its contract: three banks, from the last to the first.
 use mathlib.Core.Path.{_≡_, _∙_, sym, ap}
 use native.Mathlib.Omega.{arith}
-use Rattle.model.specs.ModelBytes.{modelBytes, modelIn}
+use Rattle.model.specs.ModelBytes.{modelIn}
 use Rattle.state.specs.Planes.{trackPut}
 use Rattle.state.proofs.PutLaws.{length-put}
 use Prim.Native.Nat.{ℕ}

@@ -1,5 +1,5 @@
 -- `lent_put::put_next` meets its contract: the banks, and then all that comes after them.
-use mathlib.Core.Path.{_≡_, _∙_, sym, ap}
+use mathlib.Core.Path.{_∙_}
 use Rattle.model.specs.ModelBytes.{modelIn}
 use Rattle.model.proofs.ModelRoundTrip.{model-length}
 use Rattle.lent_put.proofs.LentLaws.{next-written}

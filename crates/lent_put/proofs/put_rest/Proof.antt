@@ -1,6 +1,6 @@
 -- `lent_put::put_rest` meets its contract: six fields side by side.
 use Rattle.lent_put.proofs.LentLaws.{rest-written}
-use mathlib.Core.Path.{_≡_, _∙_, ap}
+use mathlib.Core.Path.{_∙_, ap}
 use mathlib.Core.List.{List}
 use Prim.Native.Nat.{ℕ}
 use Rattle.num.specs.Bytes.{bytes, splice}

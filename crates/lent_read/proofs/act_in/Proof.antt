@@ -1,6 +1,6 @@
 -- `lent_read::act_in` meets its contract: m is what the banks below x ask, in every turn.
 use Prim.Native.Nat.{_-_, _≤_}
-use mathlib.Core.Path.{_≡_, refl, _∙_}
+use mathlib.Core.Path.{_≡_, refl}
 use native.Mathlib.Omega.{arith}
 use Rattle.rules.specs.Checks.{maxUpTo}
 use Rattle.channel.specs.Tests.{actTerm}

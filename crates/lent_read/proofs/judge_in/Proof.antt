@@ -1,5 +1,4 @@
 -- `lent_read::judge_in` meets its contract: the tests are those of the tracked state.
-use mathlib.Core.Path.{_≡_}
 use native.Mathlib.Omega.{arith}
 use Rattle.channel.proofs.JudgeLaws.{judged-by, judged-closed}
 use Rattle.state.specs.ChannelBytes.{channelIn}

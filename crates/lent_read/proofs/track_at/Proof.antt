@@ -1,5 +1,5 @@
 -- `lent_read::track_at` meets its contract: the track read is that of the state.
-use mathlib.Core.Path.{_≡_, _∙_}
+use mathlib.Core.Path.{_∙_}
 use Rattle.lent_read.proofs.ReadLaws.{track-read}
 use borrow.Author.Needs.{needs}
 use Rattle.lent_read.proofs.track_at.Statement.{statement}

@@ -1,6 +1,6 @@
 -- `state_planes::put_plane` meets its contract: after x turns the first x banks are put.
 use mathlib.Core.Path.{_≡_, _∙_, ap}
-use Prim.Native.Nat.{_+_, _*_, _-_, _≤_}
+use Prim.Native.Nat.{_*_, _-_, _≤_}
 use native.Mathlib.Omega.{arith}
 use lib.ListN.{length}
 use Rattle.num.specs.Bytes.{splice, bytes}

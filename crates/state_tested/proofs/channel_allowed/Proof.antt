@@ -1,5 +1,4 @@
 -- `state_tested::channel_allowed` meets its contract: the tests by plane are those of the state.
-use mathlib.Core.Path.{_≡_, refl, _∙_, sym}
 use Rattle.state.proofs.TestedLaws.{tested}
 use borrow.Author.Needs.{needs}
 use Rattle.state_tested.proofs.channel_allowed.Statement.{statement}

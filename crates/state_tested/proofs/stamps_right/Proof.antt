@@ -1,6 +1,6 @@
 -- `state_tested::stamps_right` meets its contract: right says whether each instant passed so far is one.
 use mathlib.Core.Path.{_≡_, refl, _∙_, sym}
-use Prim.Native.Nat.{_+_, _*_, _-_, _≤_}
+use Prim.Native.Nat.{_*_, _-_, _≤_}
 use native.Mathlib.Omega.{arith}
 use Rattle.num.specs.Search.{allUpTo}
 use Rattle.num.proofs.SearchLaws.{all-next}

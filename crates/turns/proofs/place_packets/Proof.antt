@@ -1,5 +1,5 @@
 -- `turns::place_packets` meets its contract: before packet i the packets are placed as they are sent, or one was late.
-use Prim.Native.Nat.{ℕ, _-_, _≤_}
+use Prim.Native.Nat.{_-_, _≤_}
 use mathlib.Core.Path.{_≡_, sym, _∙_}
 use mathlib.Core.Logic.{⊎-elim}
 use native.Mathlib.Omega.{arith}

@@ -2,7 +2,6 @@
 use mathlib.Core.Path.{_∙_}
 use Rattle.plan.specs.Planner.{plannerValid}
 use Rattle.rules.specs.Rules.{bankCount}
-use native.Mathlib.Omega.{arith}
 use borrow.Author.Needs.{needs}
 use Rattle.planner.proofs.Planner.valid.Statement.{statement}
 use Rattle.planner.proofs.Planner.valid.Tie as tie

@@ -1,6 +1,6 @@
 -- `put_d` meets its contract: the sum is no later than the last instant, so D has an instant and is put.
 use Prim.Native.Nat.{_+_, _≤_}
-use mathlib.Core.Path.{_≡_, refl, sym, _∙_, ap}
+use mathlib.Core.Path.{_≡_, sym, _∙_, ap}
 use mathlib.Core.Bool.{Bool, true, false}
 use borrow.Author.Tests.{le-leb}
 use Rattle.settings.specs.declared.Settings.{Settings}

@@ -1,12 +1,10 @@
 -- `put_data` meets its contract: D of a write is put, and nothing for any other request.
-use Prim.Native.Nat.{_+_, _*_, _≤_}
-use mathlib.Core.Path.{_≡_, _∙_}
-use mathlib.Core.Bool.{true}
+use Prim.Native.Nat.{_*_}
+use mathlib.Core.Path.{_∙_}
 use mathlib.Core.List.{append-nil}
 use native.Mathlib.Omega.{arith}
 use Rattle.num.proofs.SpliceLaws.{splice-none}
-use Rattle.settings.specs.Instants.{horizon}
-use Rattle.plan.specs.Call.{listBytes, inTime}
+use Rattle.plan.specs.Call.{listBytes}
 use Rattle.placing.specs.Drafts.{askedOf, dataOf, dataCount}
 use Rattle.planner.proofs.AnswerLaws.{data-time}
 use borrow.Author.Needs.{needs}

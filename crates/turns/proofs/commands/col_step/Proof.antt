@@ -1,6 +1,6 @@
 -- `placing::commands::col_step` meets its contract: by its command.
-use Prim.Native.Nat.{ℕ, _/_, _%_}
-use mathlib.Core.Path.{_≡_, refl, sym, _∙_}
+use Prim.Native.Nat.{_/_}
+use mathlib.Core.Path.{_∙_}
 use Rattle.courses.specs.Course.{fullMask}
 use Rattle.turns.proofs.CodeViews.{rd-is, wr-is, nocop-is, nocop-code}
 use borrow.Author.Needs.{needs}

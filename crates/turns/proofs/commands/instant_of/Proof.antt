@@ -1,6 +1,5 @@
 -- `placing::commands::instant_of` meets its contract: by whether there is such a bank.
 use borrow.Author.Tests.{lt-ltb, le-ltb}
-use borrow.Author.Needs.{needs}
 use Rattle.turns.proofs.commands.instant_of.Statement.{statement}
 use Rattle.turns.proofs.commands.instant_of.Tie as tie
 

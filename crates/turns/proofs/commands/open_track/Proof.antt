@@ -1,6 +1,6 @@
 -- `placing::commands::open_track` meets its contract: by its command.
-use Prim.Native.Nat.{ℕ, _/_, _%_}
-use mathlib.Core.Path.{_≡_, refl, sym, _∙_}
+use Prim.Native.Nat.{_/_}
+use mathlib.Core.Path.{_∙_}
 use Rattle.turns.proofs.CodeViews.{act-is, refa-is, refa-code}
 use borrow.Author.Needs.{needs}
 use Rattle.turns.proofs.commands.open_track.Statement.{statement}
