@@ -272,9 +272,7 @@ loop-again c =
     ⊎-elim
     (λ w.
     let col = sym (c .before .is-col .ensures) ∙ w .0 .taken in
-    let m = rw (w .1 .ensures) at (w .2 .ensures .0) in
-    let a = rw (w .1 .ensures) at (w .3 .ensures) in
-    let front = col-front s fs code (k .banks) (k .w) size small (w .4 .result) _ _ _ x m a (w .4 .ensures) col in
+    let front = col-front s fs code (k .banks) (k .w) size small (w .4 .result) _ _ _ x (rw (w .1 .ensures) at (w .2 .ensures .0)) (rw (w .1 .ensures) at (w .3 .ensures)) (w .4 .ensures) col in
     rw (w .9) (turn-read s fs code (k .banks) (k .w) size small (w .4 .result) front _ _ (eqb-true _ _ (sym (w .5 .ensures) ∙ w .6 .taken)) x (w .8)))
     (⊎-elim
     (λ w.
@@ -286,9 +284,7 @@ loop-again c =
     (⊎-elim
     (λ w.
     let col = sym (c .before .is-col .ensures) ∙ w .0 .taken in
-    let m = rw (w .1 .ensures) at (w .2 .ensures .0) in
-    let a = rw (w .1 .ensures) at (w .3 .ensures) in
-    let front = col-front s fs code (k .banks) (k .w) size small (w .4 .result) _ _ _ x m a (w .4 .ensures) col in
+    let front = col-front s fs code (k .banks) (k .w) size small (w .4 .result) _ _ _ x (rw (w .1 .ensures) at (w .2 .ensures .0)) (rw (w .1 .ensures) at (w .3 .ensures)) (w .4 .ensures) col in
     rw (w .10) (turn-none s fs code (k .banks) (k .w) size small (w .4 .result) front _ col (eqb-false _ _ (sym (w .5 .ensures) ∙ w .6 .left)) (rw (w .1 .ensures) at (w .8 .left)) (w .9)))
     (⊎-elim
     (λ w.
