@@ -15,7 +15,7 @@ use Rattle.model.specs.declared.ModelState.{ModelState}
 use Rattle.model.specs.ModelBytes.{modelBytes}
 use Rattle.model.proofs.ModelRoundTrip.{model-length}
 
-pub written : (l : List ℕ) (m : ModelState) → length l ≡ 752
+written : (l : List ℕ) (m : ModelState) → length l ≡ 752
     → splice (splice (splice (splice (splice l 0 (channelBytes (m .channel))) 732 (bytes 2 (m .refr))) 734 (bytes 2 0)) 736 (bytes 8 (m .bytes .dqa))) 744 (bytes 8 (m .bytes .dqb)) ≡ modelBytes m
 unfolding modelBytes
 written l m e =
@@ -26,3 +26,13 @@ written l m e =
     (length-bytes 8 (m .bytes .dqa))
     (omega arith)
     ∙ splice-whole l (modelBytes m) (model-length m ∙ sym e)
+
+-- the same by what each put leaves
+pub model-put : (m : ModelState) (l a b c d e : List ℕ) → length l ≡ 752
+    → a ≡ splice l 0 (channelBytes (m .channel))
+    → b ≡ splice a 732 (bytes 2 (m .refr))
+    → c ≡ splice b 734 (bytes 2 0)
+    → d ≡ splice c 736 (bytes 8 (m .bytes .dqa))
+    → e ≡ splice d 744 (bytes 8 (m .bytes .dqb))
+    → e ≡ modelBytes m
+model-put m l a b c d e n ea eb ec ed ee = ee ∙ rw (ed, ec, eb, ea) (written l m n)

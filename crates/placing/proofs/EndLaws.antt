@@ -2,7 +2,7 @@
 -- Assumes nothing.
 use Prim.Native.Nat.{ℕ, _+_, _≤_, _<_}
 use mathlib.Core.Path.{_≡_, refl, sym, ap, _∙_}
-use mathlib.Core.Bool.{Bool, true, false, not, _&&_, _||_, cond}
+use mathlib.Core.Bool.{Bool, true, false, not, _&&_, _||_, and-true, cond}
 use mathlib.Core.List.{List, [], _∷_, _++_, map, append-nil}
 use lib.Dec.{leb, ltb}
 use lib.ListN.{length, length-append, length-map}
@@ -22,7 +22,7 @@ use Rattle.rules.specs.Neighbour.{Relation, split}
 use Rattle.rules.specs.Packets.{instant}
 use Rattle.rules.specs.Rules.{bankCount, dataDelay}
 use Rattle.rules.specs.Channel.{settled, after, afterData}
-use Rattle.rules.proofs.Bools.{neither}
+use Rattle.rules.proofs.Bools.{not-fails, not-passes, neither}
 use Rattle.channel.specs.Steps.{channelOf}
 use Rattle.plan.specs.declared.PlannerState.{PlannerState}
 use Rattle.plan.specs.Planner.{plannerValid}
@@ -41,7 +41,6 @@ use Rattle.placing.specs.declared.Draft.{Draft as Drawn}
 use Rattle.turns.specs.declared.Series.{Series as SeriesOf}
 use Rattle.turns.specs.Series.{recordsUpTo, packetsOf, allSent, Sent}
 use Rattle.turns.proofs.TimeLaws.{in-time-one, all-refresh, all-mask}
-use Rattle.turns.proofs.GoingLaws.{not-late, late-not}
 use Rattle.placing.specs.Drafts.{dataOf, dataCount, waitOf, reachOf, loadsOf, refreshBy, maskBy, endingOf, tailBy, stateBy, lateBy, Placed}
 
 -- ---- what a request makes once its packets are sent
@@ -64,10 +63,6 @@ plan-end s p v Drain = drain-sent s split p v
 -- a channel with another write buffer
 abbrev buffered : Channel → Buffer → Channel
 buffered ch b = record { banks = ch .banks; last = ch .last; row = ch .row; col = ch .col; pre = ch .pre; rd = ch .rd; buffer = b }
-
-and-true : (t : Bool) → t && true ≡ t
-and-true true = refl
-and-true false = refl
 
 module _ (s : Settings) (z : Draft) where
   abbrev now : ℕ
@@ -205,7 +200,7 @@ module _ (s : Settings) (p : PlannerState) (q : Request) (free : ℕ) (f : Field
         now-is = u .now-is e
 
         early : inTime s (all .records) ≡ true
-        early = not-late (w .late) (inTime s (all .records)) (u .late) e
+        early = not-fails (w .late) (inTime s (all .records)) (u .late) e
 
         time-is : timely s (planned s split q p) ≡ leb (w .now + reachOf s q) horizon
         time-is =
@@ -226,13 +221,13 @@ module _ (s : Settings) (p : PlannerState) (q : Request) (free : ℕ) (f : Field
       late-is = go (w .late) refl
         where
           go : (t : Bool) → w .late ≡ t → t || not (leb (w .now + reachOf s q) horizon) ≡ not (timely s (planned s split q p))
-          go true e = rw (plan-is, end-late s all q (late-not (w .late) (inTime s (all .records)) (u .late) e))
+          go true e = rw (plan-is, end-late s all q (not-passes (w .late) (inTime s (all .records)) (u .late) e))
           go false e = rw (time-is e)
 
       on-time : lateBy (endingOf s q p) w ≡ false → (w .late ≡ false) × (leb (w .now + reachOf s q) horizon ≡ true)
       on-time e =
           let (a, n) = neither (w .late) _ e in
-          (a, not-late (not (leb (w .now + reachOf s q) horizon)) (leb (w .now + reachOf s q) horizon) refl n)
+          (a, not-fails (not (leb (w .now + reachOf s q) horizon)) (leb (w .now + reachOf s q) horizon) refl n)
 
       -- in time: the next state, and the records, with D by now of that state
       next-is : lateBy (endingOf s q p) w ≡ false → stateBy (r .banks) (tailBy (endingOf s q p) w) ≡ planned s split q p .planner

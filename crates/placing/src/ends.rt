@@ -3,12 +3,12 @@ ghost use mathlib.Core.Path.{_≡_};
 ghost use mathlib.Core.Bool.{cond};
 ghost use Prim.Native.Nat.{_+_, _<_};
 ghost use lib.Dec.{ltb};
-ghost use Rattle.sending.specs.Sending.{clip};
 ghost use Rattle.rules.specs.Channel.{settled};
 ghost use Rattle.turns.specs.Series.{lastsFrom, frontOf};
-ghost use Rattle.placing.specs.Drafts.{askedOf, dataCount, waitOf, reachOf, loadsOf, refreshBy, maskBy, endingOf, tailOf, tailBy, stateBy, lateBy};
+ghost use Rattle.placing.specs.Drafts.{askedOf, waitOf, reachOf, loadsOf, refreshBy, maskBy, endingOf, tailOf, tailBy, stateBy, lateBy};
 use crate::Ending;
 use crate::Tail;
+use crate::data_count;
 use channel::Lasts;
 use plan::PlannerState;
 use record::Request;
@@ -17,6 +17,7 @@ use rules::BankTrack;
 use rules::Buffer;
 use rules::Channel;
 use sending::Front;
+use sending::clipped;
 use settings::PacketAt;
 use settings::Settings;
 use steps::settle;
@@ -28,18 +29,6 @@ pub(crate) fn asked(r: RequestRead) -> Request
     match r {
         RequestRead::Refused(_) => Request::Wait(0),
         RequestRead::Accepted(q) => q,
-    }
-}
-
-fn data_count(q: Request) -> usize
-    ensures { λ r. ⌜ (r ≡ dataCount q) × (r < 2) ⌝ }
-{
-    match q {
-        Request::Read(_) => 0,
-        Request::Write(_, _, _) => 1,
-        Request::Refresh => 0,
-        Request::Wait(_) => 0,
-        Request::Drain => 0,
     }
 }
 
@@ -156,13 +145,6 @@ pub(crate) fn tail_of(p: PlannerState) -> Tail
         refresh: p.refresh,
         mask: p.mask,
     }
-}
-
-// An instant, or the last one where it would pass that.
-fn clipped(t: u64) -> u32
-    ensures { λ r. ⌜ r ≡ clip t ⌝ }
-{
-    if 1000000000 < t { 1000000000 } else { t as u32 }
 }
 
 // The write buffer once the data of a write have come.

@@ -3,11 +3,12 @@ mod ends;
 
 ghost use mathlib.Core.Path.{_≡_};
 ghost use mathlib.Core.Bool.{true};
+ghost use Prim.Native.Nat.{_<_};
 ghost use Rattle.settings.specs.Settings.{valid};
 ghost use Rattle.record.specs.Request.{requestRead};
 ghost use Rattle.rules.specs.Neighbour.{split};
 ghost use Rattle.plan.specs.Planner.{plannerValid};
-ghost use Rattle.placing.specs.Drafts.{Placed, askedOf};
+ghost use Rattle.placing.specs.Drafts.{Placed, askedOf, dataCount};
 use crate::ends::asked;
 use crate::ends::ending_of;
 use crate::ends::front_of;
@@ -26,6 +27,7 @@ use courses::Near;
 use ordering::course_of;
 use ordering::drain_course;
 use plan::PlannerState;
+use record::Request;
 use record::RequestRead;
 use request_fields::drains;
 use request_fields::fields_of;
@@ -66,6 +68,19 @@ pub struct Ending {
     pub loads: bool,
     pub refresh: u32,
     pub mask: u32,
+}
+
+// How many data records a request makes.
+pub fn data_count(q: Request) -> usize
+    ensures { λ r. ⌜ (r ≡ dataCount q) × (r < 2) ⌝ }
+{
+    match q {
+        Request::Read(_) => 0,
+        Request::Write(_, _, _) => 1,
+        Request::Refresh => 0,
+        Request::Wait(_) => 0,
+        Request::Drain => 0,
+    }
 }
 
 // One request of any bytes.

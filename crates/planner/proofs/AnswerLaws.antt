@@ -28,7 +28,7 @@ use Rattle.record.specs.Request.{requestRead}
 use Rattle.rules.specs.Neighbour.{split}
 use Rattle.rules.specs.Packets.{instant}
 use Rattle.rules.specs.Rules.{dataDelay}
-use Rattle.rules.proofs.Bools.{not-both, and-left, and-right, neither}
+use Rattle.rules.proofs.Bools.{not-fails, not-passes, and-left, and-right, neither}
 use Rattle.plan.specs.declared.PlannerState.{PlannerState}
 use Rattle.plan.specs.Plan.{plannedWait, stepsOf, planned}
 use Rattle.plan.specs.Call.{listBytes, inTime, timely, outcomeOf, outcomeBy, planOutcome, isMade, draftBy, planNext, planRecords, planRoom}
@@ -117,14 +117,6 @@ module _ (f : Fields) (codes ats : List ℕ) where
 
 -- ---- the answer, by the draft
 
-not-late : (a b : Bool) → a ≡ not b → a ≡ false → b ≡ true
-not-late a true e f = refl
-not-late a false e f = not-both a e f
-
-late-not : (a b : Bool) → a ≡ not b → a ≡ true → b ≡ false
-late-not a false e f = refl
-late-not a true e f = not-both a f e
-
 -- a refused request leaves the planner as it is, and makes nothing
 asked-none : (s : Settings) (p : PlannerState) → planned s split (Wait 0) p ≡ record { planner = p; records = [] }
 unfolding planned stepsOf plannedWait
@@ -133,7 +125,7 @@ asked-none s p = rw (add-zero (p .now .0))
 -- of a request that is read
 module _ (s : Settings) (p : PlannerState) (q : Request) (free : ℕ) (d : Drawn) (h : Placed s p q free d) where
   in-time : d .late ≡ false → timely s (planned s split q p) ≡ true
-  in-time e = not-late (d .late) (timely s (planned s split q p)) (h .late) e
+  in-time e = not-fails (d .late) (timely s (planned s split q p)) (h .late) e
 
   pub room-for : d .late || d .full ≡ false → d .course .count + dataCount q ≤ free
   room-for e =
@@ -150,7 +142,7 @@ module _ (s : Settings) (p : PlannerState) (q : Request) (free : ℕ) (d : Drawn
 
   served-is : (room : ℕ) → free ≡ room / 32 → (a b : Bool) → d .late ≡ a → d .full ≡ b → servedAnswer q a b (d .course .count) ≡ outcomeOf s (planned s split q p) room
   unfolding outcomeOf
-  served-is room m true b e f = rw (late-not (d .late) (timely s (planned s split q p)) (h .late) e)
+  served-is room m true b e f = rw (not-passes (d .late) (timely s (planned s split q p)) (h .late) e)
   served-is room m false true e f =
       rw (in-time e, lt-leb (length (planned s split q p .records)) (room / 32) (omega (arith, m, ltb-true free (length (planned s split q p .records)) (sym (h .full e) ∙ f))))
   served-is room m false false e f =

@@ -1,25 +1,12 @@
 // What a plan call answers.
 ghost use mathlib.Core.Path.{_≡_};
 ghost use Prim.Native.Nat.{_≤_};
-ghost use Rattle.placing.specs.Drafts.{dataCount};
 ghost use Rattle.planner.specs.Answer.{servedAnswer, answerBy};
+use placing::data_count;
 use plan::Outcome;
 use record::Refusal;
 use record::Request;
 use record::RequestRead;
-
-// How many data records a request makes.
-fn data_count(q: Request) -> usize
-    ensures { λ r. ⌜ (r ≡ dataCount q) × (r ≤ 1) ⌝ }
-{
-    match q {
-        Request::Read(_) => 0,
-        Request::Write(_, _, _) => 1,
-        Request::Refresh => 0,
-        Request::Wait(_) => 0,
-        Request::Drain => 0,
-    }
-}
 
 // The answer to a request that is read: 7, then 8, then the number of its records.
 fn served(q: Request, late: bool, full: bool, n: usize) -> Outcome

@@ -13,13 +13,8 @@ use lib.ListN.{length, getD}
 use Rattle.num.specs.Bytes.{number, part}
 use Rattle.num.specs.Search.{allUpTo}
 use Rattle.num.proofs.ByteLaws.{number-part, number-one}
+use Rattle.num.proofs.SearchLaws.{all-join}
 use Rattle.record.specs.Request.{kindOf, usesByte, spareRight}
-
--- a test of n + m indices is that of the first n and that of the m after them
-all-join : (f : ℕ → Bool) (n m : ℕ) → allUpTo f (n + m) ≡ (allUpTo f n && allUpTo (λ j. f (n + j)) m)
-unfolding allUpTo
-all-join f n zero = rw add-zero (sym (and-true (allUpTo f n)))
-all-join f n (suc m) = rw (add-suc, all-join f n m) (and-assoc (allUpTo f n) (allUpTo (λ j. f (n + j)) m) (f (n + m)))
 
 -- a number is zero where its low bytes and its next byte are
 sum-zero : (x p y : ℕ) → 1 ≤ p → eqb (x + p * y) 0 ≡ (eqb x 0 && eqb y 0)

@@ -21,7 +21,7 @@ use Rattle.rules.specs.declared.BankTrack.{BankTrack}
 use Rattle.rules.specs.Neighbour.{split}
 use Rattle.rules.specs.Channel.{after}
 use Rattle.rules.specs.Earliest.{placedAt}
-use Rattle.rules.proofs.Bools.{not-both}
+use Rattle.rules.proofs.Bools.{not-both, not-fails, not-passes}
 use Rattle.channel.specs.declared.View.{View}
 use Rattle.channel.specs.View.{rowView, colView, viewOf, heldOf}
 use Rattle.channel.specs.Tests.{delayOf}
@@ -59,16 +59,6 @@ view-placed t (ColAt u (Nocop m)) = refl
 view-placed t (ColAt u (Wr b c m)) = refl
 view-placed t (ColAt u (Rd b c m)) = refl
 view-placed t (DataOf u d) = refl
-
--- ---- tests
-
-pub not-late : (a b : Bool) → a ≡ not b → a ≡ false → b ≡ true
-not-late a true e f = refl
-not-late a false e f = not-both a e f
-
-pub late-not : (a b : Bool) → a ≡ not b → a ≡ true → b ≡ false
-late-not a false e f = refl
-late-not a true e f = not-both a f e
 
 -- ---- records with their instants
 
@@ -137,11 +127,11 @@ module _ (s : Settings) (p : PlannerState) (f : Fields) (codes : List ℕ) (l : 
       turn-late q =
           ap (λ (y : List Record). inTime s (sentFrom s split p y .records)) (sym (take-append-drop (i + 1) l))
           ∙ ap (λ (d : Draft). inTime s (d .records)) (all-append s split (take (i + 1) l) (drop (i + 1) l) start)
-          ∙ late-stays s split (drop (i + 1) l) (sentTo (i + 1)) (in-time ∙ late-not (w' .late) (leb (t + delayOf s v) horizon) late-is q)
+          ∙ late-stays s split (drop (i + 1) l) (sentTo (i + 1)) (in-time ∙ not-passes (w' .late) (leb (t + delayOf s v) horizon) late-is q)
 
       module _ (q : w' .late ≡ false) where
         inside : leb (t + delayOf s v) horizon ≡ true
-        inside = not-late (w' .late) (leb (t + delayOf s v) horizon) late-is q
+        inside = not-fails (w' .late) (leb (t + delayOf s v) horizon) late-is q
 
         fits : t ≤ horizon
         fits = let m : t + delayOf s v ≤ horizon = leb-true _ _ inside in omega arith

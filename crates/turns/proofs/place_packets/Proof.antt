@@ -300,7 +300,7 @@ loop-again c =
     in (
       omega (arith, g .0),
       rw (turn .stored) (apart-length _ _ (k .banks) size),
-      length-set (k .ats) (k .i) _ ∙ k .inv .2,
+      length-set (k .ats) (k .i) (c .if2 .w .now) ∙ k .inv .2,
       any-turn s (z .args .start) (z .args .first) fs (z .args .c) (long z) (z .pre .0 .1) (k .banks) (k .w) (k .ats) (k .i) (k .inv .3) size (k .inv .2) (g .0) (g .1) _ _ turn,
     )
 

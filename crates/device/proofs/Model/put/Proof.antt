@@ -1,5 +1,5 @@
 -- `device::Model::put` meets its contract: five fields side by side.
-use Rattle.device.proofs.BytesLaws.{written}
+use Rattle.device.proofs.BytesLaws.{model-put}
 use borrow.Author.Needs.{needs}
 use Rattle.device.proofs.Model.put.Statement.{statement}
 use Rattle.device.proofs.Model.put.Tie as tie
@@ -28,8 +28,12 @@ same-length c = search needs
 returns : tie.Need-returns
 returns c =
     let s = c .before .before .before .before .before .before .before .before .before .before .before .before .before .before .before .before .before .before .before .before .before .before .before in
-    rw (c .before .before .put-u642 .ensures, c .before .before .before .before .before .before .put-u64 .ensures, c .before .before .before .before .before .before .before .before .before .before .put-u162 .ensures, c .before .before .before .before .before .before .before .before .before .before .before .before .before .before .put-u16 .ensures, c .before .before .before .before .before .before .before .before .before .before .before .before .before .before .before .wide32 .ensures .0, c .before .before .before .before .before .before .before .before .before .before .before .before .before .before .before .before .before .before .before .put-channel .ensures)
-    (written (s .args .out .now) (s .args .self .state) (s .pre))
+    model-put (s .args .self .state) (s .args .out .now) _ _ _ _ _ (s .pre)
+    (c .before .before .before .before .before .before .before .before .before .before .before .before .before .before .before .before .before .before .before .put-channel .ensures)
+    (rw (c .before .before .before .before .before .before .before .before .before .before .before .before .before .before .before .wide32 .ensures .0) at (c .before .before .before .before .before .before .before .before .before .before .before .before .before .before .put-u16 .ensures))
+    (c .before .before .before .before .before .before .before .before .before .before .put-u162 .ensures)
+    (c .before .before .before .before .before .before .put-u64 .ensures)
+    (c .before .before .put-u642 .ensures)
 
 pub put-spec : {M : Type 1} → statement M
 put-spec =

@@ -1,9 +1,9 @@
--- `placing::ends::data_count` meets its contract: by the request.
+-- `placing::data_count` meets its contract: by the request.
 use Rattle.placing.specs.Drafts.{dataCount}
 use native.Mathlib.Omega.{arith}
 use borrow.Author.Needs.{needs}
-use Rattle.placing.proofs.ends.data_count.Statement.{statement}
-use Rattle.placing.proofs.ends.data_count.Tie as tie
+use Rattle.placing.proofs.data_count.Statement.{statement}
+use Rattle.placing.proofs.data_count.Tie as tie
 
 enum-told : tie.Need-enum-told
 enum-told c = search needs
