@@ -1,10 +1,13 @@
 // COL packets at their least instants: what the planner's loop does with an RD, a WR, a NOCOP, on numbers.
 ghost use mathlib.Core.Path.{_≡_};
+ghost use mathlib.Core.Bool.{not};
 ghost use Prim.Native.Nat.{ℕ, _+_, _-_, max};
+ghost use lib.Dec.{leb};
+ghost use Rattle.settings.specs.Instants.{horizon, arrival};
 ghost use Rattle.rules.specs.Checks.{since, boundIf};
 ghost use Rattle.channel.specs.declared.Tracks.{Tracks as TracksOf};
 ghost use Rattle.tracks.specs.Tracks.{rdView, wrView, nocopView};
-ghost use Rattle.sending.specs.Sending.{frontAfter};
+ghost use Rattle.sending.specs.Sending.{clip, frontAfter};
 use channel::Held;
 use channel::Lasts;
 use channel::bounds::after_gap;
@@ -12,11 +15,14 @@ use channel::bounds::later;
 use channel::bounds::minus;
 use channel::bounds::since_wide;
 use channel::views::held_of;
+use instants::read_arrival;
+use instants::write_arrival;
 use rules::Buffer;
 use rules::Write;
 use sending::Front;
 use sending::clipped;
 use sending::is_late;
+use settings::Arrival;
 use settings::PacketAt;
 use settings::Settings;
 use steps::settle;
@@ -50,6 +56,16 @@ fn retiring(s: Settings, h: Held, held: u32) -> u64
     0
 }
 
+// Whether a packet, or the data that come after it, would pass the last instant.
+fn data_late(slot: u64, arrives: Arrival) -> bool
+    ensures { λ r. ⌜ ((delay : ℕ) → arrives ≡ arrival (record { 0 = clip slot }) delay → r ≡ not (leb (slot + delay) horizon)) ⌝ }
+{
+    match arrives {
+        Arrival::At(_) => is_late(slot),
+        Arrival::Late => true,
+    }
+}
+
 // An RD; own is the ACT of its bank.
 pub fn read_step(s: Settings, w: Front, own: u32) -> Front
     ensures { λ r. ⌜ ((k : TracksOf) (act b c m : ℕ) → k .own .act .0 ≡ own → r ≡ frontAfter s (rdView b c m) w k act) ⌝ }
@@ -65,11 +81,12 @@ pub fn read_step(s: Settings, w: Front, own: u32) -> Front
         ..l
     };
     let waiting = settle(buffer);
+    let arrives = read_arrival(s, PacketAt(now));
     Front {
         now: now,
         l: next,
         buffer: waiting,
-        late: is_late(slot, s.cac),
+        late: data_late(slot, arrives),
     }
 }
 
@@ -93,11 +110,12 @@ pub fn write_step(s: Settings, w: Front, bank: u32, column: u32, own: u32, held:
         column: column,
         at: at,
     };
+    let arrives = write_arrival(s, at);
     Front {
         now: now,
         l: next,
         buffer: Buffer::Due(write),
-        late: is_late(slot, s.cwd),
+        late: data_late(slot, arrives),
     }
 }
 
@@ -118,6 +136,6 @@ pub fn retire_step(s: Settings, w: Front, held: u32) -> Front
         now: now,
         l: next,
         buffer: Buffer::Empty,
-        late: is_late(slot, 0),
+        late: is_late(slot),
     }
 }

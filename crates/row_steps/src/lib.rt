@@ -37,7 +37,7 @@ pub fn open_step(s: Settings, w: Front, act: u64, pre: u32) -> Front
         now: now,
         l: next,
         buffer: settle(buffer),
-        late: is_late(slot, 0),
+        late: is_late(slot),
     }
 }
 
@@ -61,6 +61,6 @@ pub fn close_step(s: Settings, w: Front, opened: u32, rd: u32, retire: u32) -> F
         now: now,
         l: next,
         buffer: settle(buffer),
-        late: is_late(slot, 0),
+        late: is_late(slot),
     }
 }

@@ -2,7 +2,6 @@
 // packets have.
 ghost use mathlib.Core.Path.{_≡_};
 ghost use mathlib.Core.Bool.{not};
-ghost use Prim.Native.Nat.{_+_};
 ghost use lib.Dec.{leb};
 ghost use Rattle.settings.specs.Instants.{horizon};
 ghost use Rattle.sending.specs.Sending.{clip};
@@ -29,12 +28,9 @@ pub fn clipped(slot: u64) -> u32
     }
 }
 
-// Whether an instant, or that of the data after it, would pass the last one.
-pub fn is_late(slot: u64, delay: u32) -> bool
-    ensures { λ r. ⌜ r ≡ not (leb (slot + delay) horizon) ⌝ }
+// Whether an instant would pass the last one.
+pub fn is_late(slot: u64) -> bool
+    ensures { λ r. ⌜ r ≡ not (leb slot horizon) ⌝ }
 {
-    if 1000000000 < slot {
-        return true;
-    }
-    1000000000 < slot + num::wide32(delay)
+    1000000000 < slot
 }

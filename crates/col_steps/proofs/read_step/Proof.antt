@@ -1,8 +1,11 @@
 -- `col_steps::read_step` meets its contract: the bounds are those that the rules ask of an RD.
+use Prim.Native.Nat.{ℕ}
+use mathlib.Core.Path.{_≡_, ap, _∙_}
+use Rattle.settings.specs.Instants.{arrival}
 use Rattle.channel.specs.View.{colView, viewOf}
 use Rattle.channel.specs.Steps.{bufferStep, lastsNext}
 use Rattle.sending.specs.Sending.{frontAt}
-use Rattle.col_steps.proofs.ColLaws.{read-front}
+use Rattle.col_steps.proofs.ColLaws.{read-front, readSlot}
 use borrow.Author.Needs.{needs}
 use Rattle.col_steps.proofs.read_step.Statement.{statement}
 use Rattle.col_steps.proofs.read_step.Tie as tie
@@ -22,21 +25,28 @@ clipped-requires c κs = search needs
 settle-requires : tie.Need-settle-requires
 settle-requires c κs = search needs
 
-is-late-requires : tie.Need-is-late-requires
-is-late-requires c κs = search needs
+read-arrival-requires : tie.Need-read-arrival-requires
+read-arrival-requires c κs = search needs
+
+data-late-requires : tie.Need-data-late-requires
+data-late-requires c κs = search needs
 
 returns : tie.Need-returns
 unfolding frontAt bufferStep lastsNext viewOf colView
 returns c =
     λ k act b n m e.
-    let a = c .before .before .before .before .before .before .before .args in
+    let a = c .before .before .before .before .before .before .before .before .args in
+    let slot : c .before .before .before .before .later .result ≡ readSlot (a .s) (a .w) (a .own) =
     rw (
-      c .is-late .ensures,
-      c .before .settle .ensures,
-      c .before .before .clipped .ensures,
-      c .before .before .before .later .ensures,
-      c .before .before .before .before .after-gap .ensures,
-      c .before .before .before .before .before .col-base .ensures,
+      c .before .before .before .before .later .ensures,
+      c .before .before .before .before .before .after-gap .ensures,
+      c .before .before .before .before .before .before .col-base .ensures,
+    ) in
+    rw (
+      c .data-late .ensures (a .s .cac) (c .before .read-arrival .ensures ∙ ap (λ (x : ℕ). arrival (record { 0 = x }) (a .s .cac)) (c .before .before .before .clipped .ensures)),
+      c .before .before .settle .ensures,
+      c .before .before .before .clipped .ensures,
+      slot,
     )
     (read-front (a .s) (a .w) (a .own) k act b n m e)
 
@@ -49,5 +59,6 @@ read-step-spec =
     later-requires
     clipped-requires
     settle-requires
-    is-late-requires
+    read-arrival-requires
+    data-late-requires
     returns)

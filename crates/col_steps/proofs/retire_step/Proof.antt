@@ -1,8 +1,10 @@
 -- `col_steps::retire_step` meets its contract: the bounds are those that the rules ask of a NOCOP.
+use mathlib.Core.Path.{_≡_, _∙_}
 use Rattle.channel.specs.View.{colView, viewOf}
 use Rattle.channel.specs.Steps.{bufferStep, lastsNext}
 use Rattle.sending.specs.Sending.{frontAt}
-use Rattle.col_steps.proofs.ColLaws.{retire-front}
+use Rattle.sending.proofs.StepLaws.{no-data}
+use Rattle.col_steps.proofs.ColLaws.{retire-front, retireSlot}
 use borrow.Author.Needs.{needs}
 use Rattle.col_steps.proofs.retire_step.Statement.{statement}
 use Rattle.col_steps.proofs.retire_step.Tie as tie
@@ -30,13 +32,17 @@ unfolding frontAt bufferStep lastsNext viewOf colView
 returns c =
     λ k act m e.
     let a = c .before .before .before .before .before .before .before .args in
+    let slot : c .before .before .later .result ≡ retireSlot (a .s) (a .w) (a .held) =
     rw (
-      c .is-late .ensures,
-      c .before .clipped .ensures,
       c .before .before .later .ensures,
       c .before .before .before .retiring .ensures,
       c .before .before .before .before .held-of .ensures,
       c .before .before .before .before .before .col-base .ensures,
+    ) in
+    rw (
+      c .is-late .ensures ∙ no-data (c .before .before .later .result),
+      c .before .clipped .ensures,
+      slot,
     )
     (retire-front (a .s) (a .w) (a .held) k act m e)
 

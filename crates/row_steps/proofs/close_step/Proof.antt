@@ -1,8 +1,10 @@
 -- `row_steps::close_step` meets its contract: the bounds are those that the rules ask of a PRER or REFP.
+use mathlib.Core.Path.{_≡_, _∙_}
 use Rattle.channel.specs.View.{rowView, viewOf}
 use Rattle.channel.specs.Steps.{bufferStep, lastsNext}
 use Rattle.sending.specs.Sending.{frontAt}
-use Rattle.row_steps.proofs.RowLaws.{prer-front, refp-front}
+use Rattle.sending.proofs.StepLaws.{no-data}
+use Rattle.row_steps.proofs.RowLaws.{prer-front, refp-front, closeSlot}
 use borrow.Author.Needs.{needs}
 use Rattle.row_steps.proofs.close_step.Statement.{statement}
 use Rattle.row_steps.proofs.close_step.Tie as tie
@@ -47,10 +49,8 @@ returns : tie.Need-returns
 unfolding frontAt bufferStep lastsNext viewOf rowView
 returns c =
     let a = c .before .before .before .before .before .before .before .before .before .before .before .before .before .args in
+    let slot : c .before .before .before .later4 .result ≡ closeSlot (a .s) (a .w) (a .opened) (a .rd) (a .retire) =
     rw (
-      c .is-late .ensures,
-      c .before .settle .ensures,
-      c .before .before .clipped .ensures,
       c .before .before .before .later4 .ensures,
       c .before .before .before .before .later3 .ensures,
       c .before .before .before .before .before .row-base .ensures,
@@ -60,6 +60,12 @@ returns c =
       c .before .before .before .before .before .before .before .before .before .later .ensures,
       c .before .before .before .before .before .before .before .before .before .before .after-gap2 .ensures,
       c .before .before .before .before .before .before .before .before .before .before .before .after-gap .ensures,
+    ) in
+    rw (
+      c .is-late .ensures ∙ no-data (c .before .before .before .later4 .result),
+      c .before .settle .ensures,
+      c .before .before .clipped .ensures,
+      slot,
     )
     (record {
       by-prer = λ k act b e f g. prer-front (a .s) (a .w) (a .opened) (a .rd) (a .retire) k e f g act b;

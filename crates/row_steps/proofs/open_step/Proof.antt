@@ -1,8 +1,10 @@
 -- `row_steps::open_step` meets its contract: the bounds are those that the rules ask of an ACT or REFA.
+use mathlib.Core.Path.{_≡_, _∙_}
 use Rattle.channel.specs.View.{rowView, viewOf}
 use Rattle.channel.specs.Steps.{bufferStep, lastsNext}
 use Rattle.sending.specs.Sending.{frontAt}
-use Rattle.row_steps.proofs.RowLaws.{act-front, refa-front}
+use Rattle.sending.proofs.StepLaws.{no-data}
+use Rattle.row_steps.proofs.RowLaws.{act-front, refa-front, openSlot}
 use borrow.Author.Needs.{needs}
 use Rattle.row_steps.proofs.open_step.Statement.{statement}
 use Rattle.row_steps.proofs.open_step.Tie as tie
@@ -32,14 +34,18 @@ returns : tie.Need-returns
 unfolding frontAt bufferStep lastsNext viewOf rowView
 returns c =
     let a = c .before .before .before .before .before .before .before .before .args in
+    let slot : c .before .before .before .later2 .result ≡ openSlot (a .s) (a .w) (a .act) (a .pre) =
     rw (
-      c .is-late .ensures,
-      c .before .settle .ensures,
-      c .before .before .clipped .ensures,
       c .before .before .before .later2 .ensures,
       c .before .before .before .before .later .ensures,
       c .before .before .before .before .before .after-gap .ensures,
       c .before .before .before .before .before .before .row-base .ensures,
+    ) in
+    rw (
+      c .is-late .ensures ∙ no-data (c .before .before .before .later2 .result),
+      c .before .settle .ensures,
+      c .before .before .clipped .ensures,
+      slot,
     )
     (record {
       by-act = λ k b row e. act-front (a .s) (a .w) (a .act) (a .pre) k e b row;
