@@ -9,25 +9,12 @@ use Rattle.num.specs.Bytes.{bytes, splice}
 use Rattle.num.proofs.ByteLaws.{length-bytes}
 use Rattle.num.proofs.SpliceLaws.{splice-whole}
 use Rattle.state.specs.ChannelBytes.{channelBytes}
-use Rattle.state.proofs.PlaneLaws.{splice-five}
+use Rattle.state.proofs.PlaneLaws.{put-five}
 use Rattle.state.proofs.RoundTrip.{channel-length}
 use Rattle.model.specs.declared.ModelState.{ModelState}
 use Rattle.model.specs.ModelBytes.{modelBytes}
 use Rattle.model.proofs.ModelRoundTrip.{model-length}
 
-written : (l : List ℕ) (m : ModelState) → length l ≡ 752
-    → splice (splice (splice (splice (splice l 0 (channelBytes (m .channel))) 732 (bytes 2 (m .refr))) 734 (bytes 2 0)) 736 (bytes 8 (m .bytes .dqa))) 744 (bytes 8 (m .bytes .dqb)) ≡ modelBytes m
-unfolding modelBytes
-written l m e =
-    splice-five l 0 732 2 2 8 (channelBytes (m .channel)) (bytes 2 (m .refr)) (bytes 2 0) (bytes 8 (m .bytes .dqa)) (bytes 8 (m .bytes .dqb))
-    (channel-length (m .channel))
-    (length-bytes 2 (m .refr))
-    (length-bytes 2 0)
-    (length-bytes 8 (m .bytes .dqa))
-    (omega arith)
-    ∙ splice-whole l (modelBytes m) (model-length m ∙ sym e)
-
--- the same by what each put leaves
 pub model-put : (m : ModelState) (l a b c d e : List ℕ) → length l ≡ 752
     → a ≡ splice l 0 (channelBytes (m .channel))
     → b ≡ splice a 732 (bytes 2 (m .refr))
@@ -35,4 +22,13 @@ pub model-put : (m : ModelState) (l a b c d e : List ℕ) → length l ≡ 752
     → d ≡ splice c 736 (bytes 8 (m .bytes .dqa))
     → e ≡ splice d 744 (bytes 8 (m .bytes .dqb))
     → e ≡ modelBytes m
-model-put m l a b c d e n ea eb ec ed ee = ee ∙ rw (ed, ec, eb, ea) (written l m n)
+unfolding modelBytes
+model-put m l a b c d e n ea eb ec ed ee =
+    put-five l 0 732 2 2 8 (channelBytes (m .channel)) (bytes 2 (m .refr)) (bytes 2 0) (bytes 8 (m .bytes .dqa)) (bytes 8 (m .bytes .dqb))
+    (channel-length (m .channel))
+    (length-bytes 2 (m .refr))
+    (length-bytes 2 0)
+    (length-bytes 8 (m .bytes .dqa))
+    (omega arith)
+    ea eb ec ed ee
+    ∙ splice-whole l (modelBytes m) (model-length m ∙ sym n)

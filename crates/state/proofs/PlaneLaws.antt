@@ -148,6 +148,16 @@ splice-five l at i j k m a b c d e ea eb ec ed h =
     let s = length-splice l at a (omega arith) in
     splice-four (splice l at a) (at + i) j k m b c d e eb ec ed (omega arith) ∙ splice-more l at a (b ++ (c ++ (d ++ e))) i ea (omega arith)
 
+-- the same by what each put leaves
+pub put-four : (l : List ℕ) (at i j k : ℕ) (a b c d : List ℕ) → length a ≡ i → length b ≡ j → length c ≡ k → at + i + j + k ≤ length l → {x y z u : List ℕ}
+    → x ≡ splice l at a → y ≡ splice x (at + i) b → z ≡ splice y (at + i + j) c → u ≡ splice z (at + i + j + k) d → u ≡ splice l at (a ++ (b ++ (c ++ d)))
+put-four l at i j k a b c d ea eb ec h ex ey ez eu = eu ∙ rw (ez, ey, ex) (splice-four l at i j k a b c d ea eb ec h)
+
+pub put-five : (l : List ℕ) (at i j k m : ℕ) (a b c d e : List ℕ) → length a ≡ i → length b ≡ j → length c ≡ k → length d ≡ m → at + i + j + k + m ≤ length l → {x y z u v : List ℕ}
+    → x ≡ splice l at a → y ≡ splice x (at + i) b → z ≡ splice y (at + i + j) c → u ≡ splice z (at + i + j + k) d → v ≡ splice u (at + i + j + k + m) e
+    → v ≡ splice l at (a ++ (b ++ (c ++ (d ++ e))))
+put-five l at i j k m a b c d e ea eb ec ed h ex ey ez eu ev = ev ∙ rw (eu, ez, ey, ex) (splice-five l at i j k m a b c d e ea eb ec ed h)
+
 -- ---- the banks
 
 pub length-tracks : (b : List ℕ) (n : ℕ) → length (tracksIn b n) ≡ n

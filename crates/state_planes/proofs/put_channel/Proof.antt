@@ -6,7 +6,7 @@ use native.Mathlib.Omega.{arith}
 use Rattle.num.specs.Bytes.{splice}
 use Rattle.state.specs.ChannelBytes.{plane, bufferBytes}
 use Rattle.state.specs.Planes.{fivePlanes, tags, lastsOf}
-use Rattle.state.proofs.PlaneLaws.{length-plane, length-planes, length-lasts, splice-four, channel-parts}
+use Rattle.state.proofs.PlaneLaws.{length-plane, length-planes, length-lasts, put-four, channel-parts}
 use borrow.Author.Needs.{needs}
 use Rattle.state_planes.proofs.put_channel.Statement.{statement}
 use Rattle.state_planes.proofs.put_channel.Tie as tie
@@ -38,9 +38,16 @@ returns c =
     let p = fivePlanes (ch .banks) in
     let q = plane 2 (tags (ch .banks)) 32 in
     let r = lastsOf (ch .last) (ch .row) (ch .col) (ch .pre) (ch .rd) in
-    rw (c .before .before .put-buffer .ensures, c .before .before .before .before .before .before .put-lasts .ensures, c .before .before .before .before .before .before .before .before .before .before .put-tags .ensures, c .before .before .before .before .before .before .before .before .before .before .before .before .before .before .put-figures .ensures)
-    (splice-four l 0 640 64 20 p q r (bufferBytes (ch .buffer)) (length-planes (ch .banks)) (length-plane 2 (tags (ch .banks)) 32) (length-lasts (ch .last) (ch .row) (ch .col) (ch .pre) (ch .rd)) (room _ (z .pre))
-    ∙ ap (λ (x : List ℕ). splice l 0 x) (channel-parts ch))
+    put-four l 0 640 64 20 p q r (bufferBytes (ch .buffer))
+    (length-planes (ch .banks))
+    (length-plane 2 (tags (ch .banks)) 32)
+    (length-lasts (ch .last) (ch .row) (ch .col) (ch .pre) (ch .rd))
+    (room _ (z .pre))
+    (c .before .before .before .before .before .before .before .before .before .before .before .before .before .before .put-figures .ensures)
+    (c .before .before .before .before .before .before .before .before .before .before .put-tags .ensures)
+    (c .before .before .before .before .before .before .put-lasts .ensures)
+    (c .before .before .put-buffer .ensures)
+    ∙ ap (λ (x : List ℕ). splice l 0 x) (channel-parts ch)
 
 pub put-channel-spec : {M : Type 1} → statement M
 put-channel-spec =

@@ -6,7 +6,7 @@ use native.Mathlib.Omega.{arith}
 use lib.ListN.{length}
 use Rattle.state.specs.ChannelBytes.{plane}
 use Rattle.state.specs.Planes.{figures, fivePlanes}
-use Rattle.state.proofs.PlaneLaws.{length-plane, splice-five}
+use Rattle.state.proofs.PlaneLaws.{length-plane, put-five}
 use borrow.Author.Needs.{needs}
 use Rattle.state_planes.proofs.put_figures.Statement.{statement}
 use Rattle.state_planes.proofs.put_figures.Tie as tie
@@ -40,8 +40,12 @@ returns c =
     let a = z .args in
     let p : ℕ → List ℕ = λ k. plane 4 (figures (a .ch .banks) k) 32 in
     let n : (k : ℕ) → length (p k) ≡ 128 = λ k. length-plane 4 (figures (a .ch .banks) k) 32 in
-    rw (c .before .before .put-plane5 .ensures, c .before .before .before .before .before .before .put-plane4 .ensures, c .before .before .before .before .before .before .before .before .before .before .put-plane3 .ensures, c .before .before .before .before .before .before .before .before .before .before .before .before .before .before .put-plane2 .ensures, c .before .before .before .before .before .before .before .before .before .before .before .before .before .before .before .before .before .before .put-plane .ensures)
-    (splice-five (a .out .now) 0 128 128 128 128 (p 0) (p 1) (p 2) (p 3) (p 4) (n 0) (n 1) (n 2) (n 3) (room _ (z .pre)))
+    put-five (a .out .now) 0 128 128 128 128 (p 0) (p 1) (p 2) (p 3) (p 4) (n 0) (n 1) (n 2) (n 3) (room _ (z .pre))
+    (c .before .before .before .before .before .before .before .before .before .before .before .before .before .before .before .before .before .before .put-plane .ensures)
+    (c .before .before .before .before .before .before .before .before .before .before .before .before .before .before .put-plane2 .ensures)
+    (c .before .before .before .before .before .before .before .before .before .before .put-plane3 .ensures)
+    (c .before .before .before .before .before .before .put-plane4 .ensures)
+    (c .before .before .put-plane5 .ensures)
 
 pub put-figures-spec : {M : Type 1} → statement M
 put-figures-spec =

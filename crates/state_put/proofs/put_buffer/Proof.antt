@@ -1,4 +1,7 @@
 -- `state_put::put_buffer` meets its contract: by the state of the buffer.
+use mathlib.Core.Path.{ap, sym, _∙_}
+use Rattle.num.specs.Bytes.{splice}
+use Rattle.rules.specs.declared.Buffer.{Buffer}
 use Rattle.state.specs.ChannelBytes.{bufferBytes}
 use borrow.Author.Needs.{needs}
 use Rattle.state_put.proofs.put_buffer.Statement.{statement}
@@ -27,7 +30,9 @@ same-length c = search needs
 
 returns : tie.Need-returns
 unfolding bufferBytes
-returns c = rw (c .before .before .before .before .enum-told .given .1) (c .before .before .put-zeros .ensures)
+returns c =
+    c .before .before .put-zeros .ensures
+    ∙ ap (λ (b : Buffer). splice (c .before .before .before .before .before .before .before .args .out .now) 724 (bufferBytes b)) (sym (c .before .before .before .before .enum-told .given .1))
 
 same-length-2 : tie.Need-same-length-2
 same-length-2 c = search needs

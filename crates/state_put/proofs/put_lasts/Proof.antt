@@ -3,7 +3,7 @@ use Prim.Native.Nat.{ℕ, _+_, _≤_}
 use native.Mathlib.Omega.{arith}
 use Rattle.num.specs.Bytes.{bytes}
 use Rattle.num.proofs.ByteLaws.{length-bytes}
-use Rattle.state.proofs.PlaneLaws.{splice-five}
+use Rattle.state.proofs.PlaneLaws.{put-five}
 use borrow.Author.Needs.{needs}
 use Rattle.state_put.proofs.put_lasts.Statement.{statement}
 use Rattle.state_put.proofs.put_lasts.Tie as tie
@@ -34,14 +34,17 @@ returns : tie.Need-returns
 returns c =
     let z = c .before .before .before .before .before .before .before .before .before .before .before .before .before .before .before .before .before .before .before .before .before in
     let a = z .args in
-    rw (
-      c .before .before .put-at5 .ensures,
-      c .before .before .before .before .before .before .put-at4 .ensures,
-      c .before .before .before .before .before .before .before .before .before .before .put-at3 .ensures,
-      c .before .before .before .before .before .before .before .before .before .before .before .before .before .before .put-at2 .ensures,
-      c .before .before .before .before .before .before .before .before .before .before .before .before .before .before .before .before .before .before .put-at .ensures,
-    )
-    (splice-five (a .out .now) 704 4 4 4 4 (bytes 4 (a .last .0)) (bytes 4 (a .row .0)) (bytes 4 (a .col .0)) (bytes 4 (a .pre .0)) (bytes 4 (a .rd .0)) (length-bytes 4 (a .last .0)) (length-bytes 4 (a .row .0)) (length-bytes 4 (a .col .0)) (length-bytes 4 (a .pre .0)) (room _ (z .pre)))
+    put-five (a .out .now) 704 4 4 4 4 (bytes 4 (a .last .0)) (bytes 4 (a .row .0)) (bytes 4 (a .col .0)) (bytes 4 (a .pre .0)) (bytes 4 (a .rd .0))
+    (length-bytes 4 (a .last .0))
+    (length-bytes 4 (a .row .0))
+    (length-bytes 4 (a .col .0))
+    (length-bytes 4 (a .pre .0))
+    (room _ (z .pre))
+    (c .before .before .before .before .before .before .before .before .before .before .before .before .before .before .before .before .before .before .put-at .ensures)
+    (c .before .before .before .before .before .before .before .before .before .before .before .before .before .before .put-at2 .ensures)
+    (c .before .before .before .before .before .before .before .before .before .before .put-at3 .ensures)
+    (c .before .before .before .before .before .before .put-at4 .ensures)
+    (c .before .before .put-at5 .ensures)
 
 pub put-lasts-spec : {M : Type 1} → statement M
 put-lasts-spec =

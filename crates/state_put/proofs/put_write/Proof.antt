@@ -3,7 +3,7 @@ use Prim.Native.Nat.{ℕ, _+_, _≤_}
 use native.Mathlib.Omega.{arith}
 use Rattle.num.specs.Bytes.{bytes}
 use Rattle.num.proofs.ByteLaws.{length-bytes}
-use Rattle.state.proofs.PlaneLaws.{splice-five}
+use Rattle.state.proofs.PlaneLaws.{put-five}
 use Rattle.state.specs.ChannelBytes.{writeBytes}
 use borrow.Author.Needs.{needs}
 use Rattle.state_put.proofs.put_write.Statement.{statement}
@@ -42,16 +42,17 @@ unfolding writeBytes
 returns c =
     let z = c .before .before .before .before .before .before .before .before .before .before .before .before .before .before .before .before .before .before .before .before .before .before .before in
     let a = z .args in
-    rw (
-      c .before .before .put-at .ensures,
-      c .before .before .before .before .before .before .put-u84 .ensures,
-      c .before .before .before .before .before .before .before .before .before .before .put-u83 .ensures,
-      c .before .before .before .before .before .before .before .before .before .before .before .wide322 .ensures .0,
-      c .before .before .before .before .before .before .before .before .before .before .before .before .before .before .before .put-u82 .ensures,
-      c .before .before .before .before .before .before .before .before .before .before .before .before .before .before .before .before .wide32 .ensures .0,
-      c .before .before .before .before .before .before .before .before .before .before .before .before .before .before .before .before .before .before .before .before .put-u8 .ensures,
-    )
-    (splice-five (a .out .now) 724 1 1 1 1 (bytes 1 (a .kind)) (bytes 1 (a .w .bank)) (bytes 1 (a .w .column)) (bytes 1 0) (bytes 4 (a .w .at .0)) (length-bytes 1 (a .kind)) (length-bytes 1 (a .w .bank)) (length-bytes 1 (a .w .column)) (length-bytes 1 0) (room _ (z .pre)))
+    put-five (a .out .now) 724 1 1 1 1 (bytes 1 (a .kind)) (bytes 1 (a .w .bank)) (bytes 1 (a .w .column)) (bytes 1 0) (bytes 4 (a .w .at .0))
+    (length-bytes 1 (a .kind))
+    (length-bytes 1 (a .w .bank))
+    (length-bytes 1 (a .w .column))
+    (length-bytes 1 0)
+    (room _ (z .pre))
+    (c .before .before .before .before .before .before .before .before .before .before .before .before .before .before .before .before .before .before .before .before .put-u8 .ensures)
+    (rw (c .before .before .before .before .before .before .before .before .before .before .before .before .before .before .before .before .wide32 .ensures .0) at (c .before .before .before .before .before .before .before .before .before .before .before .before .before .before .before .put-u82 .ensures))
+    (rw (c .before .before .before .before .before .before .before .before .before .before .before .wide322 .ensures .0) at (c .before .before .before .before .before .before .before .before .before .before .put-u83 .ensures))
+    (c .before .before .before .before .before .before .put-u84 .ensures)
+    (c .before .before .put-at .ensures)
 
 pub put-write-spec : {M : Type 1} → statement M
 put-write-spec =
