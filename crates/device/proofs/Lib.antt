@@ -1,3 +1,2 @@
-pub mod BytesLaws
 pub mod CallLaws
 pub mod TakeLaws

@@ -9,7 +9,7 @@ ghost use Rattle.settings.specs.Settings.{valid};
 ghost use Rattle.record.specs.Record.{recordFits};
 ghost use Rattle.rules.specs.Neighbour.{split};
 ghost use Rattle.model.specs.Store.{storeLength};
-ghost use Rattle.model.specs.Model.{freshModel, modelValid, modelNext};
+ghost use Rattle.model.specs.Model.{modelValid, modelNext};
 ghost use Rattle.model.specs.Step.{recordAnswer, stepAnswer, stepModel, stepStore, stepRoom};
 ghost use Rattle.device.specs.Take.{takeModel, takeStore, takeRoom};
 use channel::beside::slot_of;
@@ -17,7 +17,6 @@ use channel::views::held_of;
 use channel::views::view_of;
 use model::ModelState;
 use model::Stepped;
-use record::Dualoct;
 use record::Record;
 use record::RecordRead;
 use record::Refusal;
@@ -53,19 +52,6 @@ fn model_next(s: Settings, m: ModelState, r: Record) -> ModelState
 }
 
 impl Model {
-    // "A fresh model or checker has every bank closed, the buffer empty and no earlier record"; REFR is 0.
-    pub fn fresh() -> Model
-        ensures { λ r. ⌜ r .state ≡ freshModel ⌝ }
-    {
-        Model {
-            state: ModelState {
-                channel: steps::fresh(),
-                refr: 0,
-                bytes: Dualoct { dqa: 0, dqb: 0 },
-            },
-        }
-    }
-
     // A refused call leaves the model as it was.
     fn refuse(self, why: Refusal) -> ModelStep
         ensures { λ r. ⌜ (r .answer ≡ Stepped.Refused why) × (r .model .state ≡ self .state) ⌝ }

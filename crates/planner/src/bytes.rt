@@ -1,80 +1,27 @@
-// The planner's state as 740 bytes, and which states are refused.
+// The planner before any request, which planners are refused, and a planner as 740 bytes.
 ghost use mathlib.Core.Path.{_≡_};
 ghost use lib.ListN.{length};
-ghost use Rattle.num.specs.Search.{allUpTo};
-ghost use Rattle.settings.specs.Instants.{isInstant};
 ghost use Rattle.rules.specs.Neighbour.{split};
-ghost use Rattle.rules.specs.Rules.{bankCount};
-ghost use Rattle.rules.specs.Channel.{stateOf};
-ghost use Rattle.plan.specs.Planner.{notRefresh, notDue, plannerValid};
+ghost use Rattle.plan.specs.Planner.{freshPlanner, plannerValid};
 ghost use Rattle.plan.specs.PlannerBytes.{plannerBytes, plannerIn};
 use crate::Planner;
-use plan::PlannerState;
-use rules::Bank;
-use rules::BankTrack;
-use rules::Buffer;
-use rules::Channel;
-use settings::PacketAt;
 use settings::Settings;
 
-fn not_refresh(t: BankTrack) -> bool
-    ensures { λ r. ⌜ r ≡ notRefresh (t .bank) ⌝ }
-{
-    let k = t.bank;
-    match k {
-        Bank::Closed => true,
-        Bank::Open(_) => true,
-        Bank::Refresh => false,
-    }
-}
-
-fn not_due(b: Buffer) -> bool
-    ensures { λ r. ⌜ r ≡ notDue b ⌝ }
-{
-    match b {
-        Buffer::Empty => true,
-        Buffer::Waiting(_) => true,
-        Buffer::Due(_) => false,
-    }
-}
-
-// Whether no bank is under refresh.
-fn none_refreshed(ch: Channel) -> bool
-    ensures { λ r. ⌜ r ≡ allUpTo (λ x. notRefresh (stateOf ch x)) bankCount ⌝ }
-{
-    let mut i = 0;
-    while i < 32 {
-        let t = ch.banks[i];
-        if not_refresh(t) {
-            i += 1;
-        } else {
-            return false;
+impl Planner {
+    // "Fresh: banks closed, buffer empty, refresh bank 0, now 4."
+    pub fn fresh() -> Planner
+        ensures { λ r. ⌜ r .state ≡ freshPlanner ⌝ }
+    {
+        Planner {
+            state: planner_state::fresh(),
         }
     }
-    true
-}
 
-// Whether a number is an instant.
-fn is_instant(t: u32) -> bool
-    ensures { λ r. ⌜ r ≡ isInstant t ⌝ }
-{
-    num::both(4 <= t, t <= 1000000000)
-}
-
-impl Planner {
     // Whether refusal 1 has nothing against the state.
     pub fn valid(self, s: Settings) -> bool
         ensures { λ r. ⌜ r ≡ plannerValid s split (self .state) ⌝ }
     {
-        let p = self.state;
-        let ch = p.channel;
-        let buffer = ch.buffer;
-        let fields = num::both(
-            is_instant(p.now.0),
-            num::both(p.refresh < 32, p.mask < 65536),
-        );
-        let between = num::both(none_refreshed(ch), num::both(not_due(buffer), fields));
-        num::both(validity::channel_valid(s, ch), between)
+        planner_state::valid(s, self.state)
     }
 
     // The planner that 740 bytes say.
@@ -82,14 +29,9 @@ impl Planner {
         requires { ⌜ length (now b) ≡ 740 ⌝ }
         ensures { λ r. ⌜ r .state ≡ plannerIn (now (b .entry)) ⌝ }
     {
-        let now = PacketAt(num::u32_at(b, 732));
-        let state = PlannerState {
-            channel: state_read::read_channel(b),
-            now: now,
-            refresh: num::u16_at(b, 736),
-            mask: num::u16_at(b, 738),
-        };
-        Planner { state: state }
+        Planner {
+            state: planner_state::read(b),
+        }
     }
 
     // Puts the state's 740 bytes.
@@ -97,11 +39,6 @@ impl Planner {
         requires { ⌜ length (now out) ≡ 740 ⌝ }
         ensures { λ _. ⌜ now (out .exit) ≡ plannerBytes (self .state) ⌝ }
     {
-        let p = self.state;
-        let ch = p.channel;
-        state_planes::put_channel(out, ch);
-        puts::put_u32(out, 732, num::wide32(p.now.0));
-        puts::put_u16(out, 736, num::wide32(p.refresh));
-        puts::put_u16(out, 738, num::wide32(p.mask));
+        planner_state::put(self.state, out);
     }
 }

@@ -8,12 +8,11 @@ ghost use mathlib.Core.Bool.{true};
 ghost use lib.ListN.{length};
 ghost use Rattle.settings.specs.Settings.{valid};
 ghost use Rattle.rules.specs.Neighbour.{split};
-ghost use Rattle.plan.specs.Planner.{freshPlanner, plannerValid};
+ghost use Rattle.plan.specs.Planner.{plannerValid};
 ghost use Rattle.plan.specs.Call.{planOutcome, planNext, planRoom};
 use placing::place;
 use plan::Outcome;
 use plan::PlannerState;
-use settings::PacketAt;
 use settings::Settings;
 
 // A planner between two requests.
@@ -28,20 +27,6 @@ pub struct Planned {
 }
 
 impl Planner {
-    // "Fresh: banks closed, buffer empty, refresh bank 0, now 4."
-    pub fn fresh() -> Planner
-        ensures { λ r. ⌜ r .state ≡ freshPlanner ⌝ }
-    {
-        Planner {
-            state: PlannerState {
-                channel: steps::fresh(),
-                now: PacketAt(4),
-                refresh: 0,
-                mask: 0,
-            },
-        }
-    }
-
     // One request of any bytes, with any room.
     pub fn plan(self, s: Settings, request: &[u8], room: &mut [u8]) -> Planned
         requires { ⌜ valid s ≡ true ⌝ }

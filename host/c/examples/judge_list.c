@@ -18,8 +18,7 @@ static const char *const RULES[17] = {
     "PRER too soon after RD or a retire", "PRER closes the bank of a waiting write",
     "a WR without its D, or a D elsewhere", "a mask on a packet that retires nothing"};
 
-static const uint8_t SET_H[RDRAM_SETTINGS_BYTES] = {28, 0, 20, 0, 8, 0, 8, 0, 8, 0, 9, 0, 8, 0, 4, 0,
-                                                    4, 0, 4, 0, 8, 0, 6, 0, 0, 0, 2, 0, 4, 0, 0, 0};
+static const uint8_t SET_H[RDRAM_SETTINGS_BYTES] = RDRAM_SET_H;
 
 static rdram_judged judge(const uint8_t *list, size_t length)
 {

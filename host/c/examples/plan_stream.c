@@ -8,8 +8,7 @@
 #include <inttypes.h>
 #include <stdio.h>
 
-static const uint8_t SET_H[RDRAM_SETTINGS_BYTES] = {28, 0, 20, 0, 8, 0, 8, 0, 8, 0, 9, 0, 8, 0, 4, 0,
-                                                    4, 0, 4, 0, 8, 0, 6, 0, 0, 0, 2, 0, 4, 0, 0, 0};
+static const uint8_t SET_H[RDRAM_SETTINGS_BYTES] = RDRAM_SET_H;
 
 static uint64_t get(const uint8_t *from, int bytes)
 {

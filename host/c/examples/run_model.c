@@ -13,8 +13,7 @@
 
 enum { REQUESTS = 10000, ROWS = 2, COLUMNS = 4, STORE = RDRAM_STORE_BYTES(ROWS, COLUMNS) };
 
-static const uint8_t SET_H[RDRAM_SETTINGS_BYTES] = {28, 0, 20, 0, 8, 0, 8, 0, 8, 0, 9, 0, 8, 0, 4, 0,
-                                                    4, 0, 4, 0, 8, 0, 6, 0, 0, 0, ROWS, 0, COLUMNS, 0, 0, 0};
+static const uint8_t SET_H[RDRAM_SETTINGS_BYTES] = RDRAM_SET_H;
 
 static uint8_t planner[RDRAM_PLANNER_BYTES], model[RDRAM_MODEL_BYTES], store[STORE], array[STORE];
 static uint64_t records, reads, retires, bytes;

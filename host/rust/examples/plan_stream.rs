@@ -4,23 +4,7 @@
 
 use rdram::{word_decode, Kind, Planner, Refusal, Request, Settings, RECORD_BYTES};
 
-const SET_H: Settings = Settings {
-    t_rc: 28,
-    t_ras: 20,
-    t_rp: 8,
-    t_pp: 8,
-    t_rr: 8,
-    t_rcd: 9,
-    t_rtr: 8,
-    t_rdp: 4,
-    t_rtp: 4,
-    t_cc: 4,
-    t_cac: 8,
-    t_cwd: 6,
-    rows: 2,
-    columns: 4,
-    device: 0,
-};
+const SET_H: Settings = Settings::SET_H;
 
 /// Instant, and the packet or D, of a record: instant 4, kind 1, zeros 3, word 8, data 16.
 fn text(record: &[u8]) -> Result<String, Refusal> {

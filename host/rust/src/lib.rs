@@ -4,10 +4,7 @@
 //! ```
 //! use rdram::{log_decode, log_encode, packet_record, word_encode, Kind, Packet, Settings, MASK_FULL};
 //!
-//! let settings = Settings {
-//!     t_rc: 28, t_ras: 20, t_rp: 8, t_pp: 8, t_rr: 8, t_rcd: 9, t_rtr: 8, t_rdp: 4, t_rtp: 4,
-//!     t_cc: 4, t_cac: 8, t_cwd: 6, rows: 2, columns: 4, device: 0,
-//! };
+//! let settings = Settings::SET_H;
 //! let word = word_encode(&settings, Packet::Rd { bank: 0, column: 1, mask: MASK_FULL })?;
 //! assert_eq!(word, 0x80_0026_0000);
 //!
@@ -76,13 +73,29 @@ pub struct Settings {
 }
 
 impl Settings {
+    /// Set H of document 01, with which the examples run.
+    pub const SET_H: Settings = Settings {
+        t_rc: 28,
+        t_ras: 20,
+        t_rp: 8,
+        t_pp: 8,
+        t_rr: 8,
+        t_rcd: 9,
+        t_rtr: 8,
+        t_rdp: 4,
+        t_rtp: 4,
+        t_cc: 4,
+        t_cac: 8,
+        t_cwd: 6,
+        rows: 2,
+        columns: 4,
+        device: 0,
+    };
+
     /// The settings as the library reads them: sixteen numbers, low byte first.
     ///
     /// ```
-    /// # let settings = rdram::Settings {
-    /// #     t_rc: 28, t_ras: 20, t_rp: 8, t_pp: 8, t_rr: 8, t_rcd: 9, t_rtr: 8, t_rdp: 4, t_rtp: 4,
-    /// #     t_cc: 4, t_cac: 8, t_cwd: 6, rows: 512, columns: 4, device: 7,
-    /// # };
+    /// # let settings = rdram::Settings { rows: 512, device: 7, ..rdram::Settings::SET_H };
     /// let bytes = settings.to_bytes();
     /// assert_eq!(bytes[..4], [28, 0, 20, 0]);
     /// assert_eq!(bytes[24..], [0, 0, 0, 2, 4, 0, 7, 0]); // 0, rows, columns, device
@@ -168,10 +181,7 @@ impl Packet {
 /// or [`Refusal::Column`] for one not below that of the settings.
 ///
 /// ```
-/// # let settings = rdram::Settings {
-/// #     t_rc: 28, t_ras: 20, t_rp: 8, t_pp: 8, t_rr: 8, t_rcd: 9, t_rtr: 8, t_rdp: 4, t_rtp: 4,
-/// #     t_cc: 4, t_cac: 8, t_cwd: 6, rows: 2, columns: 4, device: 0,
-/// # };
+/// # let settings = rdram::Settings::SET_H;
 /// use rdram::{word_encode, Packet, Refusal};
 /// assert_eq!(word_encode(&settings, Packet::Act { bank: 0, row: 0 }), Ok(0x401000));
 /// // The settings have two rows.
@@ -204,10 +214,7 @@ pub fn word_encode(settings: &Settings, packet: Packet) -> Result<u64, Refusal> 
 /// settings.
 ///
 /// ```
-/// # let settings = rdram::Settings {
-/// #     t_rc: 28, t_ras: 20, t_rp: 8, t_pp: 8, t_rr: 8, t_rcd: 9, t_rtr: 8, t_rdp: 4, t_rtp: 4,
-/// #     t_cc: 4, t_cac: 8, t_cwd: 6, rows: 2, columns: 4, device: 0,
-/// # };
+/// # let settings = rdram::Settings::SET_H;
 /// use rdram::{word_decode, Kind, Packet, MASK_FULL};
 /// let packet = word_decode(&settings, Kind::Col, 0x80_0026_0000)?;
 /// assert_eq!(packet, Packet::Rd { bank: 0, column: 1, mask: MASK_FULL });
@@ -234,10 +241,7 @@ pub fn word_decode(settings: &Settings, kind: Kind, word: u64) -> Result<Packet,
 /// whole blocks than needed.
 ///
 /// ```
-/// # let settings = rdram::Settings {
-/// #     t_rc: 28, t_ras: 20, t_rp: 8, t_pp: 8, t_rr: 8, t_rcd: 9, t_rtr: 8, t_rdp: 4, t_rtp: 4,
-/// #     t_cc: 4, t_cac: 8, t_cwd: 6, rows: 2, columns: 4, device: 0,
-/// # };
+/// # let settings = rdram::Settings::SET_H;
 /// use rdram::{log_encode, packet_record, Kind, Refusal};
 /// let list = [packet_record(4, Kind::Row, 0x401000), packet_record(13, Kind::Col, 0x80_0026_0000)];
 /// let mut log = [0; 512];
@@ -271,10 +275,7 @@ pub fn log_encode(settings: &Settings, list: &[u8], log: &mut [u8]) -> Result<us
 /// record; [`Refusal::Full`] for a list of fewer whole records than needed.
 ///
 /// ```
-/// # let settings = rdram::Settings {
-/// #     t_rc: 28, t_ras: 20, t_rp: 8, t_pp: 8, t_rr: 8, t_rcd: 9, t_rtr: 8, t_rdp: 4, t_rtp: 4,
-/// #     t_cc: 4, t_cac: 8, t_cwd: 6, rows: 2, columns: 4, device: 0,
-/// # };
+/// # let settings = rdram::Settings::SET_H;
 /// use rdram::{log_decode, log_encode, packet_record, Kind, Refusal};
 /// let mut log = [0; 512];
 /// log_encode(&settings, &packet_record(4, Kind::Row, 0x401000), &mut log)?;
@@ -311,10 +312,7 @@ pub fn log_decode(settings: &Settings, log: &[u8], list: &mut [u8]) -> Result<us
 /// the first record that breaks a rule given the records before it, and the lowest rule it breaks.
 ///
 /// ```
-/// # let settings = rdram::Settings {
-/// #     t_rc: 28, t_ras: 20, t_rp: 8, t_pp: 8, t_rr: 8, t_rcd: 9, t_rtr: 8, t_rdp: 4, t_rtp: 4,
-/// #     t_cc: 4, t_cac: 8, t_cwd: 6, rows: 2, columns: 4, device: 0,
-/// # };
+/// # let settings = rdram::Settings::SET_H;
 /// use rdram::{check, packet_record, Kind, Refusal};
 /// let act = packet_record(4, Kind::Row, 0x401000);
 /// let rd = |instant| packet_record(instant, Kind::Col, 0x80_0026_0000);
@@ -336,10 +334,7 @@ pub fn check(settings: &Settings, list: &[u8]) -> Result<(), Refusal> {
 /// in [`check`], with records counted over the whole log.
 ///
 /// ```
-/// # let settings = rdram::Settings {
-/// #     t_rc: 28, t_ras: 20, t_rp: 8, t_pp: 8, t_rr: 8, t_rcd: 9, t_rtr: 8, t_rdp: 4, t_rtp: 4,
-/// #     t_cc: 4, t_cac: 8, t_cwd: 6, rows: 2, columns: 4, device: 0,
-/// # };
+/// # let settings = rdram::Settings::SET_H;
 /// use rdram::{check_log, log_encode, packet_record, Kind, Refusal};
 /// let mut log = [0; 512];
 /// log_encode(&settings, &packet_record(3, Kind::Row, 0x401000), &mut log)?;

@@ -23,10 +23,7 @@ pub enum Event {
 /// 16 bytes from 16 × ((bank × rows + row) × columns + column).
 ///
 /// ```
-/// # let settings = rdram::Settings {
-/// #     t_rc: 28, t_ras: 20, t_rp: 8, t_pp: 8, t_rr: 8, t_rcd: 9, t_rtr: 8, t_rdp: 4, t_rtp: 4,
-/// #     t_cc: 4, t_cac: 8, t_cwd: 6, rows: 2, columns: 4, device: 0,
-/// # };
+/// # let settings = rdram::Settings::SET_H;
 /// use rdram::{Event, Model, Planner, Request, RECORD_BYTES, REQUEST_RECORDS};
 /// let requests = [
 ///     Request::Write { bank: 3, row: 1, column: 2, mask: 0x8001, data: [9; 16] },
@@ -108,10 +105,7 @@ impl Model {
     /// an RD with fewer than 16 answer bytes: the same record may come again.
     ///
     /// ```
-    /// # let settings = rdram::Settings {
-    /// #     t_rc: 28, t_ras: 20, t_rp: 8, t_pp: 8, t_rr: 8, t_rcd: 9, t_rtr: 8, t_rdp: 4, t_rtp: 4,
-    /// #     t_cc: 4, t_cac: 8, t_cwd: 6, rows: 2, columns: 4, device: 0,
-    /// # };
+    /// # let settings = rdram::Settings::SET_H;
     /// use rdram::{packet_record, Event, Kind, Model, Refusal};
     /// let act = packet_record(4, Kind::Row, 0x401000); // bank 0, row 0
     /// let rd = |instant| packet_record(instant, Kind::Col, 0x80_0026_0000); // bank 0, column 1

@@ -77,10 +77,7 @@ fn place(bytes: &mut [u8; REQUEST_BYTES], kind: u8, bank: u8, row: u16, column: 
 /// It is plain bytes: a copy of it is the same planner at the same point.
 ///
 /// ```
-/// # let settings = rdram::Settings {
-/// #     t_rc: 28, t_ras: 20, t_rp: 8, t_pp: 8, t_rr: 8, t_rcd: 9, t_rtr: 8, t_rdp: 4, t_rtp: 4,
-/// #     t_cc: 4, t_cac: 8, t_cwd: 6, rows: 2, columns: 4, device: 0,
-/// # };
+/// # let settings = rdram::Settings::SET_H;
 /// use rdram::{check, Planner, Request, RECORD_BYTES, REQUEST_RECORDS};
 /// let requests = [
 ///     Request::Read { bank: 15, row: 0, column: 0 },
@@ -157,10 +154,7 @@ impl Planner {
     /// [`REQUEST_RECORDS`]: crate::REQUEST_RECORDS
     ///
     /// ```
-    /// # let settings = rdram::Settings {
-    /// #     t_rc: 28, t_ras: 20, t_rp: 8, t_pp: 8, t_rr: 8, t_rcd: 9, t_rtr: 8, t_rdp: 4, t_rtp: 4,
-    /// #     t_cc: 4, t_cac: 8, t_cwd: 6, rows: 2, columns: 4, device: 0,
-    /// # };
+    /// # let settings = rdram::Settings::SET_H;
     /// use rdram::{packet_record, Kind, Planner, Refusal, Request};
     /// let (mut planner, mut room) = (Planner::fresh(), [0; 3 * 32]);
     /// let read = Request::Read { bank: 0, row: 0, column: 1 };
@@ -188,10 +182,7 @@ impl Planner {
     /// does not use and that is not 0.
     ///
     /// ```
-    /// # let settings = rdram::Settings {
-    /// #     t_rc: 28, t_ras: 20, t_rp: 8, t_pp: 8, t_rr: 8, t_rcd: 9, t_rtr: 8, t_rdp: 4, t_rtp: 4,
-    /// #     t_cc: 4, t_cac: 8, t_cwd: 6, rows: 2, columns: 4, device: 0,
-    /// # };
+    /// # let settings = rdram::Settings::SET_H;
     /// use rdram::{Planner, Refusal};
     /// let mut refresh_of_bank_1 = [0; 24];
     /// refresh_of_bank_1[..2].copy_from_slice(&[2, 1]);

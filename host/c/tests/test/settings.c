@@ -38,7 +38,10 @@ static void test_figure(int at)
 
 void test_settings(void)
 {
+    static const uint8_t set_h[RDRAM_SETTINGS_BYTES] = RDRAM_SET_H;
     static uint8_t longer[64];
+    use_set_h();
+    check(memcmp(set_h, settings, sizeof set_h) == 0, "set H of the header");
     for (int at = 0; at < 16; at++)
         test_figure(at);
     for (unsigned cac = 7; cac <= 12; cac++) {

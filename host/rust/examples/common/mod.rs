@@ -9,21 +9,10 @@ use std::hint::black_box;
 use std::time::Instant;
 
 pub const SETTINGS: Settings = Settings {
-    t_rc: 28,
-    t_ras: 20,
-    t_rp: 8,
-    t_pp: 8,
-    t_rr: 8,
-    t_rcd: 9,
-    t_rtr: 8,
-    t_rdp: 4,
-    t_rtp: 4,
-    t_cc: 4,
-    t_cac: 8,
-    t_cwd: 6,
     rows: 512,
     columns: 128,
     device: 5,
+    ..Settings::SET_H
 };
 
 /// How much to run. The arguments of a bench are COUNT, RUNS and STREAM; each may be left out.

@@ -1,7 +1,7 @@
 //! Settings at and beyond the ends of every range, through all four calls.
 
 use crate::calls::{log_decode, log_encode, word_decode, word_encode, Seen};
-use crate::random::{bytes, rounds, Random};
+use crate::random::{bytes, rounds, set_h, Random};
 use crate::reference::{blocks, Fields, ACT, BOUNDS, RESERVED, T_CAC, T_CWD};
 
 /// ACT of bank 0, row 0, device 0: a packet, its word, a list and a log.
@@ -18,6 +18,11 @@ fn all_calls(seen: &mut Seen, settings: &[u8]) {
     list[8..12].copy_from_slice(&[0x00, 0x10, 0x40, 0]);
     log_encode(seen, settings, &list, 512);
     log_decode(seen, settings, &blocks(&list), 32);
+}
+
+#[test]
+fn set_h_of_the_crate() {
+    assert_eq!(rdram::Settings::SET_H.to_bytes()[..], bytes(&set_h(2, 4, 0)));
 }
 
 #[test]
