@@ -52,49 +52,43 @@ pub fn place_packets(
     let n = c.count;
     let codes = c.codes;
     let mut banks = start;
-    let mut w = first;
+    let mut front = first;
     let mut ats = [0u32; 17];
     let mut i = 0;
-    while num::both(i < n, !w.late) {
+    while num::both(i < n, !front.late) {
         let code = codes[i];
         let x = slot_of(code / 8);
         if is_col(code) {
-            let left = w.buffer;
+            let left = front.buffer;
             let h = held_of(left);
             let k = slot_of(h.bank);
             let own = banks[x].act.0;
             let held = instant_of(h.bank, banks[k].act.0);
-            w = col_step(s, w, code, f.column, own, held);
+            front = col_step(s, front, code, f.column, own, held);
             if is_read(code) {
-                banks[x].rd.0 = w.now;
-            } else {
-                if h.bank < 32 {
-                    banks[k].retire.0 = w.now;
-                }
+                banks[x].rd.0 = front.now;
+            } else if h.bank < 32 {
+                banks[k].retire.0 = front.now;
             }
         } else {
             let y = first_near(x);
             let z = last_near(x);
             if is_opening(code) {
                 let pre = most3(banks[x].pre.0, banks[y].pre.0, banks[z].pre.0);
-                w = open_step(s, w, act_bound(s, banks, code / 8), pre);
-                banks[x] = open_track(code, f.row, w.now, banks[x]);
+                front = open_step(s, front, act_bound(s, banks, code / 8), pre);
+                banks[x] = open_track(code, f.row, front.now, banks[x]);
             } else {
                 let opened = most3(banks[x].opened.0, banks[y].opened.0, banks[z].opened.0);
                 let rd = most3(banks[x].rd.0, banks[y].rd.0, banks[z].rd.0);
                 let retire = most3(banks[x].retire.0, banks[y].retire.0, banks[z].retire.0);
-                w = close_step(s, w, opened, rd, retire);
-                banks[x] = closed_track(w.now, banks[x]);
-                banks[y] = side_track(w.now, banks[y]);
-                banks[z] = side_track(w.now, banks[z]);
+                front = close_step(s, front, opened, rd, retire);
+                banks[x] = closed_track(front.now, banks[x]);
+                banks[y] = side_track(front.now, banks[y]);
+                banks[z] = side_track(front.now, banks[z]);
             }
         }
-        ats[i] = w.now;
+        ats[i] = front.now;
         i += 1;
     }
-    Series {
-        banks: banks,
-        front: w,
-        ats: ats,
-    }
+    Series { banks, front, ats }
 }

@@ -33,10 +33,10 @@ both-requires : tie.Need-both-requires Inv-loop μ-loop
 both-requires c κs = search needs
 
 mul-code : tie.Need-mul-code Inv-loop μ-loop
-mul-code c = let g = goes-on _ (c .before .before .before .loop .w .late) (c .before .before .before .loop .i) (c .before .before .before .before .before .args .c .count) (c .before .both .ensures) (c .if1 .taken) in omega (arith, c .before .before .before .before .before .pre .0 .1)
+mul-code c = let g = goes-on _ (c .before .before .before .loop .front .late) (c .before .before .before .loop .i) (c .before .before .before .before .before .args .c .count) (c .before .both .ensures) (c .if1 .taken) in omega (arith, c .before .before .before .before .before .pre .0 .1)
 
 array-read-code : tie.Need-array-read-code Inv-loop μ-loop
-array-read-code c = let g = goes-on _ (c .before .before .before .loop .w .late) (c .before .before .before .loop .i) (c .before .before .before .before .before .args .c .count) (c .before .both .ensures) (c .if1 .taken) in omega (arith, c .before .before .before .before .before .pre .0 .1)
+array-read-code c = let g = goes-on _ (c .before .before .before .loop .front .late) (c .before .before .before .loop .i) (c .before .before .before .before .before .args .c .count) (c .before .both .ensures) (c .if1 .taken) in omega (arith, c .before .before .before .before .before .pre .0 .1)
 
 slot-of-requires : tie.Need-slot-of-requires Inv-loop μ-loop
 slot-of-requires c κs = search needs
@@ -246,16 +246,16 @@ array-set-from-banks-4 : tie.Need-array-set-from-banks-4 Inv-loop μ-loop
 array-set-from-banks-4 c = omega (arith, c .before .before .before .before .before .before .before .before .before .before .before .before .last-near .ensures .1, c .before .before .before .before .before .before .before .before .before .before .before .before .before .before .before .before .before .before .before .before .loop .inv .1)
 
 mul-ats : tie.Need-mul-ats Inv-loop μ-loop
-mul-ats c = let g = goes-on _ (c .before .before .before .before .before .before .loop .w .late) (c .before .before .before .before .before .before .loop .i) (c .before .before .before .before .before .before .before .before .args .c .count) (c .before .before .before .before .both .ensures) (c .before .before .before .if1 .taken) in omega (arith, c .before .before .before .before .before .before .before .before .pre .0 .1, c .before .before .before .before .before .before .loop .inv .2)
+mul-ats c = let g = goes-on _ (c .before .before .before .before .before .before .loop .front .late) (c .before .before .before .before .before .before .loop .i) (c .before .before .before .before .before .before .before .before .args .c .count) (c .before .before .before .before .both .ensures) (c .before .before .before .if1 .taken) in omega (arith, c .before .before .before .before .before .before .before .before .pre .0 .1, c .before .before .before .before .before .before .loop .inv .2)
 
 array-write-ats : tie.Need-array-write-ats Inv-loop μ-loop
-array-write-ats c = let g = goes-on _ (c .before .before .before .before .before .before .loop .w .late) (c .before .before .before .before .before .before .loop .i) (c .before .before .before .before .before .before .before .before .args .c .count) (c .before .before .before .before .both .ensures) (c .before .before .before .if1 .taken) in omega (arith, c .before .before .before .before .before .before .before .before .pre .0 .1, c .before .before .before .before .before .before .loop .inv .2)
+array-write-ats c = let g = goes-on _ (c .before .before .before .before .before .before .loop .front .late) (c .before .before .before .before .before .before .loop .i) (c .before .before .before .before .before .before .before .before .args .c .count) (c .before .before .before .before .both .ensures) (c .before .before .before .if1 .taken) in omega (arith, c .before .before .before .before .before .before .before .before .pre .0 .1, c .before .before .before .before .before .before .loop .inv .2)
 
 add-i : tie.Need-add-i Inv-loop μ-loop
-add-i c = let g = goes-on _ (c .before .before .before .before .before .before .loop .w .late) (c .before .before .before .before .before .before .loop .i) (c .before .before .before .before .before .before .before .before .args .c .count) (c .before .before .before .before .both .ensures) (c .before .before .before .if1 .taken) in omega (arith, c .before .before .before .before .before .before .before .before .pre .0 .1, c .before .before .before .before .before .before .loop .inv .2)
+add-i c = let g = goes-on _ (c .before .before .before .before .before .before .loop .front .late) (c .before .before .before .before .before .before .loop .i) (c .before .before .before .before .before .before .before .before .args .c .count) (c .before .before .before .before .both .ensures) (c .before .before .before .if1 .taken) in omega (arith, c .before .before .before .before .before .before .before .before .pre .0 .1, c .before .before .before .before .before .before .loop .inv .2)
 
 loop-less : tie.Need-loop-less Inv-loop μ-loop
-loop-less c = let g = goes-on _ (c .before .before .before .before .before .before .loop .w .late) (c .before .before .before .before .before .before .loop .i) (c .before .before .before .before .before .before .before .before .args .c .count) (c .before .before .before .before .both .ensures) (c .before .before .before .if1 .taken) in omega arith
+loop-less c = let g = goes-on _ (c .before .before .before .before .before .before .loop .front .late) (c .before .before .before .before .before .before .loop .i) (c .before .before .before .before .before .before .before .before .args .c .count) (c .before .before .before .before .both .ensures) (c .before .before .before .if1 .taken) in omega arith
 
 loop-again : tie.Need-loop-again Inv-loop μ-loop
 loop-again c =
@@ -263,53 +263,53 @@ loop-again c =
     let s = z .args .s in
     let fs = z .args .f in
     let k = c .before .before .before .before .before .before .loop in
-    let g = goes-on _ (c .before .before .before .before .before .before .loop .w .late) (c .before .before .before .before .before .before .loop .i) (c .before .before .before .before .before .before .before .before .args .c .count) (c .before .before .before .before .both .ensures) (c .before .before .before .if1 .taken) in
+    let g = goes-on _ (c .before .before .before .before .before .before .loop .front .late) (c .before .before .before .before .before .before .loop .i) (c .before .before .before .before .before .before .before .before .args .c .count) (c .before .before .before .before .both .ensures) (c .before .before .before .if1 .taken) in
     let code = getD (z .args .c .codes) (k .i) 0 in
     let small = z .pre .1 (k .i) (g .0) in
     let size = k .inv .1 in
     let x = c .before .before .slot-of .ensures .0 in
-    let turn : Turn s (viewIn fs code) (k .banks) (k .w) (c .if2 .banks) (c .if2 .w) =
+    let turn : Turn s (viewIn fs code) (k .banks) (k .front) (c .if2 .banks) (c .if2 .front) =
     ⊎-elim
     (λ w.
     let col = sym (c .before .is-col .ensures) ∙ w .0 .taken in
-    let front = col-front s fs code (k .banks) (k .w) size small (w .4 .result) _ _ _ x (rw (w .1 .ensures) at (w .2 .ensures .0)) (rw (w .1 .ensures) at (w .3 .ensures)) (w .4 .ensures) col in
-    rw (w .9) (turn-read s fs code (k .banks) (k .w) size small (w .4 .result) front _ _ (eqb-true _ _ (sym (w .5 .ensures) ∙ w .6 .taken)) x (w .8)))
+    let front = col-front s fs code (k .banks) (k .front) size small (w .4 .result) _ _ _ x (rw (w .1 .ensures) at (w .2 .ensures .0)) (rw (w .1 .ensures) at (w .3 .ensures)) (w .4 .ensures) col in
+    rw (w .9) (turn-read s fs code (k .banks) (k .front) size small (w .4 .result) front _ _ (eqb-true _ _ (sym (w .5 .ensures) ∙ w .6 .taken)) x (w .8)))
     (⊎-elim
     (λ w.
     let col = sym (c .before .is-col .ensures) ∙ w .0 .taken in
     let m = rw (w .1 .ensures) at (w .2 .ensures .0) in
     let a = rw (w .1 .ensures) at (w .3 .ensures) in
-    let front = col-front s fs code (k .banks) (k .w) size small (w .4 .result) _ _ _ x m a (w .4 .ensures) col in
-    rw (w .11) (turn-retire s fs code (k .banks) (k .w) size small (w .4 .result) front _ _ col (eqb-false _ _ (sym (w .5 .ensures) ∙ w .6 .left)) (rw (w .1 .ensures) at (w .8 .taken)) m (w .10)))
+    let front = col-front s fs code (k .banks) (k .front) size small (w .4 .result) _ _ _ x m a (w .4 .ensures) col in
+    rw (w .11) (turn-retire s fs code (k .banks) (k .front) size small (w .4 .result) front _ _ col (eqb-false _ _ (sym (w .5 .ensures) ∙ w .6 .left)) (rw (w .1 .ensures) at (w .8 .taken)) m (w .10)))
     (⊎-elim
     (λ w.
     let col = sym (c .before .is-col .ensures) ∙ w .0 .taken in
-    let front = col-front s fs code (k .banks) (k .w) size small (w .4 .result) _ _ _ x (rw (w .1 .ensures) at (w .2 .ensures .0)) (rw (w .1 .ensures) at (w .3 .ensures)) (w .4 .ensures) col in
-    rw (w .10) (turn-none s fs code (k .banks) (k .w) size small (w .4 .result) front _ col (eqb-false _ _ (sym (w .5 .ensures) ∙ w .6 .left)) (rw (w .1 .ensures) at (w .8 .left)) (w .9)))
+    let front = col-front s fs code (k .banks) (k .front) size small (w .4 .result) _ _ _ x (rw (w .1 .ensures) at (w .2 .ensures .0)) (rw (w .1 .ensures) at (w .3 .ensures)) (w .4 .ensures) col in
+    rw (w .10) (turn-none s fs code (k .banks) (k .front) size small (w .4 .result) front _ col (eqb-false _ _ (sym (w .5 .ensures) ∙ w .6 .left)) (rw (w .1 .ensures) at (w .8 .left)) (w .9)))
     (⊎-elim
     (λ w.
     let op = sym (w .3 .ensures) ∙ w .4 .taken in
-    let front = open-front s fs code (k .banks) (k .w) size small (w .7 .result) _ _ _ x (w .1 .ensures .0) (w .2 .ensures .0) _ _ op (w .6 .ensures) (w .5 .ensures) (w .7 .ensures) in
-    rw (w .11) (turn-open s fs code (k .banks) (k .w) size small (w .7 .result) _ _ _ x (w .1 .ensures .0) (w .2 .ensures .0) front _ _ op (w .9 .ensures) (w .10)))
+    let front = open-front s fs code (k .banks) (k .front) size small (w .7 .result) _ _ _ x (w .1 .ensures .0) (w .2 .ensures .0) _ _ op (w .6 .ensures) (w .5 .ensures) (w .7 .ensures) in
+    rw (w .11) (turn-open s fs code (k .banks) (k .front) size small (w .7 .result) _ _ _ x (w .1 .ensures .0) (w .2 .ensures .0) front _ _ op (w .9 .ensures) (w .10)))
     (λ w.
     let col = sym (c .before .is-col .ensures) ∙ w .0 .left in
     let op = sym (w .3 .ensures) ∙ w .4 .left in
-    let front = close-front s fs code (k .banks) (k .w) size small (w .8 .result) _ _ _ x (w .1 .ensures .0) (w .2 .ensures .0) _ _ _ col op (w .5 .ensures) (w .6 .ensures) (w .7 .ensures) (w .8 .ensures) in
-    rw (w .16) (turn-close s fs code (k .banks) (k .w) size small (w .8 .result) _ _ _ x (w .1 .ensures .0) (w .2 .ensures .0) front _ _ _ _ col op (w .10 .ensures) (w .12 .ensures) (w .14 .ensures) (w .15))))))
+    let front = close-front s fs code (k .banks) (k .front) size small (w .8 .result) _ _ _ x (w .1 .ensures .0) (w .2 .ensures .0) _ _ _ col op (w .5 .ensures) (w .6 .ensures) (w .7 .ensures) (w .8 .ensures) in
+    rw (w .16) (turn-close s fs code (k .banks) (k .front) size small (w .8 .result) _ _ _ x (w .1 .ensures .0) (w .2 .ensures .0) front _ _ _ _ col op (w .10 .ensures) (w .12 .ensures) (w .14 .ensures) (w .15))))))
     (c .if2 .came)
     in (
       omega (arith, g .0),
       rw (turn .stored) (apart-length _ _ (k .banks) size),
-      length-set (k .ats) (k .i) (c .if2 .w .now) ∙ k .inv .2,
-      any-turn s (z .args .start) (z .args .first) fs (z .args .c) (long z) (z .pre .0 .1) (k .banks) (k .w) (k .ats) (k .i) (k .inv .3) size (k .inv .2) (g .0) (g .1) _ _ turn,
+      length-set (k .ats) (k .i) (c .if2 .front .now) ∙ k .inv .2,
+      any-turn s (z .args .start) (z .args .first) fs (z .args .c) (long z) (z .pre .0 .1) (k .banks) (k .front) (k .ats) (k .i) (k .inv .3) size (k .inv .2) (g .0) (g .1) _ _ turn,
     )
 
 returns : tie.Need-returns Inv-loop μ-loop
 returns c =
     let z = c .before .before .before .before .before in
     let k = c .before .before .before .loop in
-    any-sent (z .args .s) (z .args .start) (z .args .first) (z .args .f) (z .args .c) (long z) (z .pre .0 .1) (record { banks = k .banks; front = k .w; ats = k .ats }) (k .i) (k .inv .3) (k .inv .0)
-    (stops _ (k .w .late) (k .i) (z .args .c .count) (c .before .both .ensures) (c .if1 .left))
+    any-sent (z .args .s) (z .args .start) (z .args .first) (z .args .f) (z .args .c) (long z) (z .pre .0 .1) (record { banks = k .banks; front = k .front; ats = k .ats }) (k .i) (k .inv .3) (k .inv .0)
+    (stops _ (k .front .late) (k .i) (z .args .c .count) (c .before .both .ensures) (c .if1 .left))
 
 pub place-packets-spec : {M : Type 1} → statement M
 place-packets-spec =
