@@ -31,10 +31,8 @@ extern "C" {
  *   15       device, 0 to 31
  */
 #define RDRAM_SETTINGS_BYTES 32
-
 /* Set H, for a first try: static const uint8_t settings[RDRAM_SETTINGS_BYTES] = RDRAM_SET_H; */
-#define RDRAM_SET_H \
-    {28, 0, 20, 0, 8, 0, 8, 0, 8, 0, 9, 0, 8, 0, 4, 0, 4, 0, 4, 0, 8, 0, 6, 0, 0, 0, 2, 0, 4, 0, 0, 0}
+#define RDRAM_SET_H {28, 0, 20, 0, 8, 0, 8, 0, 8, 0, 9, 0, 8, 0, 4, 0, 4, 0, 4, 0, 8, 0, 6, 0, 0, 0, 2, 0, 4, 0, 0, 0}
 
 /*
  * Record, 32 bytes: instant 4, kind 1 (enum rdram_kind), zero 3, word 8, data 16. A D record has
