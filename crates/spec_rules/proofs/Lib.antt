@@ -1,0 +1,14 @@
+pub mod Worked
+pub mod Bools
+pub mod ListLaws
+pub mod BrokenLaws
+pub mod NeighbourLaws
+pub mod HistoryLaws
+pub mod PrechargeLaws
+pub mod TableLaws
+pub mod TrackLaws
+pub mod RulesAreChecks
+pub mod CheckerRight
+pub mod EarliestLaws
+pub mod ByCommand
+pub mod ByRule

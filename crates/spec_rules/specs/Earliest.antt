@@ -1,0 +1,68 @@
+-- The least instant that the rules allow a packet in a state (document 01, "Planner"): "Each ROW or COL packet takes the least
+-- instant, not before now, that the rules allow."
+-- Assumes nothing.
+use Prim.Native.Nat.{ℕ, _+_, max}
+use mathlib.Core.Bool.{Bool, not, _&&_, _||_, cond}
+use mathlib.Core.List.{List, [], _∷_}
+use mathlib.Core.Option.{Option, none, some}
+use lib.Dec.{leb}
+use Rattle.packet.specs.declared.ColPacket.{ColPacket}
+use Rattle.packet.specs.declared.ColPacket.the-variants.{Nocop, Wr, Rd}
+use Rattle.record.specs.declared.Record.{Record}
+use Rattle.record.specs.declared.Record.the-variants.{RowAt, ColAt, DataOf}
+use Rattle.spec_rules.specs.declared.Write.{Write}
+use Rattle.spec_rules.specs.declared.Channel.{Channel}
+use Rattle.spec_rules.specs.Neighbour.{Context}
+use Rattle.spec_rules.specs.Packets.{traits, retireTraits}
+use Rattle.spec_rules.specs.History.{isOpen, anyWrite, closes}
+use Rattle.spec_rules.specs.Rules.{freeFor, openFor, dataInPlace}
+use Rattle.spec_rules.specs.Channel.{stateOf, waitingOf, dueOf, leavingOf}
+use Rattle.spec_rules.specs.Checks.{bounds}
+
+-- a record at another instant
+unfoldable pub placedAt : ℕ → Record → Record
+placedAt t (RowAt u p) = RowAt (record { 0 = t }) p
+placedAt t (ColAt u p) = ColAt (record { 0 = t }) p
+placedAt t (DataOf u d) = DataOf (record { 0 = t }) d
+
+-- a COL packet under another mask
+abbrev pub colUnder : ℕ → ColPacket → ColPacket
+colUnder m (Nocop n) = Nocop m
+colUnder m (Wr b c n) = Wr b c m
+colUnder m (Rd b c n) = Rd b c m
+
+unfoldable pub under : ℕ → Record → Record
+under m (RowAt t p) = RowAt t p
+under m (ColAt t p) = ColAt t (colUnder m p)
+under m (DataOf t d) = DataOf t d
+
+module _ (cx : Context) (ch : Channel) where
+  module _ (r : Record) where
+    -- the tests that neither the instant of a packet nor a retire alters: rules 4, 9, 14 and 15
+    unfoldable pub fits : Bool
+    fits =
+        freeFor cx (stateOf ch) (traits r .opens)
+        && ((openFor (stateOf ch) (traits r .reads) && openFor (stateOf ch) (traits r .writes))
+        && (not (anyWrite (λ w. closes cx (stateOf ch) r (w .bank)) (waitingOf (ch .buffer))) && dataInPlace (dueOf cx ch) r))
+
+    -- what the table asks of a packet, and 4
+    unfoldable pub earliest : ℕ
+    earliest = max 4 (bounds cx ch (traits r))
+
+    -- the least instant of a retire of this write: rule 12 and the table
+    abbrev pub retireBound : Write → ℕ
+    retireBound w = max (w .at .0 + cx .settings .rtr) (bounds cx ch (retireTraits (w .bank)))
+
+    -- rules 9, 10, 12 and 16 by what leaves: a packet that retires no write has M = 0
+    abbrev pub leavesRight : Option Write → ℕ → Bool
+    leavesRight none t = not (traits r .masked)
+    leavesRight (some w) t = isOpen (stateOf ch (w .bank)) && leb (retireBound w) t
+
+    -- from instant t on, the least at which this write, if there is one, may be retired
+    abbrev pub slotFrom : ℕ → Option Write → ℕ
+    slotFrom t none = t
+    slotFrom t (some w) = max t (retireBound w)
+
+    -- the least instant from now on
+    unfoldable pub leastFrom : ℕ → ℕ
+    leastFrom now = slotFrom (max now earliest) (leavingOf cx ch r)

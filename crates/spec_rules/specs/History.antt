@@ -1,0 +1,181 @@
+-- What earlier records did, read off the list. Lists of earlier records have the newest first.
+-- Assumes nothing.
+use Prim.Native.Nat.{ℕ, _+_}
+use mathlib.Core.Bool.{Bool, true, false, not, _&&_, _||_, cond}
+use mathlib.Core.List.{List, [], _∷_, _++_}
+use mathlib.Core.Option.{Option, none, some}
+use lib.Dec.{eqb, leb}
+use Rattle.packet.specs.declared.RowPacket.{RowPacket}
+use Rattle.packet.specs.declared.RowPacket.the-variants.{Act, Prer, Refa, Refp}
+use Rattle.packet.specs.declared.ColPacket.{ColPacket}
+use Rattle.packet.specs.declared.ColPacket.the-variants.{Nocop, Wr, Rd}
+use Rattle.record.specs.declared.Record.{Record}
+use Rattle.record.specs.declared.Record.the-variants.{RowAt, ColAt, DataOf}
+use Rattle.spec_rules.specs.declared.Bank.{Bank}
+use Rattle.spec_rules.specs.declared.Bank.the-variants.{Closed, Open, Refresh}
+use Rattle.spec_rules.specs.declared.Write.{Write}
+use Rattle.spec_rules.specs.Neighbour.{Context, near}
+use Rattle.spec_rules.specs.Packets.{Traits, traits, retireTraits, instant}
+
+-- ---- banks
+
+-- "PRER to a bank closes that bank and any neighbour that is open or under refresh. REFA acts as ACT but opens nothing to
+-- columns; REFP acts as PRER."
+unfoldable pub bankBy : Context → RowPacket → ℕ → Bank → Bank
+bankBy cx (Act b r) x before = cond (eqb x b) (Open r) before
+bankBy cx (Prer b) x before = cond (near cx b x) Closed before
+bankBy cx (Refa b) x before = cond (eqb x b) Refresh before
+bankBy cx (Refp b) x before = cond (near cx b x) Closed before
+
+-- bank x after these records; "A fresh model or checker has every bank closed"
+unfoldable pub bankAfter : Context → List Record → ℕ → Bank
+bankAfter cx [] x = Closed
+bankAfter cx (RowAt t p ∷ es) x = bankBy cx p x (bankAfter cx es x)
+bankAfter cx (ColAt t p ∷ es) x = bankAfter cx es x
+bankAfter cx (DataOf t d ∷ es) x = bankAfter cx es x
+
+unfoldable pub isClosed : Bank → Bool
+isClosed Closed = true
+isClosed (Open r) = false
+isClosed Refresh = false
+
+-- open by ACT
+unfoldable pub isOpen : Bank → Bool
+isOpen Closed = false
+isOpen (Open r) = true
+isOpen Refresh = false
+
+-- ---- the write buffer
+
+-- the writes that wait are a list, oldest first; "House: one unretired write at most"
+abbrev pub first : List Write → Option Write
+first [] = none
+first (w ∷ ws) = some w
+
+abbrev pub rest : List Write → List Write
+rest [] = []
+rest (w ∷ ws) = ws
+
+abbrev pub onlyWrite : Bool → Option Write → Option Write
+onlyWrite true o = o
+onlyWrite false o = none
+
+-- "The next COL packet other than RD retires it": the write that a record retires, where these wait
+unfoldable pub leaving : Context → List Write → Record → Option Write
+leaving cx ws r = onlyWrite (traits r .notRead) (first ws)
+
+-- the writes that a record leaves
+abbrev pub left : Option Write → List Write → List Write
+left none ws = ws
+left (some w) ws = rest ws
+
+-- "WR loads it."
+abbrev pub colLoads : ℕ → ColPacket → Option Write
+colLoads t (Nocop m) = none
+colLoads t (Wr b c m) = some (record { bank = b; column = c; at = record { 0 = t } })
+colLoads t (Rd b c m) = none
+
+unfoldable pub loads : Record → Option Write
+loads (RowAt t p) = none
+loads (ColAt t p) = colLoads (t .0) p
+loads (DataOf t d) = none
+
+abbrev pub joined : Option Write → List Write → List Write
+joined none ws = ws
+joined (some w) ws = ws ++ (w ∷ [])
+
+-- the writes that wait after a record: "a WR retires the earlier write, then loads"
+unfoldable pub waitingNext : Context → Record → List Write → List Write
+waitingNext cx r ws = joined (loads r) (left (leaving cx ws r) ws)
+
+-- the writes that wait after these records; a fresh buffer is empty
+unfoldable pub waitingAfter : Context → List Record → List Write
+waitingAfter cx [] = []
+waitingAfter cx (r ∷ es) = waitingNext cx r (waitingAfter cx es)
+
+abbrev pub bankOf : Option Write → Option ℕ
+bankOf none = none
+bankOf (some w) = some (w .bank)
+
+abbrev pub only : Bool → Option ℕ → Option ℕ
+only true o = o
+only false o = none
+
+-- a test on the bank of some waiting write, of each
+abbrev pub anyWrite : (Write → Bool) → List Write → Bool
+anyWrite q [] = false
+anyWrite q (w ∷ ws) = q w || anyWrite q ws
+
+abbrev pub allWrites : (Write → Bool) → List Write → Bool
+allWrites q [] = true
+allWrites q (w ∷ ws) = q w && allWrites q ws
+
+-- ---- deeds and events
+
+-- what a record does: its instant and what it is
+pub record Deed : Type 0 where
+  pub at : ℕ
+  pub traits : Traits
+
+-- a retire
+abbrev pub retireDeeds : ℕ → Option Write → List Deed
+retireDeeds t none = []
+retireDeeds t (some w) = record { at = t; traits = retireTraits (w .bank) } ∷ []
+
+-- the deeds of a record, newest first, where these writes wait: a packet, and before it the retire that it makes; data are none
+unfoldable pub deeds : Context → List Write → Record → List Deed
+deeds cx ws (RowAt t p) = record { at = t .0; traits = traits (RowAt t p) } ∷ []
+deeds cx ws (ColAt t p) = record { at = t .0; traits = traits (ColAt t p) } ∷ retireDeeds (t .0) (leaving cx ws (ColAt t p))
+deeds cx ws (DataOf t d) = []
+
+-- a deed that is done, with the banks that it closed
+pub record Event : Type 0 where
+  pub at : ℕ
+  pub traits : Traits
+  pub closed : ℕ → Bool
+
+-- whether a PRER or REFP to a bank reaches bank x
+abbrev pub reaches : Context → Option ℕ → ℕ → Bool
+reaches cx none x = false
+reaches cx (some b) x = near cx b x
+
+-- whether a PRER or REFP, if it is one, closes bank x, which was in this state
+abbrev pub closesBank : Context → (ℕ → Bank) → Traits → ℕ → Bool
+closesBank cx before k x = reaches cx (k .precharges) x && not (isClosed (before x))
+
+abbrev pub closes : Context → (ℕ → Bank) → Record → ℕ → Bool
+closes cx before r x = closesBank cx before (traits r) x
+
+abbrev pub eventOf : Context → (ℕ → Bank) → Deed → Event
+eventOf cx before x = record { at = x .at; traits = x .traits; closed = closesBank cx before (x .traits) }
+
+-- deeds, done where the banks were in these states, before earlier events
+abbrev pub done : Context → (ℕ → Bank) → List Deed → List Event → List Event
+done cx before [] h = h
+done cx before (x ∷ l) h = eventOf cx before x ∷ done cx before l h
+
+-- the events of earlier records
+unfoldable pub events : Context → List Record → List Event
+events cx [] = []
+events cx (r ∷ es) = done cx (bankAfter cx es) (deeds cx (waitingAfter cx es) r) (events cx es)
+
+-- ---- distances
+
+-- a distance that a rule asks of a pair, or none
+abbrev pub spaced : Option ℕ → ℕ → ℕ → Bool
+spaced none earlier later = true
+spaced (some gap) earlier later = leb (earlier + gap) later
+
+-- the distance from every earlier event to a packet at t
+unfoldable pub keeps : (Event → Option ℕ) → ℕ → List Event → Bool
+keeps gap t [] = true
+keeps gap t (e ∷ h) = spaced (gap e) (e .at) t && keeps gap t h
+
+-- a distance between the banks of two packets, where both have one
+abbrev pub over : Option ℕ → (ℕ → Option ℕ) → Option ℕ
+over none f = none
+over (some b) f = f b
+
+abbrev pub has : Option ℕ → Bool
+has none = false
+has (some b) = true

@@ -1,0 +1,110 @@
+-- The sixteen rules (document 01, "Rules over every earlier and later record"): of a record r after the earlier records es,
+-- newest first. The distances stand in a table.
+-- Assumes nothing.
+use Prim.Native.Nat.{ℕ, _+_}
+use mathlib.Core.Bool.{Bool, true, false, not, _&&_, _||_}
+use mathlib.Core.List.{List, [], _∷_}
+use mathlib.Core.Option.{Option, none, some}
+use lib.Dec.{eqb, leb}
+use Rattle.num.specs.Search.{allUpTo}
+use Rattle.settings.specs.Instants.{horizon, isInstant}
+use Rattle.packet.specs.declared.ColPacket.{ColPacket}
+use Rattle.packet.specs.declared.ColPacket.the-variants.{Nocop, Wr, Rd}
+use Rattle.record.specs.declared.Record.{Record}
+use Rattle.record.specs.declared.Record.the-variants.{RowAt, ColAt, DataOf}
+use Rattle.spec_rules.specs.declared.Bank.{Bank}
+use Rattle.spec_rules.specs.declared.Write.{Write}
+use Rattle.spec_rules.specs.Neighbour.{bankCount, Context, near}
+use Rattle.spec_rules.specs.Packets.{traits, instant, isPacket}
+use Rattle.spec_rules.specs.History.{bankAfter, isClosed, isOpen, leaving, waitingAfter, bankOf, anyWrite, deeds, closes, events, has}
+use Rattle.spec_rules.specs.Distances.{holds}
+
+-- ---- tests on banks
+
+-- "bank and neighbours closed"
+abbrev pub freeFor : Context → (ℕ → Bank) → Option ℕ → Bool
+freeFor cx state none = true
+freeFor cx state (some b) = allUpTo (λ x. not (near cx b x) || isClosed (state x)) bankCount
+
+-- "need the bank open by ACT"
+abbrev pub openFor : (ℕ → Bank) → Option ℕ → Bool
+openFor state none = true
+openFor state (some b) = isOpen (state b)
+
+-- how long after a packet its data come, for RD and WR
+abbrev pub colDelay : Context → ColPacket → ℕ
+colDelay cx (Nocop m) = 0
+colDelay cx (Wr b c m) = cx .settings .cwd
+colDelay cx (Rd b c m) = cx .settings .cac
+
+unfoldable pub dataDelay : Context → Record → ℕ
+dataDelay cx (RowAt t p) = 0
+dataDelay cx (ColAt t p) = colDelay cx p
+dataDelay cx (DataOf t d) = 0
+
+-- the instant at which the data of the record before must come, where that record is a WR
+abbrev pub dueBy : Context → ℕ → ColPacket → Option ℕ
+dueBy cx t (Nocop m) = none
+dueBy cx t (Wr b c m) = some (t + cx .settings .cwd)
+dueBy cx t (Rd b c m) = none
+
+unfoldable pub dueAfter : Context → List Record → Option ℕ
+dueAfter cx [] = none
+dueAfter cx (RowAt t p ∷ es) = none
+dueAfter cx (ColAt t p ∷ es) = dueBy cx (t .0) p
+dueAfter cx (DataOf t d ∷ es) = none
+
+-- ---- the rules
+
+-- rules 2, 3, 5 to 8, 10, 11 and 13: the distances in the table, from every deed of the earlier records to each deed of r
+unfoldable pub ruleOf : Context → List Record → Record → ℕ → Bool
+ruleOf cx es r n = holds cx (events cx es) n (deeds cx (waitingAfter cx es) r)
+
+-- "1. ROW and COL instants, both kinds together in list order, never fall; all instants, the data instants of RD and WR
+-- included, stay in range."
+unfoldable pub rule1 : Context → List Record → Record → Bool
+rule1 cx es r = (isInstant (instant r) && leb (instant r + dataDelay cx r) horizon) && ruleOf cx es r 1
+
+-- "4. ACT or REFA: bank and neighbours closed."
+unfoldable pub rule4 : Context → List Record → Record → Bool
+rule4 cx es r = freeFor cx (bankAfter cx es) (traits r .opens)
+
+-- "9. RD, WR and retire need the bank open by ACT."
+unfoldable pub rule9 : Context → List Record → Record → Bool
+rule9 cx es r =
+    openFor (bankAfter cx es) (traits r .reads)
+    && (openFor (bankAfter cx es) (traits r .writes) && openFor (bankAfter cx es) (bankOf (leaving cx (waitingAfter cx es) r)))
+
+-- whether tRTR has passed since the WR of a write, where there is one
+abbrev pub waited : Context → Option Write → ℕ → Bool
+waited cx none t = true
+waited cx (some w) t = leb (w .at .0 + cx .settings .rtr) t
+
+-- "12. Not-RD COL with a write unretired: WR + tRTR."
+unfoldable pub rule12 : Context → List Record → Record → Bool
+rule12 cx es r = waited cx (leaving cx (waitingAfter cx es) r) (instant r)
+
+-- "14. PRER must not close the bank of an unretired write."
+unfoldable pub rule14 : Context → List Record → Record → Bool
+rule14 cx es r = not (anyWrite (λ w. closes cx (bankAfter cx es) r (w .bank)) (waitingAfter cx es))
+
+-- whether a record is the data that are due, or data are not due and it is none
+abbrev pub dataInPlace : Option ℕ → Record → Bool
+dataInPlace none r = isPacket r
+dataInPlace (some t) r = not (isPacket r) && eqb (instant r) t
+
+-- "15. Each WR is followed in the list by its data record D, at WR + tCWD; no D elsewhere. A list may end before the D;
+-- otherwise the record in its place is the bad one."
+unfoldable pub rule15 : Context → List Record → Record → Bool
+rule15 cx es r = dataInPlace (dueAfter cx es) r
+
+-- "16. M = 1 only on a retiring packet."
+unfoldable pub rule16 : Context → List Record → Record → Bool
+rule16 cx es r = not (traits r .masked) || has (bankOf (leaving cx (waitingAfter cx es) r))
+
+-- the sixteen in their order
+unfoldable pub rules : Context → List Record → Record → List Bool
+rules cx es r =
+    let byTable : ℕ → Bool = ruleOf cx es r in
+    rule1 cx es r ∷ byTable 2 ∷ byTable 3 ∷ rule4 cx es r ∷ byTable 5 ∷ byTable 6 ∷ byTable 7 ∷ byTable 8
+    ∷ rule9 cx es r ∷ byTable 10 ∷ byTable 11 ∷ rule12 cx es r ∷ byTable 13 ∷ rule14 cx es r ∷ rule15 cx es r ∷ rule16 cx es r ∷ []
