@@ -1,0 +1,123 @@
+-- A plan call, accepted or refused: the planner and the records that it makes.
+-- Assumes nothing.
+use Prim.Native.Nat.{ℕ, _+_, _/_, _≤_}
+use mathlib.Core.Path.{_≡_, refl}
+use mathlib.Core.Bool.{Bool, true, false, cond}
+use mathlib.Core.List.{List, [], _∷_, reverse, reverseAux}
+use lib.Dec.{leb}
+use lib.ListN.{length}
+use borrow.Author.Tests.{leb-true}
+use native.Mathlib.Omega.{arith}
+use Rattle.num.specs.Bytes.{Bytes}
+use Rattle.settings.specs.Instants.{horizon}
+use Rattle.record.specs.declared.Record.{Record}
+use Rattle.record.specs.declared.Request.{Request}
+use Rattle.record.specs.declared.Request.the-variants.{Read, Write as WriteTo, Refresh as RefreshBank, Wait, Drain}
+use Rattle.record.specs.declared.Refusal.the-variants.{Horizon, Full}
+use Rattle.record.specs.declared.RequestRead.{RequestRead}
+use Rattle.record.specs.declared.RequestRead.the-variants.{Refused as RefusedRequest, Accepted}
+use Rattle.record.specs.Request.{requestRead}
+use Rattle.record.proofs.RequestLaws.{InRange, accepted-range}
+use Rattle.spec_rules.specs.Neighbour.{Context, Neighbours}
+use Rattle.spec_rules.specs.Packets.{instant}
+use Rattle.spec_rules.specs.Rules.{dataDelay}
+use Rattle.spec_rules.proofs.Bools.{and-left, and-right}
+use Rattle.spec_plan.specs.declared.PlannerState.{PlannerState}
+use Rattle.spec_plan.specs.declared.Outcome.the-variants.{Refused, Made as MadeSome}
+use Rattle.spec_plan.specs.Plan.{Draft, plannedWait, stepsOf, planned}
+use Rattle.spec_plan.specs.Call.{inTime, timely, outcomeOf, outcomeBy, planOutcome, isMade, accepted, draftBy, draftOf, planNext, planRecords}
+use Rattle.spec_plan.proofs.Invariant.{Inv}
+use Rattle.spec_plan.proofs.Trace.{Each, channelBy, Placed, trace-start}
+use Rattle.spec_plan.proofs.PlanLaws.{Good, good-read, good-write, good-refresh, good-drain}
+
+-- what a call makes of planner p: the state after its records, each in its place
+pub record Made (cx : Context) (p : PlannerState) (d : Draft) : Type 0 where
+  pub channel : d .planner .channel ≡ channelBy cx (p .channel) (reverse (d .records))
+  pub each : Each (Placed cx p) (reverse (d .records))
+  pub inv : Inv cx (d .planner)
+
+-- no packet or data instant passes the last instant
+abbrev pub InTime : Context → List Record → Record → Type 0
+InTime cx es r = instant r + dataDelay cx r ≤ horizon
+
+pub each-in-time : (cx : Context) (l : List Record) → inTime cx l ≡ true → Each (InTime cx) (reverse l)
+unfolding inTime
+each-in-time cx l e = go l [] e tt
+  where
+    go : (l es : List Record) → inTime cx l ≡ true → Each (InTime cx) es → Each (InTime cx) (reverseAux l es)
+    go [] es e k = k
+    go (r ∷ l) es e k =
+        go l (r ∷ es) (and-right (leb (instant r + dataDelay cx r) horizon) _ e) (leb-true _ _ (and-left (leb (instant r + dataDelay cx r) horizon) _ e), k)
+
+module _ (cx : Context) where
+  made-good : (p : PlannerState) (d : Draft) → Good cx p d → Made cx p d
+  made-good p d k = record { channel = k .trace .channel; each = k .trace .each; inv = k .inv }
+
+  made-nothing : (p : PlannerState) → Inv cx p → Made cx p (record { planner = p; records = [] })
+  made-nothing p v = made-good p (record { planner = p; records = [] }) (record { trace = trace-start cx p; inv = v })
+
+  pub planned-made : Neighbours cx → (p : PlannerState) → Inv cx p → (q : Request) → InRange (cx .settings) q → Made cx p (planned cx q p)
+  unfolding planned stepsOf plannedWait channelBy
+  planned-made ns p v q i = go q i
+    where
+      d : Draft
+      d = record { planner = p; records = [] }
+
+      k : Good cx p d
+      k = record { trace = trace-start cx p; inv = v }
+
+      go : (q : Request) → InRange (cx .settings) q → Made cx p (stepsOf cx q d)
+      go (Read at) i = made-good p _ (good-read cx ns p d k at i)
+      go (WriteTo at mask bytes) i = made-good p _ (good-write cx ns p d k at mask bytes (i .0) (i .1))
+      go RefreshBank i = made-good p _ (good-refresh cx ns p d k)
+      go (Wait cycles) i =
+          record {
+            channel = refl;
+            each = tt;
+            inv = record { size = v .size; banked = v .banked; held = v .held; refresh-in = v .refresh-in; mask-in = v .mask-in; low = omega (arith, v .low) };
+          }
+      go Drain i = made-good p _ (good-drain cx ns p d k)
+
+  -- ---- a call
+
+  -- an accepted call passed the test of the instants
+  accepted-timely : (p : PlannerState) (x : RequestRead) (room : ℕ) → isMade (outcomeBy cx p x room) ≡ true → timely cx (draftBy cx p x) ≡ true
+  unfolding outcomeBy outcomeOf draftBy isMade
+  accepted-timely p (RefusedRequest why) room e = cc
+  accepted-timely p (Accepted q) room e = go (timely cx (planned cx q p)) (leb (length (planned cx q p .records)) (room / 32)) e
+    where
+      go : (a b : Bool) → isMade (cond a (cond b (MadeSome (length (planned cx q p .records))) (Refused Full)) (Refused Horizon)) ≡ true → a ≡ true
+      go true b h = refl
+      go false b h = h
+
+  module _ (p : PlannerState) (request : List ℕ) (room : ℕ) where
+    -- the planner and the records that the call makes
+    abbrev pub called : Draft
+    called = record { planner = planNext cx p request room; records = planRecords cx p request room }
+
+    -- a claim of what an accepted call makes, and of a refused one
+    called-either : (P : Draft → Type 0) → (accepted cx p request room ≡ true → P (draftOf cx p request)) → P (record { planner = p; records = [] }) → P called
+    unfolding planNext planRecords
+    called-either P f g = go (accepted cx p request room) refl
+      where
+        go : (b : Bool) → accepted cx p request room ≡ b → P (record { planner = cond b (draftOf cx p request .planner) p; records = cond b (draftOf cx p request .records) [] })
+        go true e = f e
+        go false e = g
+
+    pub call-made : Neighbours cx → Bytes request → Inv cx p → Made cx p called
+    unfolding draftBy
+    call-made ns w v = called-either (Made cx p) (λ _. go (requestRead (cx .settings) request) refl) (made-nothing p v)
+      where
+        go : (x : RequestRead) → requestRead (cx .settings) request ≡ x → Made cx p (draftBy cx p x)
+        go (RefusedRequest why) e = made-nothing p v
+        go (Accepted q) e = planned-made ns p v q (accepted-range (cx .settings) request q w e)
+
+    pub call-timely : leb (p .now .0) horizon ≡ true → timely cx called ≡ true
+    unfolding planOutcome timely inTime
+    call-timely e = called-either (λ d. timely cx d ≡ true) (λ h. accepted-timely p (requestRead (cx .settings) request) room h) e
+
+    pub call-in-time : inTime cx (planRecords cx p request room) ≡ true
+    unfolding planOutcome timely inTime
+    call-in-time =
+        called-either (λ d. inTime cx (d .records) ≡ true)
+        (λ h. and-left (inTime cx (draftOf cx p request .records)) _ (accepted-timely p (requestRead (cx .settings) request) room h)) refl

@@ -1,0 +1,12 @@
+pub mod Invariant
+pub mod SentLaws
+pub mod Trace
+pub mod PlanLaws
+pub mod CallLaws
+pub mod Valid
+pub mod Legal
+pub mod Least
+pub mod Refused
+pub mod Bound
+pub mod DataFree
+pub mod Worked

@@ -1,0 +1,345 @@
+-- Every step of the planner keeps its invariant, and each of its records passes the tests on the state, at the least instant.
+-- Assumes nothing.
+use Prim.Native.Nat.{ℕ, zero, suc, _+_, _≤_, _<_, _^_, max}
+use mathlib.Core.Path.{_≡_, refl, ap, _∙_}
+use mathlib.Core.Bool.{Bool, true, false, not, _&&_, _||_, cond, or-true}
+use mathlib.Core.List.{List, [], _∷_, _++_}
+use mathlib.Core.Option.{Option, none, some}
+use lib.Dec.{eqb, ltb}
+use borrow.Author.Tests.{lt-ltb, eqb-true, eq-eqb, not-false}
+use native.Mathlib.Nat.{mod-lt}
+use native.Mathlib.Omega.{arith}
+use Rattle.packet.specs.declared.RowPacket.{RowPacket}
+use Rattle.packet.specs.declared.RowPacket.the-variants.{Act, Prer, Refa, Refp}
+use Rattle.packet.specs.declared.ColPacket.the-variants.{Nocop, Wr, Rd}
+use Rattle.packet.specs.Row.{rowFits}
+use Rattle.packet.specs.Col.{colFits}
+use Rattle.record.specs.declared.Dualoct.{Dualoct}
+use Rattle.record.specs.declared.Record.{Record}
+use Rattle.record.specs.declared.Place.{Place}
+use Rattle.record.specs.Record.{recordFits}
+use Rattle.record.proofs.RequestLaws.{InPlace}
+use Rattle.spec_rules.specs.declared.Bank.{Bank}
+use Rattle.spec_rules.specs.declared.Bank.the-variants.{Closed, Open, Refresh}
+use Rattle.spec_rules.specs.declared.Write.{Write}
+use Rattle.spec_rules.specs.declared.Channel.{Channel}
+use Rattle.spec_rules.specs.Neighbour.{bankCount, Context, Neighbours, near}
+use Rattle.spec_rules.specs.Packets.{traits, rowTraits, colTraits, isPacket}
+use Rattle.spec_rules.specs.History.{bankBy, isClosed, isOpen, rest, left, loads, bankOf, anyWrite}
+use Rattle.spec_rules.specs.Rules.{openFor}
+use Rattle.spec_rules.specs.Channel.{newestDue, dueOf, bankNext, afterData, after, leavingOf}
+use Rattle.spec_rules.specs.Earliest.{placedAt, under, fits, earliest, leastFrom}
+use Rattle.spec_rules.proofs.Bools.{not-both, and-right, neither}
+use Rattle.spec_rules.proofs.EarliestLaws.{picked-late}
+use Rattle.spec_plan.specs.declared.PlannerState.{PlannerState}
+use Rattle.spec_plan.specs.Plan.{Draft, rowPacket, colPacket, when, waiting, stateIn, openOn, hits, anyWaits, slot, leaver, sent, flushed, flushedWhile, closed, closedUpTo, reached, plannedRead, loaded, written, plannedWrite, turned, plannedRefresh, plannedDrain}
+use Rattle.spec_plan.proofs.SentLaws.{when-either, sent-now, sent-refresh, sent-size, sent-state, sent-due, sent-waiting, row-waiting, read-waiting, flushed-waiting, while-keeps, while-ends, while-state, saved, saved-far, up-to-picked}
+use Rattle.spec_plan.proofs.Invariant.{Banked, WritesIn, allOpen, inBanks, none-picked, Held, Inv, NearClosed, Changed, banked-shut, banked-open, held-far, far-other, held-stays, left-in, left-open, joined-in, joined-open, leaving-open, fits-by, free-near}
+use Rattle.spec_plan.proofs.Trace.{Trace, trace-sent, trace-loaded}
+
+-- planner p has come this far in a call
+pub record Good (cx : Context) (p : PlannerState) (d : Draft) : Type 0 where
+  pub trace : Trace cx p d
+  pub inv : Inv cx (d .planner)
+
+-- ---- one packet
+
+module _ (cx : Context) where
+  sent-late : (r : Record) (d : Draft) → d .planner .now .0 ≤ slot cx (d .planner) r
+  unfolding slot leastFrom
+  sent-late r d =
+      let t0 : ℕ = max (d .planner .now .0) (earliest cx (d .planner .channel) r) in
+      omega (arith, picked-late cx (d .planner .channel) r t0 (leavingOf cx (d .planner .channel) r))
+
+  module _ (d : Draft) (v : Inv cx (d .planner)) (r : Record) (e : traits r .writes ≡ none) where
+    -- a packet that leaves the writes, in banks that it does not change
+    held-sent : waiting (sent cx r d) ≡ waiting d → (q : ℕ → Bool) (new : Bank) → inBanks q (waiting d) ≡ false
+        → Changed q new (stateIn d) (stateIn (sent cx r d)) → Held cx (sent cx r d .planner .channel)
+    held-sent same q new far c =
+        record {
+          write-in = rw same (v .held .write-in);
+          opened = rw same (held-stays cx (stateIn d) (stateIn (sent cx r d)) q new (waiting d) (v .held .write-in) far c (v .held .opened));
+          no-due = sent-due cx r d ∙ rw e;
+        }
+
+    -- a packet after which the banks are as they must be, and the write
+    inv-sent : Banked cx (stateIn (sent cx r d)) → Held cx (sent cx r d .planner .channel) → Inv cx (sent cx r d .planner)
+    unfolding sent
+    inv-sent b h =
+        record {
+          size = sent-size cx r d ∙ v .size;
+          banked = b;
+          held = h;
+          refresh-in = v .refresh-in;
+          mask-in = v .mask-in;
+          low = omega (arith, sent-late r d, v .low);
+        }
+
+pub bank-word : (x : ℕ) → x < bankCount → ltb x 32 ≡ true
+unfolding bankCount
+bank-word x m = lt-ltb x 32 m
+
+module _ (cx : Context) (ns : Neighbours cx) (p : PlannerState) where
+  abbrev G : Draft → Type 0
+  G d = Good cx p d
+
+  -- ---- each packet of the planner
+
+  module _ (d : Draft) (k : G d) where
+    abbrev leaves-open : (r : Record) → openFor (stateIn d) (bankOf (leavingOf cx (d .planner .channel) r)) ≡ true
+    leaves-open r = leaving-open cx (stateIn d) (waiting d) r (k .inv .held .opened)
+
+    -- a packet that leaves the writes, in banks that it does not change
+    good-kept : (r : Record) → isPacket r ≡ true → recordFits (cx .settings) r ≡ true → fits cx (d .planner .channel) r ≡ true → traits r .writes ≡ none
+        → waiting (sent cx r d) ≡ waiting d → (q : ℕ → Bool) (new : Bank) → inBanks q (waiting d) ≡ false
+        → Changed q new (stateIn d) (stateIn (sent cx r d)) → Banked cx (stateIn (sent cx r d)) → G (sent cx r d)
+    good-kept r packet word fitting e same q new far c b =
+        record {
+          trace = trace-sent cx p d (k .trace) r packet word (k .inv .mask-in) fitting (leaves-open r);
+          inv = inv-sent cx d (k .inv) r e b (held-sent cx d (k .inv) r e same q new far c);
+        }
+
+    pub good-prer : (x : ℕ) → x < bankCount → inBanks (near cx x) (waiting d) ≡ false → G (sent cx (rowPacket (Prer x)) d)
+    unfolding traits rowTraits isPacket recordFits rowFits bankNext bankBy
+    good-prer x m far =
+        let r : Record = rowPacket (Prer x) in
+        let c : Changed (near cx x) Closed (stateIn d) (stateIn (sent cx r d)) = sent-state cx r d (k .inv .size) in
+        good-kept r refl (bank-word x m) (fits-by cx (d .planner .channel) (k .inv .held) r refl refl refl refl far) refl
+        (row-waiting cx (Prer x) d) (near cx x) Closed far c (banked-shut cx (stateIn d) (stateIn (sent cx r d)) (k .inv .banked) (near cx x) c)
+
+    -- a write does not wait near banks that are closed
+    far-from : (b : ℕ) → NearClosed cx (stateIn d) b → inBanks (near cx b) (waiting d) ≡ false
+    far-from b n = held-far cx (stateIn d) b (waiting d) (k .inv .held .write-in) (k .inv .held .opened) n
+
+    other-than : (b : ℕ) → NearClosed cx (stateIn d) b → inBanks (λ x. eqb x b) (waiting d) ≡ false
+    other-than b n = far-other cx (stateIn d) b (waiting d) (far-from b n)
+
+    pub good-act : (b row : ℕ) → b < bankCount → row < cx .settings .rows → NearClosed cx (stateIn d) b → G (sent cx (rowPacket (Act b row)) d)
+    unfolding traits rowTraits isPacket recordFits rowFits bankNext bankBy
+    good-act b row m l n =
+        let r : Record = rowPacket (Act b row) in
+        let c : Changed (λ x. eqb x b) (Open row) (stateIn d) (stateIn (sent cx r d)) = sent-state cx r d (k .inv .size) in
+        good-kept r refl (rw (bank-word b m) (lt-ltb row (cx .settings .rows) l))
+        (fits-by cx (d .planner .channel) (k .inv .held) r refl (free-near cx (stateIn d) b n) refl refl (none-picked (waiting d))) refl
+        (row-waiting cx (Act b row) d) (λ x. eqb x b) (Open row) (other-than b n) c
+        (banked-open cx (stateIn d) (stateIn (sent cx r d)) (k .inv .banked) ns b row l n c)
+
+    pub good-rd : (b c row : ℕ) → b < bankCount → c < cx .settings .columns → stateIn d b ≡ Open row → G (sent cx (colPacket (Rd b c 0xFFFF)) d)
+    unfolding traits colTraits isPacket recordFits colFits bankNext isOpen
+    good-rd b c row m l o =
+        let r : Record = colPacket (Rd b c 0xFFFF) in
+        let same : Changed (λ x. false) Closed (stateIn d) (stateIn (sent cx r d)) = sent-state cx r d (k .inv .size) in
+        good-kept r refl (rw (bank-word b m, lt-ltb c (cx .settings .columns) l))
+        (fits-by cx (d .planner .channel) (k .inv .held) r refl refl (rw o) refl (none-picked (waiting d))) refl
+        (read-waiting cx b c 0xFFFF d) (λ x. false) Closed (none-picked (waiting d)) same
+        (banked-shut cx (stateIn d) (stateIn (sent cx r d)) (k .inv .banked) (λ x. false) same)
+
+    pub good-flushed : G (flushed cx d)
+    unfolding flushed traits colTraits isPacket recordFits colFits bankNext
+    good-flushed =
+        let r : Record = colPacket (Nocop 0xFFFF) in
+        let ch : Channel = d .planner .channel in
+        let same : Changed (λ x. false) Closed (stateIn d) (stateIn (sent cx r d)) = sent-state cx r d (k .inv .size) in
+        let ws : waiting (sent cx r d) ≡ rest (waiting d) = flushed-waiting cx d in
+        let still : allOpen (stateIn (sent cx r d)) (waiting d) ≡ true = held-stays cx (stateIn d) (stateIn (sent cx r d)) (λ x. false) Closed (waiting d) (k .inv .held .write-in) (none-picked (waiting d)) same (k .inv .held .opened) in
+        record {
+          trace = trace-sent cx p d (k .trace) r refl refl (k .inv .mask-in)
+              (fits-by cx ch (k .inv .held) r refl refl refl refl (none-picked (waiting d))) (leaves-open r);
+          inv = inv-sent cx d (k .inv) r refl
+              (banked-shut cx (stateIn d) (stateIn (sent cx r d)) (k .inv .banked) (λ x. false) same)
+              (record {
+                write-in = rw ws (rest-in (waiting d) (k .inv .held .write-in));
+                opened = rw ws (rest-open (waiting d) (stateIn (sent cx r d)) still);
+                no-due = sent-due cx r d;
+              });
+        }
+      where
+        rest-in : (ws : List Write) → WritesIn cx ws → WritesIn cx (rest ws)
+        rest-in [] i = tt
+        rest-in (w ∷ ws) i = i .1
+
+        rest-open : (ws : List Write) (state : ℕ → Bank) → allOpen state ws ≡ true → allOpen state (rest ws) ≡ true
+        rest-open [] state h = refl
+        rest-open (w ∷ ws) state h = and-right (isOpen (state (w .bank))) _ h
+
+    -- REFA and the REFP after it: the banks are then as after a PRER
+    refreshed-state : (b : ℕ) → Changed (near cx b) Closed (stateIn d) (stateIn (sent cx (rowPacket (Refp b)) (sent cx (rowPacket (Refa b)) d)))
+    unfolding bankNext bankBy
+    refreshed-state b x m =
+        let z : Draft = sent cx (rowPacket (Refa b)) d in
+        sent-state cx (rowPacket (Refp b)) z (sent-size cx (rowPacket (Refa b)) d ∙ k .inv .size) x m
+        ∙ rw (sent-state cx (rowPacket (Refa b)) d (k .inv .size) x m) (go (eqb x b) (cx .nbr b x) (stateIn d x))
+      where
+        go : (i j : Bool) (a : Bank) → cond (i || j) Closed (cond i Refresh a) ≡ cond (i || j) Closed a
+        go true j a = refl
+        go false j a = refl
+
+    pub good-refreshed : (b : ℕ) → b < bankCount → NearClosed cx (stateIn d) b → G (sent cx (rowPacket (Refp b)) (sent cx (rowPacket (Refa b)) d))
+    unfolding traits rowTraits isPacket recordFits rowFits bankNext bankBy sent
+    good-refreshed b m n =
+        let v : Inv cx (d .planner) = k .inv in
+        let r : Record = rowPacket (Refa b) in
+        let z : Draft = sent cx r d in
+        let q : Record = rowPacket (Refp b) in
+        let c : Changed (λ x. eqb x b) Refresh (stateIn d) (stateIn z) = sent-state cx r d (v .size) in
+        let h : Held cx (z .planner .channel) = held-sent cx d v r refl (row-waiting cx (Refa b) d) (λ x. eqb x b) Refresh (other-than b n) c in
+        let f : inBanks (near cx b) (waiting z) ≡ false = rw (row-waiting cx (Refa b) d) (far-from b n) in
+        let t : Trace cx p z = trace-sent cx p d (k .trace) r refl (bank-word b m) (v .mask-in) (fits-by cx (d .planner .channel) (v .held) r refl (free-near cx (stateIn d) b n) refl refl (none-picked (waiting d))) (leaves-open r) in
+        let same : waiting (sent cx q z) ≡ waiting d = row-waiting cx (Refp b) z ∙ row-waiting cx (Refa b) d in
+        record {
+          trace = trace-sent cx p z t q refl (bank-word b m) (v .mask-in) (fits-by cx (z .planner .channel) h q refl refl refl refl f) (leaving-open cx (stateIn z) (waiting z) q (h .opened));
+          inv = record {
+            size = sent-size cx q z ∙ sent-size cx r d ∙ v .size;
+            banked = banked-shut cx (stateIn d) (stateIn (sent cx q z)) (v .banked) (near cx b) (refreshed-state b);
+            held = record {
+              write-in = rw same (v .held .write-in);
+              opened = rw same (held-stays cx (stateIn d) (stateIn (sent cx q z)) (near cx b) Closed (waiting d) (v .held .write-in) (far-from b n) (refreshed-state b) (v .held .opened));
+              no-due = sent-due cx q z;
+            };
+            refresh-in = v .refresh-in;
+            mask-in = v .mask-in;
+            low = omega (arith, sent-late cx r d, sent-late cx q z, v .low);
+          };
+        }
+
+    -- what waits after a WR
+    pub written-waiting : (at : Place) →
+        let r : Record = colPacket (Wr (at .bank) (at .column) 0xFFFF) in
+        waiting (sent cx r d)
+        ≡ left (leaver cx (d .planner) r) (waiting d) ++ (record { bank = at .bank; column = at .column; at = record { 0 = slot cx (d .planner) r } } ∷ [])
+    unfolding loads placedAt under
+    written-waiting at = sent-waiting cx (colPacket (Wr (at .bank) (at .column) 0xFFFF)) d
+
+    written-due : (at : Place) →
+        let r : Record = colPacket (Wr (at .bank) (at .column) 0xFFFF) in
+        dueOf cx (sent cx r d .planner .channel) ≡ some (slot cx (d .planner) r + cx .settings .cwd)
+    unfolding dueOf traits colTraits
+    written-due at =
+        let r : Record = colPacket (Wr (at .bank) (at .column) 0xFFFF) in
+        rw (sent-due cx r d, written-waiting at) (go (left (leaver cx (d .planner) r) (waiting d)))
+      where
+        new : Write
+        new = record { bank = at .bank; column = at .column; at = record { 0 = slot cx (d .planner) (colPacket (Wr (at .bank) (at .column) 0xFFFF)) } }
+
+        go : (ws : List Write) → newestDue cx (ws ++ (new ∷ [])) ≡ some (new .at .0 + cx .settings .cwd)
+        go [] = refl
+        go (x ∷ []) = refl
+        go (x ∷ y ∷ ws) = go (y ∷ ws)
+
+    -- WR and its D
+    pub good-written : (at : Place) (row mask : ℕ) (bytes : Dualoct) → at .bank < bankCount → at .column < cx .settings .columns → mask < 2 ^ 16 → stateIn d (at .bank) ≡ Open row
+        → G (written cx at mask bytes d)
+    unfolding written loaded traits colTraits isPacket recordFits colFits bankNext isOpen after afterData
+    good-written at row mask bytes m l w o =
+        let v : Inv cx (d .planner) = k .inv in
+        let ch : Channel = d .planner .channel in
+        let r : Record = colPacket (Wr (at .bank) (at .column) 0xFFFF) in
+        let z : Draft = sent cx r d in
+        let t : ℕ = slot cx (d .planner) r in
+        let new : Write = record { bank = at .bank; column = at .column; at = record { 0 = t } } in
+        let went : Option Write = leaver cx (d .planner) r in
+        let same : Changed (λ x. false) Closed (stateIn d) (stateIn z) = sent-state cx r d (v .size) in
+        let tr : Trace cx p z = trace-sent cx p d (k .trace) r refl (rw (bank-word (at .bank) m, lt-ltb _ _ l)) (v .mask-in)
+        (fits-by cx ch (v .held) r refl refl refl (rw o) (none-picked (waiting d))) (leaves-open r) in
+        let late : 4 ≤ t = omega (arith, sent-late cx r d, v .low) in
+        let ws : waiting z ≡ left went (waiting d) ++ (new ∷ []) = written-waiting at in
+        let here : isOpen (stateIn z (at .bank)) ≡ true = rw (same (at .bank) m, o) in
+        let still : allOpen (stateIn z) (waiting d) ≡ true = held-stays cx (stateIn d) (stateIn z) (λ x. false) Closed (waiting d) (v .held .write-in) (none-picked (waiting d)) same (v .held .opened) in
+        record {
+          trace = trace-loaded cx p z tr mask bytes (rw (sent-now cx r d) (written-due at)) (rw (sent-now cx r d) late);
+          inv = record {
+            size = sent-size cx r d ∙ v .size;
+            banked = banked-shut cx (stateIn d) (stateIn z) (v .banked) (λ x. false) same;
+            held = record {
+              write-in = rw ws (joined-in cx new (left went (waiting d)) (m, l) (left-in cx went (waiting d) (v .held .write-in)));
+              opened = rw ws (joined-open (stateIn z) new (left went (waiting d)) here (left-open (stateIn z) went (waiting d) still));
+              no-due = refl;
+            };
+            refresh-in = rw (sent-refresh cx r d) (v .refresh-in);
+            mask-in = w;
+            low = rw (sent-now cx r d) late;
+          };
+        }
+
+  -- ---- banks closed, a row reached
+
+  pub good-while : (d : Draft) → G d → (test : List Write → Bool) → test [] ≡ false → G (flushedWhile cx test d)
+  good-while d k test e = while-keeps cx G (λ z _ g. good-flushed z g) test e d k
+
+  good-saved : (d : Draft) → G d → (x : ℕ) → G (saved cx x d)
+  good-saved d k x = good-while d k (anyWrite (λ w. near cx x (w .bank))) refl
+
+  pub good-closed : (d : Draft) → G d → (x : ℕ) → x < bankCount → G (closed cx x d)
+  unfolding closed
+  good-closed d k x m = good-prer (saved cx x d) (good-saved d k x) x m (saved-far cx x d)
+
+  pub good-up-to : (d : Draft) → G d → (pick : ℕ → Bool) (n : ℕ) → n ≤ bankCount → G (closedUpTo cx pick n d)
+  unfolding closedUpTo
+  good-up-to d k pick zero m = k
+  good-up-to d k pick (suc n) m =
+      let z : Draft = closedUpTo cx pick n d in
+      let g : G z = good-up-to d k pick n (omega arith) in
+      when-either G (pick n && not (isClosed (stateIn z n))) (closed cx n) z (λ _. good-closed z g n (omega arith)) (λ _. g)
+
+  -- the bank and its neighbours closed
+  abbrev pub cleared : ℕ → Draft → Draft
+  cleared b d = closedUpTo cx (near cx b) bankCount d
+
+  pub good-cleared : (d : Draft) → G d → (b : ℕ) → G (cleared b d) × NearClosed cx (stateIn (cleared b d)) b
+  good-cleared d k b = (good-up-to d k (near cx b) bankCount (omega arith), up-to-picked cx (near cx b) d (k .inv .size) bankCount (omega arith))
+
+  open-on : (b : Bank) (row : ℕ) → openOn b row ≡ true → b ≡ Open row
+  open-on Closed row e = cc
+  open-on (Open r) row e = ap Open (eqb-true r row e)
+  open-on Refresh row e = cc
+
+  pub good-reached : (d : Draft) → G d → (b row : ℕ) → b < bankCount → row < cx .settings .rows → G (reached cx b row d) × (stateIn (reached cx b row d) b ≡ Open row)
+  unfolding reached bankNext bankBy
+  good-reached d k b row m l =
+      let c = good-cleared d k b in
+      when-either (λ z. G z × (stateIn z b ≡ Open row)) (not (openOn (stateIn d b) row)) (λ d. sent cx (rowPacket (Act b row)) (cleared b d)) d
+      (λ _. (good-act (cleared b d) (c .0) b row m l (c .1), sent-state cx (rowPacket (Act b row)) (cleared b d) (c .0 .inv .size) b m ∙ rw (eq-eqb b b refl)))
+      (λ e. (k, open-on (stateIn d b) row (not-false (openOn (stateIn d b) row) e)))
+
+  -- ---- requests
+
+  pub good-read : (d : Draft) → G d → (at : Place) → InPlace (cx .settings) at → G (plannedRead cx at d)
+  unfolding plannedRead bankCount
+  good-read d k at i =
+      let a = good-reached d k (at .bank) (at .row) (i .0) (i .1) in
+      let z : Draft = reached cx (at .bank) (at .row) d in
+      let test : List Write → Bool = anyWrite (hits (at .bank) (at .column)) in
+      let y : Draft = flushedWhile cx test z in
+      good-rd y (good-while z (a .0) test refl) (at .bank) (at .column) (at .row) (i .0) (i .2) (while-state cx test refl z (a .0 .inv .size) (at .bank) (i .0) ∙ a .1)
+
+  pub good-write : (d : Draft) → G d → (at : Place) (mask : ℕ) (bytes : Dualoct) → InPlace (cx .settings) at → mask < 2 ^ 16 → G (plannedWrite cx at mask bytes d)
+  unfolding plannedWrite bankCount
+  good-write d k at mask bytes i m =
+      let a = good-reached d k (at .bank) (at .row) (i .0) (i .1) in
+      good-written (reached cx (at .bank) (at .row) d) (a .0) at (at .row) mask bytes (i .0) (i .2) m (a .1)
+
+  good-turned : (d : Draft) → G d → G (turned cx d)
+  unfolding turned
+  good-turned d k =
+      record {
+        trace = record { channel = k .trace .channel; now = k .trace .now; each = k .trace .each };
+        inv = record {
+          size = k .inv .size;
+          banked = k .inv .banked;
+          held = k .inv .held;
+          refresh-in = mod-lt (d .planner .refresh + 1) (omega (arith, k .inv .refresh-in));
+          mask-in = k .inv .mask-in;
+          low = k .inv .low;
+        };
+      }
+
+  pub good-refresh : (d : Draft) → G d → G (plannedRefresh cx d)
+  unfolding plannedRefresh
+  good-refresh d k =
+      let b : ℕ = d .planner .refresh in
+      let c = good-cleared d k b in
+      good-turned _ (good-refreshed (cleared b d) (c .0) b (k .inv .refresh-in) (c .1))
+
+  pub good-drain : (d : Draft) → G d → G (plannedDrain cx d)
+  unfolding plannedDrain
+  good-drain d k = good-up-to (flushedWhile cx anyWaits d) (good-while d k anyWaits refl) (λ x. true) bankCount (omega arith)

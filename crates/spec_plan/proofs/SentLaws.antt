@@ -1,0 +1,301 @@
+-- What one packet of the planner makes of the channel, and what closing banks makes of it: the banks, the write that waits, the
+-- number of banks, and the records.
+-- Assumes nothing.
+use Prim.Native.Nat.{ℕ, zero, suc, _+_, _≤_, _<_, _^_, max}
+use mathlib.Core.Path.{_≡_, refl, sym, ap, _∙_}
+use mathlib.Core.Bool.{Bool, true, false, not, _&&_, cond}
+use mathlib.Core.List.{List, [], _∷_, _++_}
+use mathlib.Core.Option.{Option, none, some}
+use lib.Dec.{eqb, ltb}
+use lib.ListN.{length}
+use borrow.Author.Tests.{le-leb, lt-ltb, eqb-true, eqb-false, eq-eqb}
+use native.Mathlib.Omega.{arith}
+use Rattle.packet.specs.declared.RowPacket.{RowPacket}
+use Rattle.packet.specs.declared.RowPacket.the-variants.{Prer}
+use Rattle.packet.specs.declared.ColPacket.the-variants.{Nocop, Wr, Rd}
+use Rattle.packet.specs.Col.{colFits}
+use Rattle.record.specs.declared.Record.{Record}
+use Rattle.record.specs.declared.Record.the-variants.{RowAt, ColAt, DataOf}
+use Rattle.record.specs.Record.{recordFits}
+use Rattle.spec_rules.specs.declared.Bank.{Bank}
+use Rattle.spec_rules.specs.declared.Bank.the-variants.{Closed}
+use Rattle.spec_rules.specs.declared.Write.{Write}
+use Rattle.spec_rules.specs.declared.Buffer.{Buffer}
+use Rattle.spec_rules.specs.declared.Buffer.the-variants.{Empty, One}
+use Rattle.spec_rules.specs.declared.Channel.{Channel}
+use Rattle.spec_rules.specs.Neighbour.{bankCount, Context, near}
+use Rattle.spec_rules.specs.Packets.{traits, colTraits, instant}
+use Rattle.spec_rules.specs.History.{bankBy, isClosed, first, rest, leaving, left, loads, joined, waitingNext, anyWrite, has}
+use Rattle.spec_rules.specs.Channel.{never, waitingOf, bankNext, leavingOf, after}
+use Rattle.spec_rules.specs.Earliest.{placedAt, under, earliest, retireBound, slotFrom, leastFrom}
+use Rattle.spec_rules.proofs.Bools.{not-both, and-left, and-right}
+use Rattle.spec_rules.proofs.TrackLaws.{row-keeps, keeps-all, after-waits}
+use Rattle.spec_rules.proofs.EarliestLaws.{placed-instant, moved-not-read, moved-leaving, moved-bank, moved-writes}
+use Rattle.spec_state.proofs.AfterLaws.{after-size, after-due, after-state}
+use Rattle.spec_plan.specs.declared.PlannerState.{PlannerState}
+use Rattle.spec_plan.specs.Plan.{Draft, rowPacket, colPacket, when, waiting, stateIn, carried, anyWaits, slot, leaver, placedIn, sent, flushed, flushedWhile, closed, closedUpTo}
+
+-- ---- a record at another instant, under another mask
+
+-- it has a word where the packet has one
+pub moved-word : (cx : Context) (t m : ℕ) (r : Record) → m < 2 ^ 16 → recordFits (cx .settings) r ≡ true → recordFits (cx .settings) (placedAt t (under m r)) ≡ true
+unfolding placedAt under recordFits colFits
+moved-word cx t m (RowAt u p) l e = e
+moved-word cx t m (ColAt u (Nocop n)) l e = lt-ltb m _ l
+moved-word cx t m (ColAt u (Wr b c n)) l e = rw (and-left (ltb b 32) _ e, and-left (ltb c (cx .settings .columns)) _ (and-right (ltb b 32) _ e), lt-ltb m _ l)
+moved-word cx t m (ColAt u (Rd b c n)) l e = rw (and-left (ltb b 32) _ e, and-left (ltb c (cx .settings .columns)) _ (and-right (ltb b 32) _ e), lt-ltb m _ l)
+moved-word cx t m (DataOf u d) l e = refl
+
+-- at most one write waits
+rest-none : (b : Buffer) → rest (waitingOf b) ≡ []
+unfolding waitingOf
+rest-none Empty = refl
+rest-none (One w) = refl
+
+-- ---- a step where a test passes
+
+pub when-either : (P : Draft → Type 0) (b : Bool) (step : Draft → Draft) (d : Draft) → (b ≡ true → P (step d)) → (b ≡ false → P d) → P (when b step d)
+when-either P true step d f g = f refl
+when-either P false step d f g = g refl
+
+-- all banks are there
+abbrev pub Sized : Draft → Type 0
+Sized d = length (d .planner .channel .banks) ≡ bankCount
+
+module _ (cx : Context) where
+  -- ---- a packet
+
+  module _ (r : Record) (d : Draft) where
+    abbrev pub here : Record
+    here = placedIn cx (d .planner) r
+
+    abbrev pub gone : Option Write
+    gone = leaver cx (d .planner) r
+
+    pub sent-channel : sent cx r d .planner .channel ≡ after cx (d .planner .channel) here
+    unfolding sent
+    sent-channel = refl
+
+    pub sent-now : sent cx r d .planner .now .0 ≡ slot cx (d .planner) r
+    unfolding sent
+    sent-now = refl
+
+    pub sent-mask : sent cx r d .planner .mask ≡ d .planner .mask
+    unfolding sent
+    sent-mask = refl
+
+    pub sent-refresh : sent cx r d .planner .refresh ≡ d .planner .refresh
+    unfolding sent
+    sent-refresh = refl
+
+    pub sent-records : sent cx r d .records ≡ d .records ++ (here ∷ [])
+    unfolding sent
+    sent-records = refl
+
+    pub sent-size : length (sent cx r d .planner .channel .banks) ≡ length (d .planner .channel .banks)
+    unfolding sent
+    sent-size = after-size cx (d .planner .channel) here
+
+    pub sent-state : Sized d → (x : ℕ) → x < bankCount → stateIn (sent cx r d) x ≡ bankNext cx r x (stateIn d x)
+    unfolding sent
+    sent-state n x m =
+        after-state cx (d .planner .channel) here x n m ∙ moved-bank cx (d .planner .channel) (slot cx (d .planner) r) (carried gone (d .planner .mask)) r x (stateIn d x)
+
+    pub sent-due : sent cx r d .planner .channel .due ≡ has (traits r .writes)
+    unfolding sent
+    sent-due = after-due cx (d .planner .channel) here ∙ ap has (moved-writes cx (d .planner .channel) (slot cx (d .planner) r) (carried gone (d .planner .mask)) r)
+
+    -- the mask of a packet does not say what leaves
+    pub here-leaving : leavingOf cx (d .planner .channel) here ≡ gone
+    unfolding leaving traits placedAt
+    here-leaving =
+        let ch : Channel = d .planner .channel in
+        let t : ℕ = slot cx (d .planner) r in
+        moved-leaving cx ch t (carried gone (d .planner .mask)) r ∙ rw (placed-not-read t r)
+      where
+        placed-not-read : (t : ℕ) (r : Record) → traits (placedAt t r) .notRead ≡ traits r .notRead
+        placed-not-read t (RowAt u p) = refl
+        placed-not-read t (ColAt u p) = refl
+        placed-not-read t (DataOf u d) = refl
+
+    pub sent-waiting : waiting (sent cx r d) ≡ joined (loads here) (left gone (waiting d))
+    unfolding sent waitingNext
+    sent-waiting = after-waits cx (d .planner .channel) here ∙ rw here-leaving
+
+  -- a packet that retires nothing: not a COL packet other than RD
+  pub none-leaves : (r : Record) (d : Draft) → traits r .notRead ≡ false → leaver cx (d .planner) r ≡ none
+  none-leaves r d e = sym (here-leaving r d) ∙ keeps-all cx (here r d) (waiting d) (moved-not-read cx (d .planner .channel) _ _ r ∙ e)
+
+  pub row-gone : (p : RowPacket) (d : Draft) → leaver cx (d .planner) (rowPacket p) ≡ none
+  row-gone p d = none-leaves (rowPacket p) d (row-keeps never p)
+
+  pub read-gone : (b c m : ℕ) (d : Draft) → leaver cx (d .planner) (colPacket (Rd b c m)) ≡ none
+  unfolding traits colTraits
+  read-gone b c m d = none-leaves (colPacket (Rd b c m)) d refl
+
+  -- a ROW packet leaves the writes that wait, and RD does
+  pub row-waiting : (p : RowPacket) (d : Draft) → waiting (sent cx (rowPacket p) d) ≡ waiting d
+  unfolding loads placedAt under
+  row-waiting p d = sent-waiting (rowPacket p) d ∙ rw (row-gone p d)
+
+  pub read-waiting : (b c m : ℕ) (d : Draft) → waiting (sent cx (colPacket (Rd b c m)) d) ≡ waiting d
+  unfolding loads placedAt under
+  read-waiting b c m d = sent-waiting (colPacket (Rd b c m)) d ∙ rw (read-gone b c m d)
+
+  -- ---- NOCOP
+
+  -- it retires the oldest write
+  pub flushed-gone : (d : Draft) → leaver cx (d .planner) (colPacket (Nocop 0xFFFF)) ≡ first (waiting d)
+  unfolding leaving placedAt traits colTraits
+  flushed-gone d = refl
+
+  pub flushed-waiting : (d : Draft) → waiting (flushed cx d) ≡ rest (waiting d)
+  unfolding flushed loads placedAt under
+  flushed-waiting d = sent-waiting (colPacket (Nocop 0xFFFF)) d ∙ rw (flushed-gone d) (go (waiting d))
+    where
+      go : (ws : List Write) → left (first ws) ws ≡ rest ws
+      go [] = refl
+      go (w ∷ ws) = refl
+
+  pub flushed-size : (d : Draft) → length (flushed cx d .planner .channel .banks) ≡ length (d .planner .channel .banks)
+  unfolding flushed
+  flushed-size d = sent-size (colPacket (Nocop 0xFFFF)) d
+
+  pub flushed-state : (d : Draft) → Sized d → (x : ℕ) → x < bankCount → stateIn (flushed cx d) x ≡ stateIn d x
+  unfolding flushed bankNext
+  flushed-state d n x m = sent-state (colPacket (Nocop 0xFFFF)) d n x m
+
+  -- ---- NOCOPs
+
+  -- what each NOCOP keeps
+  pub while-keeps : (P : Draft → Type 0) → ((z : Draft) → anyWaits (waiting z) ≡ true → P z → P (flushed cx z)) → (test : List Write → Bool) → test [] ≡ false → (d : Draft) → P d → P (flushedWhile cx test d)
+  unfolding flushedWhile
+  while-keeps P f test e d k = when-either P (test (waiting d)) (flushed cx) d (λ h. f d (waits (waiting d) h) k) (λ _. k)
+    where
+      waits : (ws : List Write) → test ws ≡ true → anyWaits ws ≡ true
+      waits [] h = not-both (test []) h e
+      waits (w ∷ ws) h = refl
+
+  -- they end where the test fails
+  pub while-ends : (test : List Write → Bool) → test [] ≡ false → (d : Draft) → test (waiting (flushedWhile cx test d)) ≡ false
+  unfolding flushedWhile
+  while-ends test e d = go (test (waiting d)) refl
+    where
+      go : (b : Bool) → test (waiting d) ≡ b → test (waiting (when b (flushed cx) d)) ≡ false
+      go true h = rw (flushed-waiting d, rest-none (d .planner .channel .buffer)) e
+      go false h = h
+
+  pub while-size : (test : List Write → Bool) → test [] ≡ false → (d : Draft) → Sized d → Sized (flushedWhile cx test d)
+  while-size test e d n = while-keeps Sized (λ z _ k. flushed-size z ∙ k) test e d n
+
+  pub while-state : (test : List Write → Bool) → test [] ≡ false → (d : Draft) → Sized d → (y : ℕ) → y < bankCount → stateIn (flushedWhile cx test d) y ≡ stateIn d y
+  while-state test e d n y m =
+      while-keeps (λ z. Sized z × (stateIn z y ≡ stateIn d y)) (λ z _ k. (flushed-size z ∙ k .0, flushed-state z (k .0) y m ∙ k .1)) test e d (n, refl) .1
+
+  -- ---- a bank closed
+
+  -- NOCOPs where a PRER to this bank would lose a write that waits
+  abbrev pub saved : ℕ → Draft → Draft
+  saved x d = flushedWhile cx (anyWrite (λ w. near cx x (w .bank))) d
+
+  pub saved-state : (x : ℕ) (d : Draft) → Sized d → (y : ℕ) → y < bankCount → stateIn (saved x d) y ≡ stateIn d y
+  saved-state x d n y m = while-state (anyWrite (λ w. near cx x (w .bank))) refl d n y m
+
+  pub saved-size : (x : ℕ) (d : Draft) → Sized d → Sized (saved x d)
+  saved-size x d n = while-size (anyWrite (λ w. near cx x (w .bank))) refl d n
+
+  -- then no write waits that the PRER would lose
+  pub saved-far : (x : ℕ) (d : Draft) → anyWrite (λ w. near cx x (w .bank)) (waiting (saved x d)) ≡ false
+  saved-far x d = while-ends (anyWrite (λ w. near cx x (w .bank))) refl d
+
+  pub closed-size : (x : ℕ) (d : Draft) → Sized d → Sized (closed cx x d)
+  unfolding closed
+  closed-size x d n = sent-size (rowPacket (Prer x)) (saved x d) ∙ saved-size x d n
+
+  -- "PRER to a bank closes that bank and any neighbour that is open or under refresh."
+  pub closed-state : (x : ℕ) (d : Draft) → Sized d → (y : ℕ) → y < bankCount → stateIn (closed cx x d) y ≡ cond (near cx x y) Closed (stateIn d y)
+  unfolding closed bankNext bankBy
+  closed-state x d n y m =
+      sent-state (rowPacket (Prer x)) (saved x d) (saved-size x d n) y m ∙ ap (λ (b : Bank). cond (near cx x y) Closed b) (saved-state x d n y m)
+
+  pub closed-waiting : (x : ℕ) (d : Draft) → waiting (closed cx x d) ≡ waiting (saved x d)
+  unfolding closed
+  closed-waiting x d = row-waiting (Prer x) (saved x d)
+
+  -- NOCOPs are sent for writes that wait
+  pub saved-none : (x : ℕ) (d : Draft) → waiting d ≡ [] → waiting (saved x d) ≡ []
+  unfolding flushedWhile
+  saved-none x d e = rw e e
+
+  -- ---- the open ones of the banks that a test picks
+
+  shut-stays : (q : Bool) (b : Bank) → isClosed b ≡ true → isClosed (cond q Closed b) ≡ true
+  unfolding isClosed
+  shut-stays true b e = refl
+  shut-stays false b e = e
+
+  -- one bank's turn
+  abbrev pub turnOf : (ℕ → Bool) → ℕ → Draft → Draft
+  turnOf pick k z = when (pick k && not (isClosed (stateIn z k))) (closed cx k) z
+
+  turn-shut : (pick : ℕ → Bool) (k : ℕ) (z : Draft) → Sized z → (y : ℕ) → y < bankCount → isClosed (stateIn z y) ≡ true
+      → isClosed (stateIn (turnOf pick k z) y) ≡ true
+  turn-shut pick k z n y m e =
+      when-either (λ w. isClosed (stateIn w y) ≡ true) (pick k && not (isClosed (stateIn z k))) (closed cx k) z
+      (λ _. rw (closed-state k z n y m) (shut-stays (near cx k y) (stateIn z y) e)) (λ _. e)
+
+  turn-picked : (pick : ℕ → Bool) (k : ℕ) (z : Draft) → Sized z → k < bankCount → pick k ≡ true → isClosed (stateIn (turnOf pick k z) k) ≡ true
+  unfolding isClosed
+  turn-picked pick k z n m e = rw e (go (isClosed (stateIn z k)) refl)
+    where
+      go : (c : Bool) → isClosed (stateIn z k) ≡ c → isClosed (stateIn (when (not c) (closed cx k) z) k) ≡ true
+      go true q = q
+      go false q = rw (closed-state k z n k m, eq-eqb k k refl)
+
+  module _ (pick : ℕ → Bool) (d : Draft) (n : Sized d) where
+    pub up-to-size : (k : ℕ) → Sized (closedUpTo cx pick k d)
+    unfolding closedUpTo
+    up-to-size zero = n
+    up-to-size (suc k) =
+        let z = closedUpTo cx pick k d in
+        when-either Sized (pick k && not (isClosed (stateIn z k))) (closed cx k) z (λ e. closed-size k z (up-to-size k)) (λ e. up-to-size k)
+
+    -- a closed bank stays closed
+    pub up-to-shut : (k y : ℕ) → y < bankCount → isClosed (stateIn d y) ≡ true → isClosed (stateIn (closedUpTo cx pick k d) y) ≡ true
+    unfolding closedUpTo
+    up-to-shut zero y m e = e
+    up-to-shut (suc k) y m e = turn-shut pick k (closedUpTo cx pick k d) (up-to-size k) y m (up-to-shut k y m e)
+
+    -- the picked ones are closed
+    pub up-to-picked : (k : ℕ) → k ≤ bankCount → (y : ℕ) → y < k → pick y ≡ true → isClosed (stateIn (closedUpTo cx pick k d) y) ≡ true
+    unfolding closedUpTo
+    up-to-picked zero l y m e = absurd (omega arith)
+    up-to-picked (suc k) l y m e = go (eqb y k) refl (λ h. up-to-picked k (omega arith) y h e)
+      where
+        z : Draft
+        z = closedUpTo cx pick k d
+
+        go : (c : Bool) → eqb y k ≡ c → (y < k → isClosed (stateIn z y) ≡ true) → isClosed (stateIn (turnOf pick k z) y) ≡ true
+        go true q h = let j : y ≡ k = eqb-true y k q in rw j (turn-picked pick k z (up-to-size k) (omega arith) (rw j at e))
+        go false q h = turn-shut pick k z (up-to-size k) y (omega arith) (h (omega (arith, eqb-false y k q)))
+
+    -- a bank that is not near a picked one is as it was
+    pub up-to-other : (k y : ℕ) → y < bankCount → ((x : ℕ) → x < k → pick x ≡ true → near cx x y ≡ false)
+        → stateIn (closedUpTo cx pick k d) y ≡ stateIn d y
+    unfolding closedUpTo
+    up-to-other zero y m h = refl
+    up-to-other (suc k) y m h =
+        let z = closedUpTo cx pick k d in
+        when-either (λ w. stateIn w y ≡ stateIn d y) (pick k && not (isClosed (stateIn z k))) (closed cx k) z
+        (λ e. closed-state k z (up-to-size k) y m ∙ rw (h k (omega arith) (and-left (pick k) _ e)) (up-to-other k y m (λ x l. h x (omega arith))))
+        (λ _. up-to-other k y m (λ x l. h x (omega arith)))
+
+    -- no write waits where none did
+    pub up-to-waiting : (k : ℕ) → waiting d ≡ [] → waiting (closedUpTo cx pick k d) ≡ []
+    unfolding closedUpTo
+    up-to-waiting zero e = e
+    up-to-waiting (suc k) e =
+        let z = closedUpTo cx pick k d in
+        let h = up-to-waiting k e in
+        when-either (λ w. waiting w ≡ []) (pick k && not (isClosed (stateIn z k))) (closed cx k) z
+        (λ _. closed-waiting k z ∙ saved-none k z h) (λ _. h)

@@ -1,0 +1,197 @@
+-- A planner's records one by one, newest first: the state and now before each, and that each passes the tests on the state and
+-- stands at the least instant from now on.
+-- Assumes nothing.
+use Prim.Native.Nat.{ℕ, zero, suc, _+_, _≤_, _<_, _^_, max}
+use mathlib.Core.Path.{_≡_, refl, sym, ap, _∙_}
+use mathlib.Core.Bool.{Bool, true, false, not, _&&_, cond}
+use mathlib.Core.List.{List, [], _∷_, _++_, reverse, reverse-append}
+use mathlib.Core.Option.{Option, none, some}
+use lib.Dec.{eqb}
+use lib.ListN.{length}
+use lib.Seq.{take-length}
+use borrow.Author.Tests.{eqb-true, eqb-false, eq-eqb}
+use native.Mathlib.Omega.{arith}
+use Rattle.settings.specs.declared.DataAt.{DataAt}
+use Rattle.packet.specs.declared.RowPacket.the-variants.{Act, Prer, Refa, Refp}
+use Rattle.packet.specs.declared.ColPacket.the-variants.{Nocop, Wr, Rd}
+use Rattle.record.specs.declared.Dualoct.{Dualoct}
+use Rattle.record.specs.declared.Record.{Record}
+use Rattle.record.specs.declared.Record.the-variants.{RowAt, ColAt, DataOf}
+use Rattle.record.specs.Record.{recordFits}
+use Rattle.spec_rules.specs.declared.Bank.{Bank}
+use Rattle.spec_rules.specs.declared.Write.{Write}
+use Rattle.spec_rules.specs.declared.Channel.{Channel}
+use Rattle.spec_rules.specs.Neighbour.{Context}
+use Rattle.spec_rules.specs.Packets.{traits, rowTraits, colTraits, instant, isPacket}
+use Rattle.spec_rules.specs.History.{leaving, bankOf, anyWrite, closes}
+use Rattle.spec_rules.specs.Rules.{openFor}
+use Rattle.spec_rules.specs.Broken.{earlier, recordIn}
+use Rattle.spec_rules.specs.Channel.{fresh, stateOf, waitingOf, dueOf, leavingOf, after}
+use Rattle.spec_rules.specs.Checks.{channelAfter}
+use Rattle.spec_rules.specs.Distances.{distances}
+use Rattle.spec_rules.specs.Checks.{bounds}
+use Rattle.spec_rules.specs.Earliest.{under, fits, earliest, leavesRight, slotFrom, leastFrom}
+use Rattle.spec_rules.proofs.Bools.{not-both}
+use Rattle.spec_rules.proofs.ListLaws.{earlier-next}
+use Rattle.spec_rules.proofs.EarliestLaws.{moved-instant, moved-packet, moved-earliest, moved-fits, moved-least, moved-leaving, moved-right, picked-right, picked-late}
+use Rattle.spec_plan.specs.declared.PlannerState.{PlannerState}
+use Rattle.spec_plan.specs.Plan.{Draft, waiting, stateIn, carried, slot, leaver, placedIn, sent, loaded}
+use Rattle.spec_plan.proofs.Invariant.{carried-in}
+use Rattle.spec_plan.proofs.SentLaws.{moved-word, here-leaving}
+
+-- ---- a claim of each record of a list, newest first, and of the ones before it
+
+abbrev pub Each : (List Record → Record → Type 0) → List Record → Type 0
+Each P [] = Unit {0}
+Each P (r ∷ es) = P es r × Each P es
+
+each-down : (P : List Record → Record → Type 0) (l : List Record) (n : ℕ) → n ≤ length l → Each P (earlier l n) → (j : ℕ) → j ≤ n → Each P (earlier l j)
+each-down P l zero m k j h = let z : j ≡ 0 = omega arith in rw z k
+each-down P l (suc n) m k j h = go (eqb j (suc n)) refl (λ q. each-down P l n (omega arith) (below .1) j q)
+  where
+    below : P (earlier l n) (recordIn l n) × Each P (earlier l n)
+    below = rw (earlier-next l n (omega arith)) at k
+
+    go : (b : Bool) → eqb j (suc n) ≡ b → (j ≤ n → Each P (earlier l j)) → Each P (earlier l j)
+    go true e ih = rw (eqb-true j (suc n) e) k
+    go false e ih = ih (omega (arith, eqb-false j (suc n) e))
+
+pub each-before : (P : List Record → Record → Type 0) (l : List Record) → Each P (reverse l) → (j : ℕ) → j ≤ length l → Each P (earlier l j)
+each-before P l k j h = each-down P l (length l) (omega arith) (rw (take-length l) k) j h
+
+pub each-at : (P : List Record → Record → Type 0) (l : List Record) → Each P (reverse l) → (j : ℕ) → j < length l → P (earlier l j) (recordIn l j)
+each-at P l k j h =
+    let both : P (earlier l j) (recordIn l j) × Each P (earlier l j) = rw (earlier-next l j h) at (each-before P l k (suc j) h) in
+    both .0
+
+-- ---- the state and now after records, newest first
+
+unfoldable pub channelBy : Context → Channel → List Record → Channel
+channelBy cx ch [] = ch
+channelBy cx ch (r ∷ es) = after cx (channelBy cx ch es) r
+
+-- "Now is the latest ROW or COL instant"
+unfoldable pub nowBy : ℕ → List Record → ℕ
+nowBy now [] = now
+nowBy now (r ∷ es) = cond (isPacket r) (instant r) (nowBy now es)
+
+-- the state after the first records of a list
+pub channel-after : (cx : Context) (l : List Record) (n : ℕ) → n ≤ length l → channelAfter cx l n ≡ channelBy cx fresh (earlier l n)
+unfolding channelAfter channelBy
+channel-after cx l zero m = refl
+channel-after cx l (suc n) m = rw (earlier-next l n (omega arith), channel-after cx l n (omega arith))
+
+-- ---- a record in its place
+
+-- the state and now are those after the earlier records of this call, es
+pub record Placed (cx : Context) (p : PlannerState) (es : List Record) (r : Record) : Type 0 where
+  pub word : recordFits (cx .settings) r ≡ true
+  pub fitting : fits cx (channelBy cx (p .channel) es) r ≡ true
+  pub late : earliest cx (channelBy cx (p .channel) es) r ≤ instant r
+  pub leaves : leavesRight cx (channelBy cx (p .channel) es) r (leavingOf cx (channelBy cx (p .channel) es) r) (instant r) ≡ true
+  pub least : isPacket r ≡ true → instant r ≡ leastFrom cx (channelBy cx (p .channel) es) r (nowBy (p .now .0) es)
+
+-- what a planner p has come to be, with the records of this call
+pub record Trace (cx : Context) (p : PlannerState) (d : Draft) : Type 0 where
+  pub channel : d .planner .channel ≡ channelBy cx (p .channel) (reverse (d .records))
+  pub now : d .planner .now .0 ≡ nowBy (p .now .0) (reverse (d .records))
+  pub each : Each (Placed cx p) (reverse (d .records))
+
+pub trace-start : (cx : Context) (p : PlannerState) → Trace cx p (record { planner = p; records = [] })
+unfolding channelBy nowBy
+trace-start cx p = record { channel = refl; now = refl; each = tt }
+
+module _ (cx : Context) where
+  -- data that are due pass the tests on the state
+  data-closes : (state : ℕ → Bank) (ws : List Write) (t : DataAt) (bytes : Dualoct) → anyWrite (λ w. closes cx state (DataOf t bytes) (w .bank)) ws ≡ false
+  unfolding traits
+  data-closes state [] t bytes = refl
+  data-closes state (w ∷ ws) t bytes = data-closes state ws t bytes
+
+  data-fits : (ch : Channel) (t : ℕ) (bytes : Dualoct) → dueOf cx ch ≡ some t → fits cx ch (DataOf (record { 0 = t }) bytes) ≡ true
+  unfolding fits traits isPacket instant
+  data-fits ch t bytes e = rw (e, eq-eqb t t refl, data-closes (stateOf ch) (waitingOf (ch .buffer)) (record { 0 = t }) bytes)
+
+  data-earliest : (ch : Channel) (t : DataAt) (bytes : Dualoct) → earliest cx ch (DataOf t bytes) ≤ 4
+  unfolding earliest bounds distances traits
+  data-earliest ch t bytes = omega arith
+
+  data-leaves : (ch : Channel) (t : DataAt) (bytes : Dualoct) (u : ℕ) → leavesRight cx ch (DataOf t bytes) (leavingOf cx ch (DataOf t bytes)) u ≡ true
+  unfolding leaving traits
+  data-leaves ch t bytes u = refl
+
+  -- a packet in its place breaks none of rules 9, 10, 12 and 16
+  placed-leaves : (p : PlannerState) (r : Record) → openFor (stateOf (p .channel)) (bankOf (leavingOf cx (p .channel) r)) ≡ true
+      → leavesRight cx (p .channel) (placedIn cx p r) (leavingOf cx (p .channel) (placedIn cx p r)) (slot cx p r) ≡ true
+  unfolding slot leastFrom under traits rowTraits colTraits
+  placed-leaves p r o =
+      let ch : Channel = p .channel in
+      let t0 : ℕ = max (p .now .0) (earliest cx ch r) in
+      let t : ℕ = slotFrom cx ch r t0 (leavingOf cx ch r) in
+      let m : ℕ = carried (leaver cx p r) (p .mask) in
+      let same : leavingOf cx ch r ≡ leaver cx p r = sym (moved-leaving cx ch t m r) ∙ here-leaving cx r (record { planner = p; records = [] }) in
+      rw (moved-leaving cx ch t m r) (moved-right cx ch t m r (leavingOf cx ch r)
+      ∙ picked-right cx ch r m t0 (leavingOf cx ch r) o (λ e. rw (sym same ∙ e) (under-plain r)))
+    where
+      under-plain : (r : Record) → traits (under 0xFFFF r) .masked ≡ false
+      under-plain (RowAt t (Act b row)) = refl
+      under-plain (RowAt t (Prer b)) = refl
+      under-plain (RowAt t (Refa b)) = refl
+      under-plain (RowAt t (Refp b)) = refl
+      under-plain (ColAt t (Nocop n)) = refl
+      under-plain (ColAt t (Wr b c n)) = refl
+      under-plain (ColAt t (Rd b c n)) = refl
+      under-plain (DataOf t d) = refl
+
+  slot-late : (p : PlannerState) (r : Record) → earliest cx (p .channel) r ≤ slot cx p r
+  unfolding slot leastFrom
+  slot-late p r = omega (arith, picked-late cx (p .channel) r (max (p .now .0) (earliest cx (p .channel) r)) (leavingOf cx (p .channel) r))
+
+  module _ (p : PlannerState) (d : Draft) (k : Trace cx p d) where
+    -- one packet more
+    pub trace-sent : (r : Record) → isPacket r ≡ true → recordFits (cx .settings) r ≡ true → d .planner .mask < 2 ^ 16 → fits cx (d .planner .channel) r ≡ true
+        → openFor (stateIn d) (bankOf (leavingOf cx (d .planner .channel) r)) ≡ true → Trace cx p (sent cx r d)
+    unfolding sent channelBy nowBy slot
+    trace-sent r e w mi f o =
+        let ch : Channel = d .planner .channel in
+        let t : ℕ = slot cx (d .planner) r in
+        let m : ℕ = carried (leaver cx (d .planner) r) (d .planner .mask) in
+        let q : Record = placedIn cx (d .planner) r in
+        let es : List Record = reverse (d .records) in
+        let back : reverse (d .records ++ (q ∷ [])) ≡ q ∷ es = reverse-append (d .records) (q ∷ []) in
+        record {
+          channel = rw (back, ← k .channel);
+          now = rw (back, moved-packet cx ch t m r, e, moved-instant cx ch t m r);
+          each = rw back (
+            record {
+              word = moved-word cx t m r (carried-in (leaver cx (d .planner) r) (d .planner .mask) mi) w;
+              fitting = rw (← k .channel) (moved-fits cx ch t m r e ∙ f);
+              late = rw (← k .channel, moved-earliest cx ch t m r, moved-instant cx ch t m r) (slot-late (d .planner) r);
+              leaves = rw (← k .channel, moved-instant cx ch t m r) (placed-leaves (d .planner) r o);
+              least = λ _. rw (← k .channel, moved-instant cx ch t m r, ← k .now) (sym (moved-least cx ch t m r (d .planner .now .0)));
+            },
+            k .each,
+          );
+        }
+
+    -- the data of the WR before
+    pub trace-loaded : (mask : ℕ) (bytes : Dualoct) → dueOf cx (d .planner .channel) ≡ some (d .planner .now .0 + cx .settings .cwd) → 4 ≤ d .planner .now .0
+        → Trace cx p (loaded cx mask bytes d)
+    unfolding loaded channelBy nowBy isPacket instant recordFits
+    trace-loaded mask bytes due low =
+        let q : Record = DataOf (record { 0 = d .planner .now .0 + cx .settings .cwd }) bytes in
+        let back : reverse (d .records ++ (q ∷ [])) ≡ q ∷ reverse (d .records) = reverse-append (d .records) (q ∷ []) in
+        record {
+          channel = rw (back, ← k .channel);
+          now = rw (back, ← k .now);
+          each = rw back (
+            record {
+              word = refl;
+              fitting = rw (← k .channel) (data-fits (d .planner .channel) (d .planner .now .0 + cx .settings .cwd) bytes due);
+              late = omega (arith, data-earliest (channelBy cx (p .channel) (reverse (d .records))) (record { 0 = d .planner .now .0 + cx .settings .cwd }) bytes);
+              leaves = data-leaves (channelBy cx (p .channel) (reverse (d .records))) (record { 0 = d .planner .now .0 + cx .settings .cwd }) bytes (d .planner .now .0 + cx .settings .cwd);
+              least = λ e. not-both false e refl;
+            },
+            k .each,
+          );
+        }

@@ -1,0 +1,129 @@
+-- A planner state that is not refused stays so: no call makes one that is (document 01, "What is turned back").
+-- Assumes nothing.
+use Prim.Native.Nat.{ℕ, _≤_, _<_, max}
+use mathlib.Core.Path.{_≡_, refl, ap, _∙_}
+use mathlib.Core.Bool.{Bool, true, false, not, _||_}
+use mathlib.Core.List.{List, [], _∷_, reverse}
+use mathlib.Core.Option.{Option, none, some}
+use lib.Dec.{leb, lit≤, lit<}
+use lib.ListN.{length, length-replicate, getD-replicate}
+use borrow.Author.Tests.{leb-true, le-leb, lt-ltb, eq-eqb}
+use native.Mathlib.Omega.{arith}
+use Rattle.num.specs.Bytes.{Bytes}
+use Rattle.num.specs.Search.{allUpTo}
+use Rattle.num.proofs.SearchLaws.{all-intro}
+use Rattle.settings.specs.Instants.{horizon}
+use Rattle.record.specs.declared.Record.{Record}
+use Rattle.spec_rules.specs.declared.BankTrack.{BankTrack}
+use Rattle.spec_rules.specs.declared.Write.{Write}
+use Rattle.spec_rules.specs.declared.Channel.{Channel}
+use Rattle.spec_rules.specs.Neighbour.{bankCount, Context, Neighbours}
+use Rattle.spec_rules.specs.Packets.{instant}
+use Rattle.spec_rules.specs.History.{isClosed, allWrites}
+use Rattle.spec_rules.specs.Channel.{idle, fresh, trackOf, stateOf, waitingOf}
+use Rattle.spec_rules.specs.Earliest.{earliest}
+use Rattle.spec_rules.proofs.Bools.{and-left, and-right}
+use Rattle.spec_state.specs.Valid.{bankValid, trackValid, writeValid, lastsValid, apart, channelValid}
+use Rattle.spec_state.proofs.AfterLaws.{after-size}
+use Rattle.spec_state.proofs.Stamps.{WriteStamps, Stamped, stamps-track, after-stamped, fresh-stamped}
+use Rattle.spec_state.proofs.NextValid.{valid-sound}
+use Rattle.spec_plan.specs.declared.PlannerState.{PlannerState}
+use Rattle.spec_plan.specs.Planner.{freshPlanner, notRefresh, plannerValid}
+use Rattle.spec_plan.specs.Call.{timely, inTime, planNext, planRecords}
+use Rattle.spec_plan.proofs.Invariant.{Inv, WritesIn, valid-tested, tested-valid, valid-inv}
+use Rattle.spec_plan.proofs.Trace.{Each, channelBy, Placed}
+use Rattle.spec_plan.proofs.CallLaws.{Made, InTime, each-in-time, called, call-made, call-timely, call-in-time}
+
+-- ---- the records of a call are in range, so the last instants stay so
+
+earliest-low : (cx : Context) (ch : Channel) (r : Record) → 4 ≤ earliest cx ch r
+unfolding earliest
+earliest-low cx ch r = le-max 4 _
+  where
+    le-max : (a b : ℕ) → a ≤ max a b
+    le-max a b = omega arith
+
+by-stamped : (cx : Context) (p : PlannerState) → length (p .channel .banks) ≡ bankCount → Stamped (p .channel)
+    → (es : List Record) → Each (Placed cx p) es → Each (InTime cx) es
+    → (length (channelBy cx (p .channel) es .banks) ≡ bankCount) × Stamped (channelBy cx (p .channel) es)
+unfolding channelBy
+by-stamped cx p n k [] e t = (n, k)
+by-stamped cx p n k (r ∷ es) e t =
+    let ih = by-stamped cx p n k es (e .1) (t .1) in
+    let ch : Channel = channelBy cx (p .channel) es in
+    let low : leb 4 (instant r) ≡ true = le-leb 4 (instant r) (omega (arith, earliest-low cx ch r, e .0 .late)) in
+    let high : leb (instant r) horizon ≡ true = le-leb (instant r) horizon (omega (arith, t .0)) in
+    (after-size cx ch r ∙ ih .0, after-stamped cx ch (ih .0) (ih .1) r (rw (low, high)))
+
+-- ---- from the tests and back
+
+write-valid : (cx : Context) (ws : List Write) → WritesIn cx ws → WriteStamps ws → allWrites (writeValid cx) ws ≡ true
+unfolding writeValid
+write-valid cx [] i e = refl
+write-valid cx (w ∷ ws) i e = rw (lt-ltb _ _ (i .0 .0), lt-ltb _ _ (i .0 .1), e .0) (write-valid cx ws (i .1) (e .1))
+
+valid-stamped : (cx : Context) (p : PlannerState) → plannerValid cx p ≡ true → Stamped (p .channel)
+unfolding plannerValid
+valid-stamped cx p v = valid-sound cx (p .channel) (and-left (channelValid cx (p .channel)) _ v) .stamped
+
+not-or : (a b : Bool) → (a ≡ true → b ≡ true) → not a || b ≡ true
+not-or true b f = f refl
+not-or false b f = refl
+
+-- a planner that keeps the invariant is not refused where its instants are in range
+pub inv-valid : (cx : Context) (p : PlannerState) → Inv cx p → Stamped (p .channel) → p .now .0 ≤ horizon → plannerValid cx p ≡ true
+unfolding lastsValid apart
+inv-valid cx p v k m =
+    let ch : Channel = p .channel in
+    tested-valid cx p
+    (record {
+      size = eq-eqb _ _ (v .size);
+      tracks = all-intro (λ x. trackValid cx (trackOf ch x)) bankCount (λ x l. stamps-track cx (trackOf ch x) (v .banked .rows-in x l) (k .banks x l));
+      lasts = rw (k .last .right, k .row .right, k .col .right, k .pre .right, k .rd .right);
+      write = write-valid cx (waitingOf (ch .buffer)) (v .held .write-in) (k .write);
+      one-closed = all-intro (λ x. allUpTo (λ y. not (cx .nbr x y) || (isClosed (stateOf ch x) || isClosed (stateOf ch y))) bankCount) bankCount
+          (λ x mx. all-intro (λ y. not (cx .nbr x y) || (isClosed (stateOf ch x) || isClosed (stateOf ch y))) bankCount
+          (λ y my. not-or (cx .nbr x y) (isClosed (stateOf ch x) || isClosed (stateOf ch y)) (v .banked .one-closed x y mx my)));
+      opened = v .held .opened;
+      no-refresh = all-intro (λ x. notRefresh (stateOf ch x)) bankCount (v .banked .no-refresh);
+      due-of = rw (v .held .no-due);
+      no-due = rw (v .held .no-due);
+      now-in = rw (le-leb 4 (p .now .0) (v .low), le-leb (p .now .0) horizon m);
+      refresh-in = lt-ltb _ _ (v .refresh-in);
+      mask-in = lt-ltb _ _ (v .mask-in);
+    })
+
+-- ---- the two theorems
+
+fresh-inv : (cx : Context) → Inv cx freshPlanner
+unfolding freshPlanner fresh bankCount bankValid notRefresh isClosed waitingOf
+fresh-inv cx =
+    let at : (x : ℕ) → x < 32 → trackOf fresh x ≡ idle = λ x m. getD-replicate 32 x idle idle m in
+    record {
+      size = length-replicate 32 idle;
+      banked = record {
+        rows-in = λ x m. ap (λ (k : BankTrack). bankValid cx (k .bank)) (at x m);
+        no-refresh = λ x m. ap (λ (k : BankTrack). notRefresh (k .bank)) (at x m);
+        one-closed = λ x y mx my n. ap (λ (k : BankTrack). isClosed (k .bank) || isClosed (stateOf fresh y)) (at x mx);
+      };
+      held = record { write-in = tt; opened = refl; no-due = refl };
+      refresh-in = lit< tt;
+      mask-in = lit< tt;
+      low = lit≤ tt;
+    }
+
+pub fresh-valid : (cx : Context) → plannerValid cx freshPlanner ≡ true
+unfolding freshPlanner
+fresh-valid cx = inv-valid cx freshPlanner (fresh-inv cx) fresh-stamped (lit≤ tt)
+
+pub next-valid : (cx : Context) → Neighbours cx → (p : PlannerState) (request : List ℕ) (room : ℕ) → Bytes request
+    → plannerValid cx p ≡ true → plannerValid cx (planNext cx p request room) ≡ true
+unfolding timely
+next-valid cx ns p request room w v =
+    let inv : Inv cx p = valid-inv cx p v in
+    let made : Made cx p (called cx p request room) = call-made cx p request room ns w inv in
+    let l : List Record = planRecords cx p request room in
+    let now-in : leb (p .now .0) horizon ≡ true = and-right (leb 4 (p .now .0)) _ (valid-tested cx p v .now-in) in
+    let stamped = by-stamped cx p (inv .size) (valid-stamped cx p v) (reverse l) (made .each) (each-in-time cx l (call-in-time cx p request room)) in
+    inv-valid cx (planNext cx p request room) (made .inv) (rw (made .channel) (stamped .1))
+    (leb-true _ _ (and-right (inTime cx l) _ (call-timely cx p request room now-in)))

@@ -1,0 +1,100 @@
+-- The runs of document 01 ("Bench runs") under set H, by the definitions: from the requests' bytes to the packet list.
+-- Assumes nothing.
+use Prim.Native.Nat.{ℕ, suc}
+use mathlib.Core.Path.{_≡_, refl}
+use mathlib.Core.Bool.{Bool, cond}
+use mathlib.Core.List.{List, [], _∷_, _++_, map}
+use lib.ListN.{length, replicate}
+use Rattle.num.specs.Bytes.{bytes, number}
+use Rattle.num.specs.Search.{allUpTo}
+use Rattle.settings.specs.Bench.{setOf, setH}
+use Rattle.packet.specs.declared.RowPacket.{RowPacket}
+use Rattle.packet.specs.declared.RowPacket.the-variants.{Act, Prer, Refa, Refp}
+use Rattle.packet.specs.declared.ColPacket.{ColPacket}
+use Rattle.packet.specs.declared.ColPacket.the-variants.{Nocop, Wr, Rd}
+use Rattle.record.specs.declared.Dualoct.{Dualoct}
+use Rattle.record.specs.declared.Record.{Record}
+use Rattle.record.specs.declared.Record.the-variants.{RowAt, ColAt, DataOf}
+use Rattle.record.specs.declared.Request.{Request}
+use Rattle.record.specs.declared.Request.the-variants.{Read, Write, Refresh, Wait, Drain}
+use Rattle.record.specs.Request.{usesByte, spareRight, placed, requestOf, requestRead, requestFields, requestBytes}
+use Rattle.spec_rules.specs.Neighbour.{bankCount, split, contextOf}
+use Rattle.spec_rules.specs.Packets.{rowTraits, colTraits, traits, retireTraits, instant, isPacket}
+use Rattle.spec_rules.specs.History.{bankBy, isClosed, isOpen, leaving, loads}
+use Rattle.spec_rules.specs.Rules.{dataDelay}
+use Rattle.spec_rules.specs.Channel.{fresh, waitingOf, bufferOf, bankNext, trackNext, afterPacket, trackRetired, afterRetire, afterData, after}
+use Rattle.spec_rules.specs.Distances.{distances}
+use Rattle.spec_rules.specs.Checks.{maxUpTo, bounds}
+use Rattle.spec_rules.specs.Earliest.{placedAt, under, earliest, leastFrom}
+use Rattle.spec_plan.specs.Planner.{freshPlanner}
+use Rattle.spec_plan.specs.Plan.{slot, sent, flushed, flushedWhile, closed, closedUpTo, reached, plannedRead, loaded, written, plannedWrite, turned, plannedRefresh, plannedWait, plannedDrain, stepsOf, planned}
+use Rattle.spec_plan.specs.Call.{inTime, timely, outcomeOf, outcomeBy, planOutcome, isMade, draftBy, planNext, planRecords}
+use Rattle.spec_plan.specs.Runs.{Call, listed}
+
+-- ---- the runs in short
+
+read : ℕ → ℕ → ℕ → Request
+read bank row column = Read (record { bank = bank; row = row; column = column })
+
+-- two dualocts, so that a run shows which data go where
+ones : Dualoct
+ones = record { dqa = 0x0101010101010101; dqb = 0x0101010101010101 }
+
+twos : Dualoct
+twos = record { dqa = 0x0202020202020202; dqb = 0x0202020202020202 }
+
+write : ℕ → ℕ → ℕ → ℕ → Dualoct → Request
+write bank row column mask d = Write (record { bank = bank; row = row; column = column }) mask d
+
+-- each request with room for the most records that one makes
+calls : List Request → List Call
+calls [] = []
+calls (q ∷ l) = record { request = requestBytes q; room = 544 } ∷ calls l
+
+row : ℕ → RowPacket → Record
+row t p = RowAt (record { 0 = t }) p
+
+col : ℕ → ColPacket → Record
+col t p = ColAt (record { 0 = t }) p
+
+dat : ℕ → Dualoct → Record
+dat t d = DataOf (record { 0 = t }) d
+
+full : ℕ
+full = 0xFFFF
+
+-- the starred runs of the planner, in document 01's order
+pub runs : List (List Request)
+runs =
+    (read 0 0 1 ∷ write 0 0 1 0x0003 ones ∷ read 0 0 1 ∷ read 1 0 0 ∷ Drain ∷ [])
+    ∷ (read 15 0 0 ∷ read 16 0 0 ∷ [])
+    ∷ (read 14 0 0 ∷ read 15 0 0 ∷ [])
+    ∷ (write 0 0 0 full ones ∷ read 0 1 0 ∷ [])
+    ∷ (Refresh ∷ Refresh ∷ [])
+    ∷ (write 0 0 0 0x0003 ones ∷ write 0 0 0 0x0006 twos ∷ [])
+    -- read 0, two writes to 4, drain; a write, then a row of another bank and a row of its own
+    ∷ (read 0 0 0 ∷ write 4 0 0 0x0003 ones ∷ write 4 0 1 0x0006 twos ∷ Drain ∷ [])
+    ∷ (write 0 0 0 0x0003 ones ∷ write 5 0 1 0x0006 twos ∷ read 5 1 0 ∷ [])
+    ∷ []
+
+pub lists : List (List Record)
+lists =
+    (row 4 (Act 0 0) ∷ col 13 (Rd 0 1 full) ∷ col 19 (Wr 0 1 full) ∷ dat 25 ones ∷ col 27 (Nocop 0x0003) ∷ col 31 (Rd 0 1 full)
+    ∷ row 35 (Prer 0) ∷ row 43 (Act 1 0) ∷ col 52 (Rd 1 0 full) ∷ row 63 (Prer 1) ∷ [])
+    ∷ (row 4 (Act 15 0) ∷ col 13 (Rd 15 0 full) ∷ row 13 (Act 16 0) ∷ col 22 (Rd 16 0 full) ∷ [])
+    ∷ (row 4 (Act 14 0) ∷ col 13 (Rd 14 0 full) ∷ row 24 (Prer 14) ∷ row 32 (Act 15 0) ∷ col 41 (Rd 15 0 full) ∷ [])
+    ∷ (row 4 (Act 0 0) ∷ col 5 (Wr 0 0 full) ∷ dat 11 ones ∷ col 13 (Nocop full) ∷ row 24 (Prer 0) ∷ row 32 (Act 0 1) ∷ col 41 (Rd 0 0 full) ∷ [])
+    ∷ (row 4 (Refa 0) ∷ row 24 (Refp 0) ∷ row 32 (Refa 1) ∷ row 52 (Refp 1) ∷ [])
+    ∷ (row 4 (Act 0 0) ∷ col 5 (Wr 0 0 full) ∷ dat 11 ones ∷ col 13 (Wr 0 0 0x0003) ∷ dat 19 twos ∷ [])
+    ∷ (row 4 (Act 0 0) ∷ col 13 (Rd 0 0 full) ∷ row 13 (Act 4 0) ∷ col 19 (Wr 4 0 full) ∷ dat 25 ones ∷ col 27 (Wr 4 1 0x0003) ∷ dat 33 twos ∷ col 35 (Nocop 0x0006)
+    ∷ row 35 (Prer 0) ∷ row 43 (Prer 4) ∷ [])
+    ∷ (row 4 (Act 0 0) ∷ col 5 (Wr 0 0 full) ∷ dat 11 ones ∷ row 12 (Act 5 0) ∷ col 13 (Wr 5 1 0x0003) ∷ dat 19 twos ∷ col 21 (Nocop 0x0006) ∷ row 32 (Prer 5) ∷ row 40 (Act 5 1)
+    ∷ col 49 (Rd 5 0 full) ∷ [])
+    ∷ []
+
+pub listOf : List Request → List Record
+listOf l = listed (contextOf setH) freshPlanner (calls l)
+
+pub worked : map listOf runs ≡ lists
+unfolding setOf setH read ones twos write calls row col dat full runs lists listOf bytes number allUpTo usesByte spareRight placed requestOf requestRead requestFields requestBytes split contextOf rowTraits colTraits traits instant isPacket bankBy isClosed isOpen bankCount dataDelay leaving loads fresh waitingOf bufferOf bankNext trackNext afterPacket trackRetired afterRetire afterData after maxUpTo bounds distances retireTraits placedAt under earliest leastFrom freshPlanner slot sent flushed flushedWhile closed closedUpTo reached plannedRead loaded written plannedWrite turned plannedRefresh plannedWait plannedDrain stepsOf planned inTime timely outcomeOf outcomeBy planOutcome isMade draftBy planNext planRecords listed
+worked = refl

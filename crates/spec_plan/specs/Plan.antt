@@ -1,0 +1,168 @@
+-- The plan of a request (document 01, "Planner"): the order of its commands, and each packet at the least instant.
+-- Assumes nothing.
+use Prim.Native.Nat.{ℕ, zero, suc, _+_, _%_}
+use mathlib.Core.Bool.{Bool, true, false, not, _&&_}
+use mathlib.Core.List.{List, [], _∷_, _++_}
+use mathlib.Core.Option.{Option, none, some}
+use lib.Dec.{eqb}
+use Rattle.packet.specs.declared.RowPacket.{RowPacket}
+use Rattle.packet.specs.declared.RowPacket.the-variants.{Act, Prer, Refa, Refp}
+use Rattle.packet.specs.declared.ColPacket.{ColPacket}
+use Rattle.packet.specs.declared.ColPacket.the-variants.{Nocop, Wr, Rd}
+use Rattle.record.specs.declared.Dualoct.{Dualoct}
+use Rattle.record.specs.declared.Record.{Record}
+use Rattle.record.specs.declared.Record.the-variants.{RowAt, ColAt, DataOf}
+use Rattle.record.specs.declared.Place.{Place}
+use Rattle.record.specs.declared.Request.{Request}
+use Rattle.record.specs.declared.Request.the-variants.{Read, Write as WriteTo, Refresh as RefreshBank, Wait, Drain}
+use Rattle.spec_rules.specs.declared.Bank.{Bank}
+use Rattle.spec_rules.specs.declared.Bank.the-variants.{Closed, Open, Refresh}
+use Rattle.spec_rules.specs.declared.Write.{Write}
+use Rattle.spec_rules.specs.Neighbour.{bankCount, Context, near}
+use Rattle.spec_rules.specs.History.{isClosed, anyWrite}
+use Rattle.spec_rules.specs.Channel.{never, stateOf, waitingOf, leavingOf, after}
+use Rattle.spec_rules.specs.Earliest.{placedAt, under, leastFrom}
+use Rattle.spec_plan.specs.declared.PlannerState.{PlannerState}
+
+-- a planner with the records that it has made for a request so far, oldest first
+pub record Draft : Type 0 where
+  pub planner : PlannerState
+  pub records : List Record
+
+-- packets that have no instant yet
+abbrev pub rowPacket : RowPacket → Record
+rowPacket p = RowAt never p
+
+abbrev pub colPacket : ColPacket → Record
+colPacket p = ColAt never p
+
+-- a step where a test passes
+abbrev pub when : Bool → (Draft → Draft) → Draft → Draft
+when true step d = step d
+when false step d = d
+
+-- the writes that wait, oldest first
+abbrev pub waiting : Draft → List Write
+waiting d = waitingOf (d .planner .channel .buffer)
+
+abbrev pub stateIn : Draft → ℕ → Bank
+stateIn d x = stateOf (d .planner .channel) x
+
+-- the mask that a packet carries for the write that it retires; a packet that retires none has M = 0, as a full mask has
+abbrev pub carried : Option Write → ℕ → ℕ
+carried none mask = 0xFFFF
+carried (some w) mask = mask
+
+abbrev pub openOn : Bank → ℕ → Bool
+openOn Closed row = false
+openOn (Open r) row = eqb r row
+openOn Refresh row = false
+
+-- whether a write has that bank and column
+abbrev pub hits : ℕ → ℕ → Write → Bool
+hits bank column w = eqb (w .bank) bank && eqb (w .column) column
+
+abbrev pub anyWaits : List Write → Bool
+anyWaits ws = anyWrite (λ w. true) ws
+
+module _ (cx : Context) where
+  -- "Each ROW or COL packet takes the least instant, not before now, that the rules allow." (the theorem that joins this to the
+  -- rules: proofs/Least.antt)
+  unfoldable pub slot : PlannerState → Record → ℕ
+  slot p r = leastFrom cx (p .channel) r (p .now .0)
+
+  -- the write that the packet retires at its instant
+  abbrev pub leaver : PlannerState → Record → Option Write
+  leaver p r = leavingOf cx (p .channel) (placedAt (slot p r) r)
+
+  -- a packet in its place, under the mask of the write that it retires
+  abbrev pub placedIn : PlannerState → Record → Record
+  placedIn p r = placedAt (slot p r) (under (carried (leaver p r) (p .mask)) r)
+
+  -- a packet sent; "Now is the latest ROW or COL instant"
+  unfoldable pub sent : Record → Draft → Draft
+  sent r d =
+      let p : PlannerState = d .planner in
+      record {
+        planner = record { channel = after cx (p .channel) (placedIn p r); now = record { 0 = slot p r }; refresh = p .refresh; mask = p .mask };
+        records = d .records ++ (placedIn p r ∷ []);
+      }
+
+  -- NOCOP, which retires the waiting write
+  unfoldable pub flushed : Draft → Draft
+  flushed d = sent (colPacket (Nocop 0xFFFF)) d
+
+  -- NOCOP while the waiting writes pass a test; there is one at most
+  unfoldable pub flushedWhile : (List Write → Bool) → Draft → Draft
+  flushedWhile test d = when (test (waiting d)) flushed d
+
+  -- "each by PRER; before a PRER that would lose a buffered write, send NOCOP"
+  unfoldable pub closed : ℕ → Draft → Draft
+  closed x d = sent (rowPacket (Prer x)) (flushedWhile (anyWrite (λ w. near cx x (w .bank))) d)
+
+  -- of the banks below n that a test picks, "close the open ones in rising order"
+  unfoldable pub closedUpTo : (ℕ → Bool) → ℕ → Draft → Draft
+  closedUpTo pick zero d = d
+  closedUpTo pick (suc n) d = let z : Draft = closedUpTo pick n d in when (pick n && not (isClosed (stateIn z n))) (closed n) z
+
+  -- "To reach a row that is not open: of the bank and its neighbours, close the open ones [..]. Then ACT."
+  unfoldable pub reached : ℕ → ℕ → Draft → Draft
+  reached bank row d =
+      when (not (openOn (stateIn d bank) row)) (λ d. sent (rowPacket (Act bank row)) (closedUpTo (near cx bank) bankCount d)) d
+
+  -- "Read: NOCOP first if the buffered write has that bank and column; then RD."
+  unfoldable pub plannedRead : Place → Draft → Draft
+  plannedRead at d =
+      sent (colPacket (Rd (at .bank) (at .column) 0xFFFF))
+      (flushedWhile (anyWrite (hits (at .bank) (at .column))) (reached (at .bank) (at .row) d))
+
+  -- D after a WR, which now waits with its own mask: "Each WR is followed in the list by its data record D, at WR + tCWD"
+  unfoldable pub loaded : ℕ → Dualoct → Draft → Draft
+  loaded mask bytes d =
+      let p : PlannerState = d .planner in
+      let q : Record = DataOf (record { 0 = p .now .0 + cx .settings .cwd }) bytes in
+      record {
+        planner = record { channel = after cx (p .channel) q; now = p .now; refresh = p .refresh; mask = mask };
+        records = d .records ++ (q ∷ []);
+      }
+
+  -- WR carries the mask of the write that it retires, and never its own
+  unfoldable pub written : Place → ℕ → Dualoct → Draft → Draft
+  written at mask bytes d = loaded mask bytes (sent (colPacket (Wr (at .bank) (at .column) 0xFFFF)) d)
+
+  -- "Write: WR, then D."
+  unfoldable pub plannedWrite : Place → ℕ → Dualoct → Draft → Draft
+  plannedWrite at mask bytes d = written at mask bytes (reached (at .bank) (at .row) d)
+
+  -- the next bank's turn
+  unfoldable pub turned : Draft → Draft
+  turned d =
+      let p : PlannerState = d .planner in
+      record { planner = record { channel = p .channel; now = p .now; refresh = (p .refresh + 1) % bankCount; mask = p .mask }; records = d .records }
+
+  -- "Refresh: close as above, REFA, REFP, next bank modulo 32."
+  unfoldable pub plannedRefresh : Draft → Draft
+  plannedRefresh d =
+      let bank : ℕ = d .planner .refresh in
+      turned (sent (rowPacket (Refp bank)) (sent (rowPacket (Refa bank)) (closedUpTo (near cx bank) bankCount d)))
+
+  -- "wait adds to" now
+  unfoldable pub plannedWait : ℕ → Draft → Draft
+  plannedWait cycles d =
+      let p : PlannerState = d .planner in
+      record { planner = record { channel = p .channel; now = record { 0 = p .now .0 + cycles }; refresh = p .refresh; mask = p .mask }; records = d .records }
+
+  -- "Drain: NOCOP if a write is buffered, then PRER to each open bank in rising order."
+  unfoldable pub plannedDrain : Draft → Draft
+  plannedDrain d = closedUpTo (λ x. true) bankCount (flushedWhile anyWaits d)
+
+  unfoldable pub stepsOf : Request → Draft → Draft
+  stepsOf (Read at) d = plannedRead at d
+  stepsOf (WriteTo at mask bytes) d = plannedWrite at mask bytes d
+  stepsOf RefreshBank d = plannedRefresh d
+  stepsOf (Wait cycles) d = plannedWait cycles d
+  stepsOf Drain d = plannedDrain d
+
+  -- what a request makes of a planner, with its records
+  unfoldable pub planned : Request → PlannerState → Draft
+  planned q p = stepsOf q (record { planner = p; records = [] })

@@ -1,0 +1,19 @@
+// The planner's state, what a plan call answers, and in specs/ and proofs/ the plan of a request with its theorems.
+use record::Refusal;
+use settings::PacketAt;
+use spec_rules::Channel;
+
+// A planner between two requests: the channel after its packets, now, the bank of the next refresh, and the mask of the
+// waiting write.
+pub struct PlannerState {
+    pub channel: Channel,
+    pub now: PacketAt,
+    pub refresh: u32,
+    pub mask: u32,
+}
+
+// What a plan call answers: the number of records that it made, or why it is refused.
+pub enum Outcome {
+    Refused(Refusal),
+    Made(u64),
+}
