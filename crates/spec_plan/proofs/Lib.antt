@@ -10,3 +10,4 @@ pub mod Refused
 pub mod Bound
 pub mod DataFree
 pub mod Worked
+pub mod PlannerRoundTrip

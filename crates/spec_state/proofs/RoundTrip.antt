@@ -1,0 +1,358 @@
+-- A state that is not refused is read back from its bytes, and bytes of a state are what is written of it.
+-- Assumes nothing.
+use Prim.Native.Nat.{ℕ, zero, suc, _+_, _-_, _*_, _%_, _^_, _<_, _≤_}
+use mathlib.Core.Path.{_≡_, refl, sym, ap, _∙_}
+use mathlib.Core.Bool.{Bool, true, false, cond, _&&_, _||_, or-true}
+use mathlib.Core.List.{List, [], _∷_, _++_, append-assoc}
+use native.Mathlib.Nat.{zero-add}
+use native.Mathlib.Omega.{arith}
+use borrow.Author.Tests.{eqb-true, eqb-false, leb-true, le-leb, ltb-true, ne-eqb}
+use lib.Dec.{eqb, leb, ltb}
+use lib.ListN.{length, getD, length-append}
+use Rattle.num.specs.Bytes.{bytes, number, part, zeros, Bytes}
+use Rattle.num.specs.Search.{allUpTo}
+use Rattle.num.proofs.SearchLaws.{all-at}
+use Rattle.num.proofs.ByteLaws.{length-bytes, number-bytes, number-one}
+use Rattle.num.proofs.PartLaws.{getD-part, part-part, bytes-part}
+use Rattle.num.proofs.SpliceLaws.{length-zeros}
+use Rattle.settings.specs.declared.PacketAt.{PacketAt}
+use Rattle.settings.specs.Settings.{valid}
+use Rattle.settings.specs.Instants.{horizon, isInstant}
+use Rattle.settings.proofs.SettingsLaws.{bounds}
+use Rattle.spec_rules.specs.declared.Bank.{Bank}
+use Rattle.spec_rules.specs.declared.Bank.the-variants.{Closed, Open, Refresh}
+use Rattle.spec_rules.specs.declared.BankTrack.{BankTrack}
+use Rattle.spec_rules.specs.declared.LastInstants.{LastInstants}
+use Rattle.spec_rules.specs.declared.Write.{Write}
+use Rattle.spec_rules.specs.declared.Buffer.{Buffer}
+use Rattle.spec_rules.specs.declared.Buffer.the-variants.{Empty, One}
+use Rattle.spec_rules.specs.declared.Channel.{Channel}
+use Rattle.spec_rules.specs.Neighbour.{bankCount, Context}
+use Rattle.spec_rules.specs.History.{anyWrite, allWrites}
+use Rattle.spec_rules.specs.Channel.{idle, trackOf, stateOf, waitingOf}
+use Rattle.spec_rules.specs.Checks.{since}
+use Rattle.spec_rules.proofs.Bools.{and-left, and-right}
+use Rattle.spec_state.specs.Valid.{isStamp, bankValid, trackValid, writeValid, lastsValid, channelValid}
+use Rattle.spec_state.specs.ChannelBytes.{instantBytes, bankTag, plane, instantPlane, banksBytes, lastsBytes, countBytes, writeBytes, bufferBytes, channelBytes, instantOf, instantIn, bankIn, trackIn, tracksIn, lastsIn, writeIn, bufferIn, channelIn, zeroPart, channelSpare}
+use Rattle.spec_state.proofs.Stamps.{Stamps, Stamped}
+use Rattle.spec_state.proofs.NextValid.{Sound, valid-sound}
+use Rattle.spec_state.proofs.Lengths.{length-banks, length-lasts, length-count, length-write}
+use Rattle.spec_state.proofs.PlaneLaws.{length-plane, plane-at, plane-part, part-split, part-both, tracks-at, tracks-are}
+
+-- ---- one number
+
+-- a last instant is read back, and so is an instant
+pub stamp-back : (t : ℕ) → isStamp t ≡ true → instantOf (number (bytes 4 (t - 3))) ≡ t
+stamp-back t h = go (eqb t 0) refl h
+  where
+    some-back : 4 ≤ t → t ≤ horizon → instantOf (number (bytes 4 (t - 3))) ≡ t
+    some-back l m =
+        let e : number (bytes 4 (t - 3)) ≡ t - 3 = number-bytes 4 (t - 3) (omega arith) in
+        rw (e, ne-eqb (t - 3) 0 (λ z. omega arith)) (omega arith)
+
+    go : (z : Bool) → eqb t 0 ≡ z → z || isInstant t ≡ true → instantOf (number (bytes 4 (t - 3))) ≡ t
+    go true e i = rw (eqb-true t 0 e, number-bytes 4 0 (omega arith))
+    go false e i = some-back (leb-true 4 t (and-left (leb 4 t) _ i)) (leb-true t horizon (and-right (leb 4 t) _ i))
+
+-- a stored number is what is written of the instant that it says
+pub stored-in : (n : ℕ) → instantOf n - 3 ≡ n
+stored-in n = go (eqb n 0) refl
+  where
+    go : (z : Bool) → eqb n 0 ≡ z → cond z 0 (n + 3) - 3 ≡ n
+    go true e = sym (eqb-true n 0 e)
+    go false e = omega arith
+
+-- rows are at most 512, so no open row has the tag of another state
+tag-back : (cx : Context) (k : Bank) → cx .settings .rows ≤ 512 → bankValid cx k ≡ true → bankIn (number (bytes 2 (bankTag k))) ≡ k
+unfolding bankIn bankTag bankValid
+tag-back cx Closed m h = rw (number-bytes 2 0 (omega arith))
+tag-back cx (Open r) m h =
+    let l = ltb-true r (cx .settings .rows) h in
+    let b : r + 1 < 256 ^ 2 = omega arith in
+    let e : r + 1 - 1 ≡ r = omega arith in
+    rw (number-bytes 2 (r + 1) b, ne-eqb (r + 1) 0 (λ z. omega arith), ne-eqb (r + 1) 65535 (λ z. omega arith), e)
+tag-back cx Refresh m h = rw (number-bytes 2 65535 (omega arith))
+
+-- a tag that was read is written
+tag-in : (n : ℕ) → bankTag (bankIn n) ≡ n
+unfolding bankIn bankTag
+tag-in n = go (eqb n 0) (eqb n 65535) refl refl
+  where
+    go : (z r : Bool) → eqb n 0 ≡ z → eqb n 65535 ≡ r → bankTag (cond z Closed (cond r Refresh (Open (n - 1)))) ≡ n
+    go true r e f = sym (eqb-true n 0 e)
+    go false true e f = sym (eqb-true n 65535 f)
+    go false false e f = let z = eqb-false n 0 e in omega arith
+
+-- ---- the parts of the bytes
+
+record Parts (b : List ℕ) (ch : Channel) : Type 0 where
+  opened : part b 0 128 ≡ instantPlane (λ x. trackOf ch x .opened)
+  act : part b 128 128 ≡ instantPlane (λ x. trackOf ch x .act)
+  pre : part b 256 128 ≡ instantPlane (λ x. trackOf ch x .pre)
+  rd : part b 384 128 ≡ instantPlane (λ x. trackOf ch x .rd)
+  retire : part b 512 128 ≡ instantPlane (λ x. trackOf ch x .retire)
+  bank : part b 640 64 ≡ plane 2 (λ x. bankTag (trackOf ch x .bank)) 32
+  lasts : part b 704 24 ≡ lastsBytes (ch .lasts)
+  buffer : part b 728 24 ≡ bufferBytes (ch .buffer) (ch .due)
+
+parts : (b : List ℕ) (ch : Channel) → part b 0 752 ≡ channelBytes ch → Parts b ch
+unfolding channelBytes banksBytes bankCount
+parts b ch h =
+    let whole = part-split b 0 704 48 _ _ (length-banks ch) h in
+    let p1 = part-split b 0 128 576 _ _ (length-plane 4 (λ x. trackOf ch x .opened .0 - 3) 32) (whole .0) in
+    let p2 = part-split b 128 128 448 _ _ (length-plane 4 (λ x. trackOf ch x .act .0 - 3) 32) (p1 .1) in
+    let p3 = part-split b 256 128 320 _ _ (length-plane 4 (λ x. trackOf ch x .pre .0 - 3) 32) (p2 .1) in
+    let p4 = part-split b 384 128 192 _ _ (length-plane 4 (λ x. trackOf ch x .rd .0 - 3) 32) (p3 .1) in
+    let p5 = part-split b 512 128 64 _ _ (length-plane 4 (λ x. trackOf ch x .retire .0 - 3) 32) (p4 .1) in
+    let p7 = part-split b 704 24 24 _ _ (length-lasts (ch .lasts)) (whole .1) in
+    record { opened = p1 .0; act = p2 .0; pre = p3 .0; rd = p4 .0; retire = p5 .0; bank = p5 .1; lasts = p7 .0; buffer = p7 .1 }
+
+parts-whole : (b : List ℕ) (ch : Channel) → Parts b ch → channelBytes ch ≡ part b 0 752
+unfolding channelBytes banksBytes bankCount
+parts-whole b ch p =
+    part-both b 0 704 48 _ _
+    (part-both b 0 128 576 _ _ (sym (p .opened))
+    (part-both b 128 128 448 _ _ (sym (p .act))
+    (part-both b 256 128 320 _ _ (sym (p .pre)) (part-both b 384 128 192 _ _ (sym (p .rd)) (part-both b 512 128 64 _ _ (sym (p .retire)) (sym (p .bank)))))))
+    (part-both b 704 24 24 _ _ (sym (p .lasts)) (sym (p .buffer)))
+
+-- ---- written, then read
+
+-- an instant of bank x in a plane
+plane-back : (b : List ℕ) (at : ℕ) (f : ℕ → PacketAt) (x : ℕ) → part b at 128 ≡ instantPlane f → x < 32 → isStamp (f x .0) ≡ true → instantIn b (at + 4 * x) ≡ f x
+unfolding bankCount
+plane-back b at f x p l v = ap (λ (n : ℕ). record { 0 = n }) (ap (λ (q : List ℕ). instantOf (number q)) (plane-at b at 4 (λ y. f y .0 - 3) 32 x p l) ∙ stamp-back (f x .0) v)
+
+track-back : (cx : Context) (b : List ℕ) (ch : Channel) (x : ℕ) → Parts b ch → x < 32 → cx .settings .rows ≤ 512 → Stamps (trackOf ch x)
+    → bankValid cx (stateOf ch x) ≡ true → trackIn b x ≡ trackOf ch x
+unfolding trackIn
+track-back cx b ch x p l m v r =
+    let first : instantIn b (4 * x) ≡ trackOf ch x .opened = rw zero-add at (plane-back b 0 (λ y. trackOf ch y .opened) x (p .opened) l (v .opened .right)) in
+    rw (
+      first,
+      plane-back b 128 (λ y. trackOf ch y .act) x (p .act) l (v .act .right),
+      plane-back b 256 (λ y. trackOf ch y .pre) x (p .pre) l (v .pre .right),
+      plane-back b 384 (λ y. trackOf ch y .rd) x (p .rd) l (v .rd .right),
+      plane-back b 512 (λ y. trackOf ch y .retire) x (p .retire) l (v .retire .right),
+      plane-at b 640 2 (λ y. bankTag (trackOf ch y .bank)) 32 x (p .bank) l,
+      tag-back cx (trackOf ch x .bank) m r,
+    )
+
+-- an instant at its place
+pub instant-back : (b : List ℕ) (at : ℕ) (t : PacketAt) → part b at 4 ≡ instantBytes t → isStamp (t .0) ≡ true → instantIn b at ≡ t
+instant-back b at t p v = ap (λ (n : ℕ). record { 0 = n }) (ap (λ (q : List ℕ). instantOf (number q)) p ∙ stamp-back (t .0) v)
+
+number-zeros : (n : ℕ) → number (zeros n) ≡ 0
+unfolding number
+number-zeros zero = refl
+number-zeros (suc n) = rw (number-zeros n)
+
+pub zero-back : (b : List ℕ) (at n : ℕ) → part b at n ≡ zeros n → zeroPart b at n ≡ true
+zero-back b at n h = rw (h, number-zeros n)
+
+lasts-back : (b : List ℕ) (ch : Channel) → Stamped ch → part b 704 24 ≡ lastsBytes (ch .lasts) → (lastsIn b ≡ ch .lasts) × (zeroPart b 724 4 ≡ true)
+unfolding lastsBytes lastsIn
+lasts-back b ch v h =
+    let l : LastInstants = ch .lasts in
+    let p1 = part-split b 704 4 20 _ _ (length-bytes 4 (l .packet .0 - 3)) h in
+    let p2 = part-split b 708 4 16 _ _ (length-bytes 4 (l .row .0 - 3)) (p1 .1) in
+    let p3 = part-split b 712 4 12 _ _ (length-bytes 4 (l .col .0 - 3)) (p2 .1) in
+    let p4 = part-split b 716 4 8 _ _ (length-bytes 4 (l .pre .0 - 3)) (p3 .1) in
+    let p5 = part-split b 720 4 4 _ _ (length-bytes 4 (l .rd .0 - 3)) (p4 .1) in (
+      rw (
+        instant-back b 704 (l .packet) (p1 .0) (v .last .right),
+        instant-back b 708 (l .row) (p2 .0) (v .row .right),
+        instant-back b 712 (l .col) (p3 .0) (v .col .right),
+        instant-back b 716 (l .pre) (p4 .0) (v .pre .right),
+        instant-back b 720 (l .rd) (p5 .0) (v .rd .right),
+      ),
+      zero-back b 724 4 (p5 .1),
+    )
+
+-- one byte at its place
+byte-back : (b : List ℕ) (at n : ℕ) → part b at 1 ≡ bytes 1 n → n < 256 → at < length b → getD b at 0 ≡ n
+byte-back b at n h m l = sym (number-one b at l) ∙ ap number h ∙ number-bytes 1 n m
+
+due-back : (due : Bool) → (eqb (cond due 1 0) 1 ≡ due) × (leb (cond due 1 0) 1 ≡ true)
+due-back true = (refl, refl)
+due-back false = (refl, refl)
+
+-- the number of writes that wait, and whether data are due
+count-back : (b : List ℕ) (n : ℕ) (due : Bool) (rest : List ℕ) → 752 ≤ length b → n < 2 → part b 728 24 ≡ countBytes n due ++ rest
+    → (getD b 728 0 ≡ n) × (eqb (getD b 729 0) 1 ≡ due) × (leb (getD b 729 0) 1 ≡ true) × (zeroPart b 730 6 ≡ true) × (part b 736 16 ≡ rest)
+unfolding countBytes
+count-back b n due rest l m h =
+    let whole = part-split b 728 8 16 _ _ (length-count n due) h in
+    let p1 = part-split b 728 1 7 _ _ (length-bytes 1 n) (whole .0) in
+    let p2 = part-split b 729 1 6 _ _ (length-bytes 1 (cond due 1 0)) (p1 .1) in
+    let byte : getD b 729 0 ≡ cond due 1 0 = byte-back b 729 (cond due 1 0) (p2 .0) (below due) (omega arith) in
+    (byte-back b 728 n (p1 .0) (omega arith) (omega arith), rw byte (due-back due .0), rw byte (due-back due .1), zero-back b 730 6 (p2 .1), whole .1)
+  where
+    below : (due : Bool) → cond due 1 0 < 256
+    below true = omega arith
+    below false = omega arith
+
+write-back : (cx : Context) (b : List ℕ) (w : Write) → 752 ≤ length b → cx .settings .columns ≤ 128 → writeValid cx w ≡ true → part b 736 8 ≡ writeBytes w
+    → (writeIn b 736 ≡ w) × (zeroPart b 738 2 ≡ true)
+unfolding writeBytes writeValid bankCount
+write-back cx b w l m v h =
+    let rest = and-right (ltb (w .bank) 32) _ v in
+    let bank : w .bank < 32 = ltb-true (w .bank) 32 (and-left (ltb (w .bank) 32) _ v) in
+    let column : w .column < cx .settings .columns = ltb-true _ _ (and-left (ltb (w .column) (cx .settings .columns)) _ rest) in
+    let at : isInstant (w .at .0) ≡ true = and-right (ltb (w .column) (cx .settings .columns)) _ rest in
+    let p1 = part-split b 736 1 7 (bytes 1 (w .bank)) (bytes 1 (w .column) ++ (bytes 2 0 ++ instantBytes (w .at))) (length-bytes 1 (w .bank)) h in
+    let p2 = part-split b 737 1 6 (bytes 1 (w .column)) (bytes 2 0 ++ instantBytes (w .at)) (length-bytes 1 (w .column)) (p1 .1) in
+    let p3 = part-split b 738 2 4 (bytes 2 0) (instantBytes (w .at)) (length-bytes 2 0) (p2 .1) in (
+      rw (
+        byte-back b 736 (w .bank) (p1 .0) (omega arith) (omega arith),
+        byte-back b 737 (w .column) (p2 .0) (omega arith) (omega arith),
+        instant-back b 740 (w .at) (p3 .1) (rw at (or-true (eqb (w .at .0) 0))),
+      ),
+      rw (p3 .0, number-bytes 2 0 (omega arith)),
+    )
+
+buffer-back : (cx : Context) (b : List ℕ) (buffer : Buffer) (due : Bool) → 752 ≤ length b → cx .settings .columns ≤ 128
+    → allWrites (writeValid cx) (waitingOf buffer) ≡ true → zeroPart b 724 4 ≡ true → part b 728 24 ≡ bufferBytes buffer due
+    → (bufferIn b ≡ buffer) × (eqb (getD b 729 0) 1 ≡ due) × (channelSpare b ≡ true)
+unfolding bufferBytes bufferIn channelSpare waitingOf
+buffer-back cx b Empty due l m v z h =
+    let q = count-back b 0 due (zeros 16) l (omega arith) h in
+    let p = part-split b 736 8 8 (zeros 8) (zeros 8) (length-zeros 8) (q .4) in
+    (rw (q .0), q .1, rw (z, q .0, q .2, q .3, zero-back b 736 8 (p .0), zero-back b 744 8 (p .1)))
+buffer-back cx b (One w) due l m v z h =
+    let q = count-back b 1 due (writeBytes w ++ zeros 8) l (omega arith) h in
+    let p = part-split b 736 8 8 (writeBytes w) (zeros 8) (length-write w) (q .4) in
+    let one = write-back cx b w l m (and-left (writeValid cx w) _ v) (p .0) in
+    (rw (q .0, one .0), q .1, rw (z, q .0, q .2, q .3, one .1, zero-back b 744 8 (p .1)))
+
+pub channel-decode-encode : (cx : Context) (ch : Channel) (b : List ℕ) → valid (cx .settings) ≡ true → channelValid cx ch ≡ true → 752 ≤ length b
+    → part b 0 752 ≡ channelBytes ch → (channelIn b ≡ ch) × (channelSpare b ≡ true)
+unfolding channelIn bankCount
+channel-decode-encode cx ch b v c n h =
+    let m = bounds (cx .settings) v in
+    let k : Sound cx ch = valid-sound cx ch c in
+    let p : Parts b ch = parts b ch h in
+    let banks : tracksIn b 32 ≡ ch .banks =
+    sym (tracks-are b (ch .banks) 32 (k .size) (λ x l. sym (track-back cx b ch x p l (m .rows-most) (k .stamped .banks x l) (k .rows-in x l)))) in
+    let q = lasts-back b ch (k .stamped) (p .lasts) in
+    let w = buffer-back cx b (ch .buffer) (ch .due) n (m .columns-most) (k .write) (q .1) (p .buffer) in
+    (rw (banks, q .0, w .0, w .1), w .2)
+
+-- ---- read, then written
+
+-- a byte is the one that is written of it
+one-byte : (b : List ℕ) (i : ℕ) → Bytes b → i < length b → bytes 1 (getD b i 0) ≡ part b i 1
+one-byte b i w l = rw (← number-one b i l) (bytes-part b i 1 w (omega arith))
+
+-- an instant, and bytes that are 0
+pub instant-in : (b : List ℕ) (at : ℕ) → Bytes b → at + 4 ≤ length b → instantBytes (instantIn b at) ≡ part b at 4
+instant-in b at w l = ap (bytes 4) (stored-in (number (part b at 4))) ∙ bytes-part b at 4 w l
+
+bytes-zero : (n : ℕ) → bytes n 0 ≡ zeros n
+unfolding bytes
+bytes-zero zero = refl
+bytes-zero (suc n) = rw (bytes-zero n)
+
+pub zero-in : (b : List ℕ) (at n : ℕ) → Bytes b → at + n ≤ length b → zeroPart b at n ≡ true → zeros n ≡ part b at n
+zero-in b at n w l z = sym (bytes-zero n) ∙ ap (bytes n) (sym (eqb-true _ 0 z)) ∙ bytes-part b at n w l
+
+-- the planes of the state that bytes say
+instants-in : (b : List ℕ) (at : ℕ) (f : BankTrack → PacketAt) → Bytes b → at + 128 ≤ length b → ((x : ℕ) → f (trackIn b x) ≡ instantIn b (at + 4 * x))
+    → part b at 128 ≡ instantPlane (λ x. f (trackOf (channelIn b) x))
+unfolding channelIn bankCount
+instants-in b at f w l h =
+    sym (plane-part b 4 at (λ x. f (getD (tracksIn b 32) x idle) .0 - 3) 32 w l
+    (λ x m. ap (λ (k : BankTrack). f k .0 - 3) (tracks-at b 32 x m) ∙ ap (λ (t : PacketAt). t .0 - 3) (h x) ∙ stored-in (number (part b (at + 4 * x) 4))))
+
+tags-in : (b : List ℕ) → Bytes b → 752 ≤ length b → part b 640 64 ≡ plane 2 (λ x. bankTag (trackOf (channelIn b) x .bank)) 32
+unfolding channelIn bankCount trackIn
+tags-in b w l =
+    sym
+    (plane-part b 2 640 (λ x. bankTag (getD (tracksIn b 32) x idle .bank)) 32 w (omega arith)
+    (λ x m. ap (λ (k : BankTrack). bankTag (k .bank)) (tracks-at b 32 x m) ∙ tag-in (number (part b (640 + 2 * x) 2))))
+
+lasts-in : (b : List ℕ) → Bytes b → 752 ≤ length b → zeroPart b 724 4 ≡ true → part b 704 24 ≡ lastsBytes (lastsIn b)
+unfolding lastsIn lastsBytes
+lasts-in b w l z =
+    sym
+    (part-both b 704 4 20 _ _ (instant-in b 704 w (omega arith))
+    (part-both b 708 4 16 _ _ (instant-in b 708 w (omega arith))
+    (part-both b 712 4 12 _ _ (instant-in b 712 w (omega arith))
+    (part-both b 716 4 8 _ _ (instant-in b 716 w (omega arith)) (part-both b 720 4 4 _ _ (instant-in b 720 w (omega arith)) (zero-in b 724 4 w (omega arith) z))))))
+
+write-in : (b : List ℕ) → Bytes b → 752 ≤ length b → zeroPart b 738 2 ≡ true → writeBytes (writeIn b 736) ≡ part b 736 8
+unfolding writeBytes
+write-in b w l z =
+    part-both b 736 1 7 (bytes 1 (getD b 736 0)) _ (one-byte b 736 w (omega arith))
+    (part-both b 737 1 6 (bytes 1 (getD b 737 0)) _ (one-byte b 737 w (omega arith))
+    (part-both b 738 2 4 (bytes 2 0) _ (bytes-zero 2 ∙ zero-in b 738 2 w (omega arith) z) (instant-in b 740 w (omega arith))))
+
+count-in : (b : List ℕ) (n : ℕ) → Bytes b → 752 ≤ length b → getD b 728 0 ≡ n → leb (getD b 729 0) 1 ≡ true → zeroPart b 730 6 ≡ true
+    → countBytes n (eqb (getD b 729 0) 1) ≡ part b 728 8
+unfolding countBytes
+count-in b n w l e d z =
+    part-both b 728 1 7 (bytes 1 n) _ (ap (bytes 1) (sym e) ∙ one-byte b 728 w (omega arith))
+    (part-both b 729 1 6 (bytes 1 (cond (eqb (getD b 729 0) 1) 1 0)) _ (ap (bytes 1) (due-in (eqb (getD b 729 0) 1) refl) ∙ one-byte b 729 w (omega arith))
+    (zero-in b 730 6 w (omega arith) z))
+  where
+    due-in : (q : Bool) → eqb (getD b 729 0) 1 ≡ q → cond q 1 0 ≡ getD b 729 0
+    due-in true e = sym (eqb-true (getD b 729 0) 1 e)
+    due-in false e = omega (arith, leb-true (getD b 729 0) 1 d, eqb-false (getD b 729 0) 1 e)
+
+-- what `channelSpare` says, test by test
+record Spare (b : List ℕ) : Type 0 where
+  after-lasts : zeroPart b 724 4 ≡ true
+  count : leb (getD b 728 0) 1 ≡ true
+  due : leb (getD b 729 0) 1 ≡ true
+  after-due : zeroPart b 730 6 ≡ true
+  first : cond (eqb (getD b 728 0) 0) (zeroPart b 736 8) (zeroPart b 738 2) ≡ true
+  second : zeroPart b 744 8 ≡ true
+
+spare-tests : (b : List ℕ) → channelSpare b ≡ true → Spare b
+unfolding channelSpare
+spare-tests b e =
+    let counts : Bool = leb (getD b 728 0) 1 && (leb (getD b 729 0) 1 && zeroPart b 730 6) in
+    let rest = and-right (zeroPart b 724 4) _ e in
+    let c = and-left counts _ rest in
+    let d = and-right (leb (getD b 728 0) 1) _ c in
+    let f = and-right counts _ rest in
+    record {
+      after-lasts = and-left (zeroPart b 724 4) _ e;
+      count = and-left (leb (getD b 728 0) 1) _ c;
+      due = and-left (leb (getD b 729 0) 1) _ d;
+      after-due = and-right (leb (getD b 729 0) 1) _ d;
+      first = and-left (cond (eqb (getD b 728 0) 0) (zeroPart b 736 8) (zeroPart b 738 2)) _ f;
+      second = and-right (cond (eqb (getD b 728 0) 0) (zeroPart b 736 8) (zeroPart b 738 2)) _ f;
+    }
+
+buffer-in : (b : List ℕ) → Bytes b → 752 ≤ length b → Spare b → part b 728 24 ≡ bufferBytes (bufferIn b) (eqb (getD b 729 0) 1)
+unfolding bufferIn bufferBytes
+buffer-in b w l k = go (eqb (getD b 728 0) 0) refl (k .first)
+  where
+    due : Bool
+    due = eqb (getD b 729 0) 1
+
+    go : (q : Bool) → eqb (getD b 728 0) 0 ≡ q → cond q (zeroPart b 736 8) (zeroPart b 738 2) ≡ true → part b 728 24 ≡ bufferBytes (cond q Empty (One (writeIn b 736))) due
+    go true e f =
+        sym (part-both b 728 8 16 (countBytes 0 due) (zeros 16) (count-in b 0 w l (eqb-true _ 0 e) (k .due) (k .after-due))
+        (part-both b 736 8 8 (zeros 8) (zeros 8) (zero-in b 736 8 w (omega arith) f) (zero-in b 744 8 w (omega arith) (k .second))))
+    go false e f =
+        let one : getD b 728 0 ≡ 1 = omega (arith, leb-true (getD b 728 0) 1 (k .count), eqb-false (getD b 728 0) 0 e) in
+        sym (part-both b 728 8 16 (countBytes 1 due) (writeBytes (writeIn b 736) ++ zeros 8) (count-in b 1 w l one (k .due) (k .after-due))
+        (part-both b 736 8 8 (writeBytes (writeIn b 736)) (zeros 8) (write-in b w l f) (zero-in b 744 8 w (omega arith) (k .second))))
+
+pub channel-encode-decode : (b : List ℕ) → Bytes b → 752 ≤ length b → channelSpare b ≡ true → channelBytes (channelIn b) ≡ part b 0 752
+unfolding channelIn trackIn
+channel-encode-decode b w l v =
+    let k : Spare b = spare-tests b v in
+    parts-whole b (channelIn b)
+    record {
+      opened = instants-in b 0 (λ k. k .opened) w (omega arith) (λ x. rw zero-add);
+      act = instants-in b 128 (λ k. k .act) w (omega arith) (λ x. refl);
+      pre = instants-in b 256 (λ k. k .pre) w (omega arith) (λ x. refl);
+      rd = instants-in b 384 (λ k. k .rd) w (omega arith) (λ x. refl);
+      retire = instants-in b 512 (λ k. k .retire) w (omega arith) (λ x. refl);
+      bank = tags-in b w l;
+      lasts = lasts-in b w l (k .after-lasts);
+      buffer = buffer-in b w l k;
+    }
