@@ -248,7 +248,7 @@ one-byte b i w l = rw (← number-one b i l) (bytes-part b i 1 w (omega arith))
 pub instant-in : (b : List ℕ) (at : ℕ) → Bytes b → at + 4 ≤ length b → instantBytes (instantIn b at) ≡ part b at 4
 instant-in b at w l = ap (bytes 4) (stored-in (number (part b at 4))) ∙ bytes-part b at 4 w l
 
-bytes-zero : (n : ℕ) → bytes n 0 ≡ zeros n
+pub bytes-zero : (n : ℕ) → bytes n 0 ≡ zeros n
 unfolding bytes
 bytes-zero zero = refl
 bytes-zero (suc n) = rw (bytes-zero n)

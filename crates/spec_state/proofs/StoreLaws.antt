@@ -1,0 +1,302 @@
+-- What is stored for a packet is the state after it.
+-- Assumes nothing.
+use Prim.Native.Nat.{ℕ, _+_, _*_, _-_, _/_, _%_, _<_}
+use mathlib.Core.Path.{_≡_, refl, sym, ap, _∙_}
+use mathlib.Core.Bool.{Bool, true, false, cond, not, _||_, _&&_}
+use mathlib.Core.List.{List, [], _∷_, _++_, append-assoc}
+use mathlib.Core.Option.{Option, none, some}
+use native.Mathlib.Omega.{arith}
+use borrow.Author.Tests.{eqb-true}
+use lib.Dec.{eqb}
+use lib.ListN.{length, getD}
+use Rattle.num.specs.Bytes.{bytes, splice, zeros}
+use Rattle.settings.specs.declared.PacketAt.{PacketAt}
+use Rattle.packet.specs.declared.RowPacket.{RowPacket}
+use Rattle.packet.specs.declared.RowPacket.the-variants.{Act, Prer, Refa, Refp}
+use Rattle.packet.specs.declared.ColPacket.{ColPacket}
+use Rattle.packet.specs.declared.ColPacket.the-variants.{Nocop, Wr, Rd}
+use Rattle.record.specs.declared.Record.{Record}
+use Rattle.record.specs.declared.Record.the-variants.{RowAt, ColAt}
+use Rattle.spec_rules.specs.declared.Bank.{Bank}
+use Rattle.spec_rules.specs.declared.Bank.the-variants.{Closed, Open, Refresh}
+use Rattle.spec_rules.specs.declared.BankTrack.{BankTrack}
+use Rattle.spec_rules.specs.declared.Write.{Write}
+use Rattle.spec_rules.specs.declared.Buffer.{Buffer}
+use Rattle.spec_rules.specs.declared.Buffer.the-variants.{Empty, One}
+use Rattle.spec_rules.specs.declared.Channel.{Channel}
+use Rattle.spec_rules.specs.Neighbour.{bankCount, Context, near}
+use Rattle.spec_rules.specs.Packets.{traits, rowTraits, colTraits, instant}
+use Rattle.spec_rules.specs.History.{bankBy, isClosed, leaving, loads, has}
+use Rattle.spec_rules.specs.Channel.{idle, trackOf, stateOf, waitingOf, bufferOf, bankNext, trackNext, afterPacket, trackRetired, afterRetire, afterData, after}
+use Rattle.spec_rules.proofs.ListLaws.{getD-imap}
+use Rattle.spec_rules.proofs.TrackLaws.{buffer-waiting}
+use Rattle.spec_state.specs.ChannelBytes.{bankTag, plane, banksBytes, lastsBytes, countBytes, writeBytes, bufferBytes, channelBytes}
+use Rattle.spec_state.specs.form.Layout.{body, rest, Numbers, layout, figureOf, lastOfChannel, countNumber, writeWord, writeNumber, atLast, atCount, atWrite, atTag, atFigure, numbersOf}
+use Rattle.spec_state.specs.form.Stores.{put, rowStored, colStored, actStored, refaStored, closeStored, rdStored, retireStored, emptyStored, writeStored}
+use Rattle.spec_state.proofs.RoundTrip.{bytes-zero}
+use Rattle.spec_state.proofs.LayoutLaws.{put-opened, put-act, put-pre, put-rd, put-retire, put-tag, put-704, put-708, put-712, put-716, put-720, put-count, put-write, layout-ext}
+
+-- ---- the bytes of a state by its numbers
+
+-- eight bytes as one number
+count-word : (n d : ℕ) → n < 256 → d < 256 → bytes 8 (n + 256 * d) ≡ bytes 1 n ++ (bytes 1 d ++ zeros 6)
+unfolding bytes
+count-word n d l m =
+    let a : (n + 256 * d) % 256 ≡ n % 256 = omega arith in
+    let b : (n + 256 * d) / 256 ≡ d = omega arith in
+    let c : d / 256 ≡ 0 = omega arith in
+    rw (a, b, c)
+
+write-word : (x c v : ℕ) → x < 256 → c < 256 → bytes 8 (writeWord x c v) ≡ bytes 1 x ++ (bytes 1 c ++ (bytes 2 0 ++ bytes 4 v))
+unfolding bytes
+write-word x c v l k =
+    let a : writeWord x c v % 256 ≡ x % 256 = omega arith in
+    let b : writeWord x c v / 256 ≡ c + 16777216 * v = omega arith in
+    let d : (c + 16777216 * v) % 256 ≡ c % 256 = omega arith in
+    let e : (c + 16777216 * v) / 256 ≡ 65536 * v = omega arith in
+    let f : 65536 * v % 256 ≡ 0 = omega arith in
+    let g : 65536 * v / 256 ≡ 256 * v = omega arith in
+    let h : 256 * v % 256 ≡ 0 = omega arith in
+    let i : 256 * v / 256 ≡ v = omega arith in
+    rw (a, b, d, e, f, g, h, i)
+
+-- a waiting write whose bank and column are bytes
+abbrev pub WriteIn : Buffer → Type 0
+WriteIn Empty = Unit {0}
+WriteIn (One w) = (w .bank < 256) × (w .column < 256)
+
+below : (due : Bool) → cond due 1 0 < 256
+below true = omega arith
+below false = omega arith
+
+buffer-numbers : (buffer : Buffer) (due : Bool) → WriteIn buffer → bufferBytes buffer due ≡ bytes 8 (countNumber buffer due) ++ (bytes 8 (writeNumber buffer) ++ zeros 8)
+unfolding bufferBytes countBytes writeBytes countNumber writeNumber
+buffer-numbers Empty due i = rw (count-word 0 (cond due 1 0) (omega arith) (below due), bytes-zero 8) (simp append-assoc)
+buffer-numbers (One w) due i =
+    rw (count-word 1 (cond due 1 0) (omega arith) (below due), write-word (w .bank) (w .column) (w .at .0 - 3) (i .0) (i .1)) (simp append-assoc)
+
+pub by-numbers : (ch : Channel) (q : List ℕ) → WriteIn (ch .buffer) → channelBytes ch ++ q ≡ layout (numbersOf ch q)
+unfolding channelBytes banksBytes lastsBytes bankCount layout numbersOf figureOf lastOfChannel
+by-numbers ch q i = rw (buffer-numbers (ch .buffer) (ch .due) i) (simp append-assoc)
+
+-- ---- the state after a packet, by its tracks: one law for all commands
+
+module _ (cx : Context) (ch : Channel) (r : Record) (q : List ℕ) where
+  -- the numbers after a packet, once the write that it retires has left
+  abbrev pub nextNumbers : Numbers
+  nextNumbers =
+      record {
+        figure = λ k x. figureOf (trackNext cx ch r x (trackOf ch x)) k - 3;
+        tag = λ x. bankTag (trackNext cx ch r x (trackOf ch x) .bank);
+        last = λ i. lastOfChannel (afterPacket cx ch r .lasts) i - 3;
+        count = countNumber (afterPacket cx ch r .buffer) (afterPacket cx ch r .due);
+        write = writeNumber (afterPacket cx ch r .buffer);
+        tail = q;
+      }
+
+  track-next : length (ch .banks) ≡ 32 → (i : ℕ) → i < 32 → trackOf (afterPacket cx ch r) i ≡ trackNext cx ch r i (trackOf ch i)
+  unfolding afterPacket
+  track-next e i m = getD-imap (trackNext cx ch r) (ch .banks) i idle idle (omega arith)
+
+  pub next-bytes : length (ch .banks) ≡ 32 → WriteIn (afterPacket cx ch r .buffer) → channelBytes (afterPacket cx ch r) ++ q ≡ layout nextNumbers
+  unfolding numbersOf
+  next-bytes e i =
+      by-numbers (afterPacket cx ch r) q i
+      ∙ layout-ext _ nextNumbers
+      (λ i m. ap (λ (k : BankTrack). figureOf k 0 - 3) (track-next e i m))
+      (λ i m. ap (λ (k : BankTrack). figureOf k 1 - 3) (track-next e i m))
+      (λ i m. ap (λ (k : BankTrack). figureOf k 2 - 3) (track-next e i m))
+      (λ i m. ap (λ (k : BankTrack). figureOf k 3 - 3) (track-next e i m))
+      (λ i m. ap (λ (k : BankTrack). figureOf k 4 - 3) (track-next e i m))
+      (λ i m. ap (λ (k : BankTrack). bankTag (k .bank)) (track-next e i m))
+      refl refl refl refl refl refl refl refl
+
+-- a number that a test picks
+pick : (q : Bool) (t u : PacketAt) → cond q (t .0 - 3) (u .0 - 3) ≡ cond q t u .0 - 3
+pick true t u = refl
+pick false t u = refl
+
+tag-pick : (q : Bool) (b k : Bank) → cond q (bankTag b) (bankTag k) ≡ bankTag (cond q b k)
+tag-pick true b k = refl
+tag-pick false b k = refl
+
+-- one store after others
+on : (at : ℕ) (vs : List ℕ) {b c d : List ℕ} → b ≡ c → splice c at vs ≡ d → splice b at vs ≡ d
+on at vs e h = ap (λ (b : List ℕ). splice b at vs) e ∙ h
+
+row-stored : (n : Numbers) (v : ℕ) {b : List ℕ} → b ≡ layout n → rowStored b v ≡ layout (atLast 1 v (atLast 0 v n))
+unfolding rowStored
+row-stored n v e = on 708 (bytes 4 v) (on 704 (bytes 4 v) e (put-704 n v)) (put-708 _ v)
+
+col-stored : (n : Numbers) (v : ℕ) {b : List ℕ} → b ≡ layout n → colStored b v ≡ layout (atLast 2 v (atLast 0 v n))
+unfolding colStored
+col-stored n v e = on 712 (bytes 4 v) (on 704 (bytes 4 v) e (put-704 n v)) (put-712 _ v)
+
+-- ---- ROW packets, where no data are due
+
+module _ (cx : Context) (ch : Channel) (q : List ℕ) (e : length (ch .banks) ≡ 32) (i : WriteIn (ch .buffer)) (d : ch .due ≡ false) (x t : ℕ) (l : x < 32) where
+  abbrev row-record : RowPacket → Record
+  row-record p = RowAt (record { 0 = t }) p
+
+  same-write : WriteIn (bufferOf (waitingOf (ch .buffer)))
+  same-write = rw (buffer-waiting (ch .buffer)) i
+
+  pub act-stored : (row : ℕ) → actStored (channelBytes ch ++ q) x row (t - 3) ≡ channelBytes (after cx ch (row-record (Act x row))) ++ q
+  unfolding actStored after afterPacket trackNext traits rowTraits bankNext bankBy bankTag instant figureOf lastOfChannel loads numbersOf
+  act-stored row =
+      let v : List ℕ = bytes 4 (t - 3) in
+      row-stored _ (t - 3) (on (640 + 2 * x) (bytes 2 (row + 1)) (on (128 + 4 * x) v (on (4 * x) v (by-numbers ch q i) (put-opened _ (t - 3) x l)) (put-act _ (t - 3) x l)) (put-tag _ (row + 1) x l))
+      ∙ layout-ext _ (nextNumbers cx ch (row-record (Act x row)) q)
+      (λ i m. pick (eqb i x) (record { 0 = t }) (trackOf ch i .opened))
+      (λ i m. pick (eqb i x) (record { 0 = t }) (trackOf ch i .act))
+      (λ i m. refl) (λ i m. refl) (λ i m. refl) (λ i m. tag-pick (eqb i x) (Open row) (trackOf ch i .bank)) refl refl refl refl refl
+      (rw (buffer-waiting (ch .buffer), d)) (rw (buffer-waiting (ch .buffer))) refl
+      ∙ sym (next-bytes cx ch (row-record (Act x row)) q e same-write)
+
+  pub refa-stored : refaStored (channelBytes ch ++ q) x (t - 3) ≡ channelBytes (after cx ch (row-record (Refa x))) ++ q
+  unfolding refaStored after afterPacket trackNext traits rowTraits bankNext bankBy bankTag instant figureOf lastOfChannel loads numbersOf
+  refa-stored =
+      let v : List ℕ = bytes 4 (t - 3) in
+      row-stored _ (t - 3) (on (640 + 2 * x) (bytes 2 0xFFFF) (on (4 * x) v (by-numbers ch q i) (put-opened _ (t - 3) x l)) (put-tag _ 0xFFFF x l))
+      ∙ layout-ext _ (nextNumbers cx ch (row-record (Refa x)) q)
+      (λ i m. pick (eqb i x) (record { 0 = t }) (trackOf ch i .opened))
+      (λ i m. refl) (λ i m. refl) (λ i m. refl) (λ i m. refl) (λ i m. tag-pick (eqb i x) Refresh (trackOf ch i .bank)) refl refl refl refl refl
+      (rw (buffer-waiting (ch .buffer), d)) (rw (buffer-waiting (ch .buffer))) refl
+      ∙ sym (next-bytes cx ch (row-record (Refa x)) q e same-write)
+
+  -- PRER and REFP to a bank whose neighbours are closed: what it closes is its bank alone
+  abbrev pub SidesClosed : Type 0
+  SidesClosed = (y : ℕ) → y < 32 → near cx x y ≡ true → eqb y x ≡ false → stateOf ch y ≡ Closed
+
+  only-own : SidesClosed → (y : ℕ) → y < 32 → (eqb y x || (near cx x y && not (isClosed (stateOf ch y)))) ≡ eqb y x
+  unfolding isClosed
+  only-own shut y m = go (eqb y x) refl (near cx x y) refl
+    where
+      go : (a : Bool) → eqb y x ≡ a → (b : Bool) → near cx x y ≡ b → (a || (b && not (isClosed (stateOf ch y)))) ≡ a
+      go true u b w = refl
+      go false u false w = refl
+      go false u true w = rw (shut y m w u)
+
+  tag-own : SidesClosed → (y : ℕ) → y < 32 → cond (eqb y x) 0 (bankTag (stateOf ch y)) ≡ bankTag (cond (near cx x y) Closed (stateOf ch y))
+  unfolding bankTag
+  tag-own shut y m = go (eqb y x) refl (cx .nbr x y) refl
+    where
+      go : (a : Bool) → eqb y x ≡ a → (b : Bool) → cx .nbr x y ≡ b → cond a 0 (bankTag (stateOf ch y)) ≡ bankTag (cond (a || b) Closed (stateOf ch y))
+      go true u b w = refl
+      go false u true w = rw (shut y m (rw (u, w)) u)
+      go false u false w = refl
+
+  pub prer-stored : SidesClosed → closeStored (channelBytes ch ++ q) x (t - 3) ≡ channelBytes (after cx ch (row-record (Prer x))) ++ q
+  unfolding closeStored after afterPacket trackNext traits rowTraits bankNext bankBy instant figureOf lastOfChannel loads numbersOf
+  prer-stored shut =
+      let v : List ℕ = bytes 4 (t - 3) in
+      row-stored _ (t - 3) (on 716 v (on (640 + 2 * x) (bytes 2 0) (on (256 + 4 * x) v (by-numbers ch q i) (put-pre _ (t - 3) x l)) (put-tag _ 0 x l)) (put-716 _ (t - 3)))
+      ∙ layout-ext _ (nextNumbers cx ch (row-record (Prer x)) q) (λ i m. refl) (λ i m. refl)
+      (λ i m. rw (only-own shut i m) (pick (eqb i x) (record { 0 = t }) (trackOf ch i .pre)))
+      (λ i m. refl) (λ i m. refl) (tag-own shut) refl refl refl refl refl
+      (rw (buffer-waiting (ch .buffer), d)) (rw (buffer-waiting (ch .buffer))) refl
+      ∙ sym (next-bytes cx ch (row-record (Prer x)) q e same-write)
+
+  pub refp-stored : SidesClosed → closeStored (channelBytes ch ++ q) x (t - 3) ≡ channelBytes (after cx ch (row-record (Refp x))) ++ q
+  unfolding closeStored after afterPacket trackNext traits rowTraits bankNext bankBy instant figureOf lastOfChannel loads numbersOf
+  refp-stored shut =
+      let v : List ℕ = bytes 4 (t - 3) in
+      row-stored _ (t - 3) (on 716 v (on (640 + 2 * x) (bytes 2 0) (on (256 + 4 * x) v (by-numbers ch q i) (put-pre _ (t - 3) x l)) (put-tag _ 0 x l)) (put-716 _ (t - 3)))
+      ∙ layout-ext _ (nextNumbers cx ch (row-record (Refp x)) q) (λ i m. refl) (λ i m. refl)
+      (λ i m. rw (only-own shut i m) (pick (eqb i x) (record { 0 = t }) (trackOf ch i .pre)))
+      (λ i m. refl) (λ i m. refl) (tag-own shut) refl refl refl refl refl
+      (rw (buffer-waiting (ch .buffer), d)) (rw (buffer-waiting (ch .buffer))) refl
+      ∙ sym (next-bytes cx ch (row-record (Refp x)) q e same-write)
+
+  -- RD
+  pub rd-stored : (c m : ℕ) → rdStored (channelBytes ch ++ q) x (t - 3) ≡ channelBytes (after cx ch (ColAt (record { 0 = t }) (Rd x c m))) ++ q
+  unfolding rdStored after afterPacket afterRetire leaving trackNext traits colTraits bankNext instant figureOf lastOfChannel loads numbersOf
+  rd-stored c m =
+      let v : List ℕ = bytes 4 (t - 3) in
+      let r : Record = ColAt (record { 0 = t }) (Rd x c m) in
+      col-stored _ (t - 3) (on 720 v (on (384 + 4 * x) v (by-numbers ch q i) (put-rd _ (t - 3) x l)) (put-720 _ (t - 3)))
+      ∙ layout-ext _ (nextNumbers cx ch r q) (λ i m. refl) (λ i m. refl) (λ i m. refl)
+      (λ i m. pick (eqb i x) (record { 0 = t }) (trackOf ch i .rd))
+      (λ i m. refl) (λ i m. refl) refl refl refl refl refl
+      (rw (buffer-waiting (ch .buffer), d)) (rw (buffer-waiting (ch .buffer))) refl
+      ∙ sym (next-bytes cx ch r q e same-write)
+
+-- ---- a retire
+
+module _ (ch : Channel) (q : List ℕ) (e : length (ch .banks) ≡ 32) (w : Write) (z : ch .buffer ≡ One w) (t : ℕ) where
+  retired-track : (i : ℕ) → i < 32 → trackOf (afterRetire t (some w) ch) i ≡ trackRetired t w i (trackOf ch i)
+  unfolding afterRetire
+  retired-track i m = getD-imap (trackRetired t w) (ch .banks) i idle idle (omega arith)
+
+  -- the waiting write leaves
+  pub retire-stored : w .bank < 32 → w .column < 256 → ch .due ≡ false
+      → emptyStored (retireStored (channelBytes ch ++ q) (w .bank) (t - 3)) ≡ channelBytes (afterRetire t (some w) ch) ++ q
+  unfolding emptyStored retireStored numbersOf countNumber writeNumber afterRetire trackRetired figureOf lastOfChannel bufferOf waitingOf
+  retire-stored l c d =
+      let i : WriteIn (ch .buffer) = rw z (omega arith, c) in
+      let then : Channel = afterRetire t (some w) ch in
+      on 736 (bytes 8 0) (on 728 (bytes 8 0) (on (512 + 4 * w .bank) (bytes 4 (t - 3)) (by-numbers ch q i) (put-retire _ (t - 3) (w .bank) l)) (put-count _ 0)) (put-write _ 0)
+      ∙ layout-ext _ (numbersOf then q)
+      (λ i m. sym (ap (λ (k : BankTrack). k .opened .0 - 3) (retired-track i m)))
+      (λ i m. sym (ap (λ (k : BankTrack). k .act .0 - 3) (retired-track i m)))
+      (λ i m. sym (ap (λ (k : BankTrack). k .pre .0 - 3) (retired-track i m)))
+      (λ i m. sym (ap (λ (k : BankTrack). k .rd .0 - 3) (retired-track i m)))
+      (λ i m. pick (eqb i (w .bank)) (record { 0 = t }) (trackOf ch i .retire) ∙ sym (ap (λ (k : BankTrack). k .retire .0 - 3) (retired-track i m)))
+      (λ i m. sym (ap (λ (k : BankTrack). bankTag (k .bank)) (retired-track i m)))
+      refl refl refl refl refl
+      (rw (z, d)) (rw z) refl
+      ∙ sym (by-numbers then q (rw z tt))
+
+-- ---- NOCOP and WR, once the waiting write has left; D
+
+module _ (cx : Context) (ch : Channel) (q : List ℕ) (e : length (ch .banks) ≡ 32) (z : ch .buffer ≡ Empty) (d : ch .due ≡ false) (t : ℕ) where
+  nothing-in : WriteIn (ch .buffer)
+  nothing-in = rw z tt
+
+  pub nocop-stored : (m : ℕ) → colStored (channelBytes ch ++ q) (t - 3) ≡ channelBytes (afterPacket cx ch (ColAt (record { 0 = t }) (Nocop m))) ++ q
+  unfolding afterPacket trackNext traits colTraits bankNext instant figureOf lastOfChannel loads numbersOf bufferOf waitingOf
+  nocop-stored m =
+      let r : Record = ColAt (record { 0 = t }) (Nocop m) in
+      col-stored _ (t - 3) (by-numbers ch q nothing-in)
+      ∙ layout-ext _ (nextNumbers cx ch r q) (λ i m. refl) (λ i m. refl) (λ i m. refl) (λ i m. refl) (λ i m. refl) (λ i m. refl) refl refl refl refl refl
+      (rw (z, d)) (rw z) refl
+      ∙ sym (next-bytes cx ch r q e (rw z tt))
+
+  module _ (x c m : ℕ) (l : x < 32) (k : c < 256) where
+    abbrev wr-record : Record
+    wr-record = ColAt (record { 0 = t }) (Wr x c m)
+
+    -- where its data are due
+    pub wr-stored : colStored (writeStored (channelBytes ch ++ q) 257 x c (t - 3)) (t - 3) ≡ channelBytes (afterPacket cx ch wr-record) ++ q
+    unfolding writeStored afterPacket trackNext traits colTraits bankNext instant figureOf lastOfChannel loads numbersOf bufferOf waitingOf countNumber writeNumber
+    wr-stored =
+        col-stored _ (t - 3) (on 736 (bytes 8 (writeWord x c (t - 3))) (on 728 (bytes 8 257) (by-numbers ch q nothing-in) (put-count _ 257)) (put-write _ (writeWord x c (t - 3))))
+        ∙ layout-ext _ (nextNumbers cx ch wr-record q) (λ i m. refl) (λ i m. refl) (λ i m. refl) (λ i m. refl) (λ i m. refl) (λ i m. refl) refl refl refl refl refl
+        (rw z) (rw z) refl
+        ∙ sym (next-bytes cx ch wr-record q e (rw z (omega arith, k)))
+
+    -- where its D comes with it
+    pub loaded-stored : colStored (writeStored (channelBytes ch ++ q) 1 x c (t - 3)) (t - 3) ≡ channelBytes (afterData (afterPacket cx ch wr-record)) ++ q
+    unfolding writeStored afterPacket afterData trackNext traits colTraits bankNext instant figureOf lastOfChannel loads numbersOf bufferOf waitingOf countNumber writeNumber
+    loaded-stored =
+        let then : Channel = afterData (afterPacket cx ch wr-record) in
+        col-stored _ (t - 3) (on 736 (bytes 8 (writeWord x c (t - 3))) (on 728 (bytes 8 1) (by-numbers ch q nothing-in) (put-count _ 1)) (put-write _ (writeWord x c (t - 3))))
+        ∙ layout-ext _ (numbersOf then q)
+        (λ i m. sym (ap (λ (k : BankTrack). k .opened .0 - 3) (track-next cx ch wr-record q e i m)))
+        (λ i m. sym (ap (λ (k : BankTrack). k .act .0 - 3) (track-next cx ch wr-record q e i m)))
+        (λ i m. sym (ap (λ (k : BankTrack). k .pre .0 - 3) (track-next cx ch wr-record q e i m)))
+        (λ i m. sym (ap (λ (k : BankTrack). k .rd .0 - 3) (track-next cx ch wr-record q e i m)))
+        (λ i m. sym (ap (λ (k : BankTrack). k .retire .0 - 3) (track-next cx ch wr-record q e i m)))
+        (λ i m. sym (ap (λ (k : BankTrack). bankTag (k .bank)) (track-next cx ch wr-record q e i m)))
+        refl refl refl refl refl
+        (rw z) (rw z) refl
+        ∙ sym (by-numbers then q (rw z (omega arith, k)))
+
+pub data-stored : (ch : Channel) (q : List ℕ) (w : Write) → ch .buffer ≡ One w → w .bank < 256 → w .column < 256
+    → splice (channelBytes ch ++ q) 728 (bytes 8 1) ≡ channelBytes (afterData ch) ++ q
+unfolding afterData numbersOf countNumber writeNumber
+data-stored ch q w z l c =
+    on 728 (bytes 8 1) (by-numbers ch q (rw z (l, c))) (put-count _ 1)
+    ∙ layout-ext _ (numbersOf (afterData ch) q) (λ i m. refl) (λ i m. refl) (λ i m. refl) (λ i m. refl) (λ i m. refl) (λ i m. refl) refl refl refl refl refl
+    (rw z) refl refl
+    ∙ sym (by-numbers (afterData ch) q (rw z (l, c)))

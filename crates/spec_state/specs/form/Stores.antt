@@ -1,0 +1,44 @@
+-- What the code stores into the bytes of a state for each packet, in stored instants (less 3). The laws in proofs/ say that this is
+-- the state after the packet.
+-- Assumes nothing.
+use Prim.Native.Nat.{ℕ, _+_, _*_}
+use mathlib.Core.List.{List}
+use Rattle.num.specs.Bytes.{bytes, splice}
+use Rattle.spec_state.specs.form.Layout.{writeWord}
+
+-- four bytes stored
+abbrev pub put : List ℕ → ℕ → ℕ → List ℕ
+put b at t = splice b at (bytes 4 t)
+
+-- the last instants after a ROW packet, after a COL packet
+unfoldable pub rowStored : List ℕ → ℕ → List ℕ
+rowStored b t = put (put b 704 t) 708 t
+
+unfoldable pub colStored : List ℕ → ℕ → List ℕ
+colStored b t = put (put b 704 t) 712 t
+
+-- ACT, REFA, PRER or REFP to a bank whose neighbours are closed
+unfoldable pub actStored : List ℕ → ℕ → ℕ → ℕ → List ℕ
+actStored b x row t = rowStored (splice (put (put b (4 * x) t) (128 + 4 * x) t) (640 + 2 * x) (bytes 2 (row + 1))) t
+
+unfoldable pub refaStored : List ℕ → ℕ → ℕ → List ℕ
+refaStored b x t = rowStored (splice (put b (4 * x) t) (640 + 2 * x) (bytes 2 0xFFFF)) t
+
+unfoldable pub closeStored : List ℕ → ℕ → ℕ → List ℕ
+closeStored b x t = rowStored (put (splice (put b (256 + 4 * x) t) (640 + 2 * x) (bytes 2 0)) 716 t) t
+
+-- RD
+unfoldable pub rdStored : List ℕ → ℕ → ℕ → List ℕ
+rdStored b x t = colStored (put (put b (384 + 4 * x) t) 720 t) t
+
+-- a retire to bank h
+unfoldable pub retireStored : List ℕ → ℕ → ℕ → List ℕ
+retireStored b h t = put b (512 + 4 * h) t
+
+-- no write waits
+unfoldable pub emptyStored : List ℕ → List ℕ
+emptyStored b = splice (splice b 728 (bytes 8 0)) 736 (bytes 8 0)
+
+-- a write waits: count is 1, or 257 where its data are due
+unfoldable pub writeStored : List ℕ → ℕ → ℕ → ℕ → ℕ → List ℕ
+writeStored b count x c t = splice (splice b 728 (bytes 8 count)) 736 (bytes 8 (writeWord x c t))
