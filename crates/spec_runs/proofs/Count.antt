@@ -31,7 +31,7 @@ use Rattle.spec_model.specs.declared.Stepped.the-variants.{Refused, Read}
 use Rattle.spec_model.specs.Store.{governs, onesUpTo, ones, storeLength}
 use Rattle.spec_model.specs.Model.{freshModel, retireMask, retiredWrite, modelNext, readOf}
 use Rattle.spec_model.specs.Step.{retireAnswer, passedAnswer, recordAnswer, readAnswer, stepAnswer, isTaken, taken, modelBy, stepModel, stepStore}
-use Rattle.spec_runs.specs.Count.{writtenBy, maskIf, masksAfter, retiredMasks, onesOf, ModelCall, recordSaid, writtenAll, takenAll}
+use Rattle.spec_runs.specs.Count.{writtenBy, maskIf, maskAt, masksAfter, retiredMasks, onesOf, ModelCall, recordSaid, writtenAll, takenAll}
 use Rattle.spec_runs.proofs.PlainRun.{maskBy, masksAll}
 
 pub ones-append : (a b : List ℕ) → onesOf (a ++ b) ≡ onesOf a + onesOf b
@@ -51,9 +51,9 @@ module _ (cx : Context) where
   abbrev pub Waits : ModelState → List Record → Type 0
   Waits m es = waitingOf (m .channel .buffer) ≡ waitingAfter cx es
 
-  mask-is : (m : ModelState) (es : List Record) → Waits m es → (r : Record) → maskIf (leaving cx (waitingAfter cx es) r) (retireMask r) ≡ maskBy cx m r
-  unfolding retiredWrite
-  mask-is m es e r = rw e
+  mask-is : (m : ModelState) (es : List Record) → Waits m es → (r : Record) → maskAt cx es r ≡ maskBy cx m r
+  unfolding maskAt retiredWrite
+  mask-is m es e r = ap (λ (ws : List Write). maskIf (leaving cx ws r) (retireMask r)) (sym e)
 
   waits-next : (m : ModelState) (es : List Record) → Waits m es → (r : Record) → Waits (modelNext cx m r) (r ∷ es)
   unfolding modelNext waitingAfter

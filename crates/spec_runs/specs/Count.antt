@@ -32,10 +32,14 @@ abbrev pub maskIf : Option Write → ℕ → List ℕ
 maskIf none mask = []
 maskIf (some w) mask = mask ∷ []
 
--- the masks of the retiring packets among the records l, in order, after the records es, newest first; FFFF stands for M = 0
+-- the mask of a record that retires a write, after the records es, newest first; FFFF stands for M = 0
+unfoldable pub maskAt : Context → List Record → Record → List ℕ
+maskAt cx es r = maskIf (leaving cx (waitingAfter cx es) r) (retireMask r)
+
+-- those of the records l, in order
 unfoldable pub masksAfter : Context → List Record → List Record → List ℕ
 masksAfter cx es [] = []
-masksAfter cx es (r ∷ l) = maskIf (leaving cx (waitingAfter cx es) r) (retireMask r) ++ masksAfter cx (r ∷ es) l
+masksAfter cx es (r ∷ l) = maskAt cx es r ++ masksAfter cx (r ∷ es) l
 
 -- "all retired masks" of a packet list
 abbrev pub retiredMasks : Context → List Record → List ℕ
