@@ -91,12 +91,12 @@ unfoldable pub driven : Context → List ℕ → Drive → Drive
 driven cx [] x = x
 driven cx (room ∷ rooms) x = driven cx rooms (called cx room x (x .pending))
 
--- how many of the calls have 16 bytes, "room for [an] answer" of any record
+-- how many of the calls have 16 bytes, which is "room for [the] answer" of any record
 unfoldable pub wideCalls : List ℕ → ℕ
 wideCalls [] = 0
 wideCalls (room ∷ rooms) = cond (leb 16 room) 1 0 + wideCalls rooms
 
--- how many of the records are RD, which "returns the dualoct"
+-- "The model returns the dualoct on RD": how many of the records are RD
 unfoldable pub readsIn : List Record → ℕ
 readsIn [] = 0
 readsIn (r ∷ l) = cond (has (traits r .reads)) 1 0 + readsIn l
