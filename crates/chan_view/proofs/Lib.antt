@@ -1,0 +1,4 @@
+pub mod NearLaws
+pub mod PlaceLaws
+pub mod ViewLaws
+pub mod BoundLaws

@@ -1,0 +1,134 @@
+-- Views say what records and the write buffer are to the rules.
+-- Assumes nothing.
+use Prim.Native.Nat.{ℕ, _+_}
+use mathlib.Core.Path.{_≡_, refl, ap, sym, _∙_}
+use mathlib.Core.Bool.{Bool, true, false, not, _&&_, _||_, or-false}
+use mathlib.Core.Option.{Option, none, some}
+use native.Mathlib.Omega.{arith}
+use lib.Dec.{leb}
+use Rattle.settings.specs.declared.Settings.{Settings}
+use Rattle.settings.specs.declared.PacketAt.{PacketAt}
+use Rattle.packet.specs.declared.RowPacket.{RowPacket}
+use Rattle.packet.specs.declared.RowPacket.the-variants.{Act, Prer, Refa, Refp}
+use Rattle.packet.specs.declared.ColPacket.{ColPacket}
+use Rattle.packet.specs.declared.ColPacket.the-variants.{Nocop, Wr, Rd}
+use Rattle.record.specs.declared.Record.{Record}
+use Rattle.record.specs.declared.Record.the-variants.{RowAt, ColAt, DataOf}
+use Rattle.spec_rules.specs.declared.Write.{Write}
+use Rattle.spec_rules.specs.declared.Buffer.{Buffer}
+use Rattle.spec_rules.specs.declared.Buffer.the-variants.{Empty, One}
+use Rattle.spec_rules.specs.declared.Channel.{Channel}
+use Rattle.chan_view.specs.declared.View.{View}
+use Rattle.chan_view.specs.declared.Seen.{Seen}
+use Rattle.chan_view.specs.declared.Seen.the-variants.{Packet, Data}
+use Rattle.chan_view.specs.declared.Held.{Held}
+use Rattle.spec_rules.specs.Neighbour.{contextOf}
+use Rattle.spec_rules.specs.Packets.{Traits, traits, rowTraits, colTraits, instant, isPacket}
+use Rattle.spec_rules.specs.History.{only, onlyWrite, first, bankOf, leaving, anyWrite}
+use Rattle.spec_rules.specs.Rules.{dataDelay, waited}
+use Rattle.spec_rules.specs.Channel.{waitingOf, newestDue, dueOf}
+use Rattle.chan_view.specs.form.View.{rowView, colView, seenOf, heldOf, leaves, delayOf}
+
+-- the traits that a view stands for
+abbrev pub traitsOf : View → Traits
+traitsOf v =
+    record {
+      opens = only (v .opens) (some (v .bank));
+      acts = only (v .acts) (some (v .bank));
+      precharges = only (v .precharges) (some (v .bank));
+      reads = only (v .reads) (some (v .bank));
+      writes = only (v .writes) (some (v .bank));
+      retires = none;
+      row = v .row;
+      col = v .col;
+      notRead = v .other;
+      masked = v .masked;
+    }
+
+-- record r is a packet with view v
+pub record Shows (r : Record) (v : View) : Type 0 where
+  pub traits-of : traits r ≡ traitsOf v
+  pub instant-of : instant r ≡ v .at .0
+  pub packet-of : isPacket r ≡ true
+  pub delay-of : (s : Settings) → dataDelay (contextOf s) r ≡ delayOf s v
+
+pub row-shows : (t : PacketAt) (p : RowPacket) → Shows (RowAt t p) (rowView t p)
+unfolding traits rowTraits instant isPacket dataDelay rowView
+row-shows t (Act b r) = record { traits-of = refl; instant-of = refl; packet-of = refl; delay-of = λ s. refl }
+row-shows t (Prer b) = record { traits-of = refl; instant-of = refl; packet-of = refl; delay-of = λ s. refl }
+row-shows t (Refa b) = record { traits-of = refl; instant-of = refl; packet-of = refl; delay-of = λ s. refl }
+row-shows t (Refp b) = record { traits-of = refl; instant-of = refl; packet-of = refl; delay-of = λ s. refl }
+
+pub col-shows : (t : PacketAt) (p : ColPacket) → Shows (ColAt t p) (colView t p)
+unfolding traits colTraits instant isPacket dataDelay colView contextOf
+col-shows t (Nocop m) = record { traits-of = refl; instant-of = refl; packet-of = refl; delay-of = λ s. refl }
+col-shows t (Wr b c m) = record { traits-of = refl; instant-of = refl; packet-of = refl; delay-of = λ s. refl }
+col-shows t (Rd b c m) = record { traits-of = refl; instant-of = refl; packet-of = refl; delay-of = λ s. refl }
+
+pub seen-shows : (r : Record) (v : View) → seenOf r ≡ Packet v → Shows r v
+unfolding seenOf
+seen-shows (RowAt t p) v e = let q : rowView t p ≡ v = cc in rw q at (row-shows t p)
+seen-shows (ColAt t p) v e = let q : colView t p ≡ v = cc in rw q at (col-shows t p)
+seen-shows (DataOf t d) v e = absurd (let z : _≡_ {A = ℕ} 0 1 = cc in omega arith)
+
+-- ---- the write buffer
+
+-- the write that leaves, by whether one does
+module _ (s : Settings) (b : Buffer) (due : Bool) where
+  abbrev pub oldest : Bool → Option Write
+  oldest leaves = onlyWrite leaves (first (waitingOf b))
+
+  oldest-is : (c : Bool) → oldest c ≡ oldest (heldOf b due .waits && c)
+  unfolding waitingOf heldOf
+  oldest-is c = go b c
+    where
+      go : (b : Buffer) (c : Bool) → onlyWrite c (first (waitingOf b)) ≡ onlyWrite (heldOf b due .waits && c) (first (waitingOf b))
+      go Empty true = refl
+      go Empty false = refl
+      go (One w) c = refl
+
+  oldest-bank : (c : Bool) → bankOf (oldest (heldOf b due .waits && c)) ≡ only (heldOf b due .waits && c) (some (heldOf b due .bank))
+  unfolding waitingOf heldOf
+  oldest-bank c = go b c
+    where
+      go : (b : Buffer) (c : Bool) → bankOf (onlyWrite (heldOf b due .waits && c) (first (waitingOf b))) ≡ only (heldOf b due .waits && c) (some (heldOf b due .bank))
+      go Empty c = refl
+      go (One w) true = refl
+      go (One w) false = refl
+
+  oldest-waited : (c : Bool) (t : ℕ) → waited (contextOf s) (oldest (heldOf b due .waits && c)) t ≡ (not (heldOf b due .waits && c) || leb (heldOf b due .at .0 + s .rtr) t)
+  unfolding waitingOf heldOf contextOf
+  oldest-waited c t = go b c
+    where
+      go : (b : Buffer) (c : Bool) → waited (contextOf s) (onlyWrite (heldOf b due .waits && c) (first (waitingOf b))) t ≡ (not (heldOf b due .waits && c) || leb (heldOf b due .at .0 + s .rtr) t)
+      go Empty c = refl
+      go (One w) true = refl
+      go (One w) false = refl
+
+  -- the write that a packet retires, its bank, and whether tRTR has passed
+  module _ (r : Record) (v : View) (h : Shows r v) where
+    pub leaving-is : leaving (contextOf s) (waitingOf b) r ≡ oldest (leaves s (heldOf b due) v)
+    unfolding leaving
+    leaving-is = ap oldest (ap (λ (k : Traits). k .notRead) (h .traits-of)) ∙ oldest-is (v .other)
+
+    pub leaving-bank : bankOf (leaving (contextOf s) (waitingOf b) r) ≡ only (leaves s (heldOf b due) v) (some (heldOf b due .bank))
+    leaving-bank = ap bankOf leaving-is ∙ oldest-bank (v .other)
+
+    pub leaving-waited : (t : ℕ) → waited (contextOf s) (leaving (contextOf s) (waitingOf b) r) t ≡ (not (leaves s (heldOf b due) v) || leb (heldOf b due .at .0 + s .rtr) t)
+    leaving-waited t = ap (λ (o : Option Write). waited (contextOf s) o t) leaving-is ∙ oldest-waited (v .other) t
+
+-- the data that are due
+pub held-due : (s : Settings) (ch : Channel) → dueOf (contextOf s) ch ≡ only (heldOf (ch .buffer) (ch .due) .due) (some (heldOf (ch .buffer) (ch .due) .at .0 + s .cwd))
+unfolding dueOf waitingOf heldOf contextOf
+held-due s ch = go (ch .buffer) (ch .due)
+  where
+    go : (b : Buffer) (due : Bool) → only due (newestDue (contextOf s) (waitingOf b)) ≡ only (heldOf b due .due) (some (heldOf b due .at .0 + s .cwd))
+    go Empty true = refl
+    go Empty false = refl
+    go (One w) due = refl
+
+-- a test on the bank of a waiting write
+pub held-any : (b : Buffer) (due : Bool) (p : ℕ → Bool) → anyWrite (λ w. p (w .bank)) (waitingOf b) ≡ (heldOf b due .waits && p (heldOf b due .bank))
+unfolding waitingOf heldOf
+held-any Empty due p = refl
+held-any (One w) due p = or-false (p (w .bank))

@@ -1,0 +1,44 @@
+-- Banks beside a bank and their places in the array of all banks, as code computes them. Number 32 stands for no bank.
+-- Assumes nothing.
+use Prim.Native.Nat.{ℕ, _+_, _-_, _%_}
+use mathlib.Core.Bool.{cond}
+use mathlib.Core.List.{List}
+use lib.Dec.{eqb, ltb}
+use lib.ListN.{getD}
+use Rattle.settings.specs.declared.Settings.{Settings}
+use Rattle.spec_rules.specs.declared.BankTrack.{BankTrack}
+use Rattle.spec_rules.specs.Channel.{idle}
+use Rattle.chan_view.specs.declared.Tracks.{Tracks}
+
+-- ---- neighbours, where 15 and 16 are none
+
+unfoldable pub lowOf : Settings → ℕ → ℕ
+lowOf s b = cond (eqb (b % 16) 0) 32 (b - 1)
+
+unfoldable pub highOf : Settings → ℕ → ℕ
+highOf s b = cond (eqb (b % 16) 15) 32 (b + 1)
+
+-- the first and the last of a bank and its neighbours
+unfoldable pub firstNear : Settings → ℕ → ℕ
+firstNear s x = cond (eqb (x % 16) 0) x (x - 1)
+
+unfoldable pub lastNear : Settings → ℕ → ℕ
+lastNear s x = cond (eqb (x % 16) 15) x (x + 1)
+
+-- ---- places
+
+-- an index of the array for a bank, 0 where there is no such bank
+abbrev pub slotOf : ℕ → ℕ
+slotOf b = cond (ltb b 32) b 0
+
+-- what was read at that index, or idle where there is no such bank
+abbrev pub heldAt : ℕ → BankTrack → BankTrack
+heldAt b t = cond (ltb b 32) t idle
+
+-- the tracks that a packet to bank b concerns where a write waits in bank w
+abbrev pub tracksOf : Settings → List BankTrack → ℕ → ℕ → Tracks
+tracksOf s l b w = record { own = getD l b idle; low = getD l (lowOf s b) idle; high = getD l (highOf s b) idle; held = getD l w idle }
+
+-- the same from what stands at the indices of these banks
+abbrev pub aroundOf : Settings → ℕ → ℕ → BankTrack → BankTrack → BankTrack → BankTrack → Tracks
+aroundOf s b w own low high held = record { own = heldAt b own; low = heldAt (lowOf s b) low; high = heldAt (highOf s b) high; held = heldAt w held }

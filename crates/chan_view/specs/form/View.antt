@@ -1,0 +1,111 @@
+-- Records and the write buffer as code reads them: flags with one bank, and number 32 for no bank.
+-- Assumes nothing.
+use Prim.Native.Nat.{ℕ}
+use mathlib.Core.Bool.{Bool, true, false, _&&_, cond}
+use Rattle.settings.specs.declared.Settings.{Settings}
+use Rattle.settings.specs.declared.PacketAt.{PacketAt}
+use Rattle.packet.specs.declared.RowPacket.{RowPacket}
+use Rattle.packet.specs.declared.RowPacket.the-variants.{Act, Prer, Refa, Refp}
+use Rattle.packet.specs.declared.ColPacket.{ColPacket}
+use Rattle.packet.specs.declared.ColPacket.the-variants.{Nocop, Wr, Rd}
+use Rattle.record.specs.declared.Record.{Record}
+use Rattle.record.specs.declared.Record.the-variants.{RowAt, ColAt, DataOf}
+use Rattle.spec_rules.specs.declared.Bank.{Bank}
+use Rattle.spec_rules.specs.declared.Bank.the-variants.{Closed, Open, Refresh}
+use Rattle.spec_rules.specs.declared.Buffer.{Buffer}
+use Rattle.spec_rules.specs.declared.Buffer.the-variants.{Empty, One}
+use Rattle.chan_view.specs.declared.View.{View}
+use Rattle.chan_view.specs.declared.Seen.{Seen}
+use Rattle.chan_view.specs.declared.Seen.the-variants.{Packet, Data}
+use Rattle.chan_view.specs.declared.Held.{Held}
+use Rattle.spec_rules.specs.Packets.{carries}
+use Rattle.spec_rules.specs.Channel.{never}
+
+-- ---- records
+
+-- a packet at an instant that is no command
+abbrev pub plain : PacketAt → View
+plain t =
+    record {
+      at = t;
+      bank = 0;
+      column = 0;
+      state = Closed;
+      opens = false;
+      acts = false;
+      precharges = false;
+      reads = false;
+      writes = false;
+      row = false;
+      col = false;
+      other = false;
+      masked = false;
+    }
+
+-- a ROW packet to a bank
+abbrev pub rowTo : PacketAt → ℕ → Bank → Bool → Bool → Bool → View
+rowTo t b state opens acts precharges =
+    record {
+      at = t;
+      bank = b;
+      column = 0;
+      state = state;
+      opens = opens;
+      acts = acts;
+      precharges = precharges;
+      reads = false;
+      writes = false;
+      row = true;
+      col = false;
+      other = false;
+      masked = false;
+    }
+
+unfoldable pub rowView : PacketAt → RowPacket → View
+rowView t (Act b r) = rowTo t b (Open r) true true false
+rowView t (Prer b) = rowTo t b Closed false false true
+rowView t (Refa b) = rowTo t b Refresh true false false
+rowView t (Refp b) = rowTo t b Closed false false true
+
+-- a COL packet
+abbrev pub colTo : PacketAt → ℕ → ℕ → Bool → Bool → Bool → ℕ → View
+colTo t b c reads writes other mask =
+    record {
+      at = t;
+      bank = b;
+      column = c;
+      state = Closed;
+      opens = false;
+      acts = false;
+      precharges = false;
+      reads = reads;
+      writes = writes;
+      row = false;
+      col = true;
+      other = other;
+      masked = carries mask;
+    }
+
+unfoldable pub colView : PacketAt → ColPacket → View
+colView t (Nocop m) = colTo t 0 0 false false true m
+colView t (Wr b c m) = colTo t b c false true true m
+colView t (Rd b c m) = colTo t b c true false false m
+
+unfoldable pub seenOf : Record → Seen
+seenOf (RowAt t p) = Packet (rowView t p)
+seenOf (ColAt t p) = Packet (colView t p)
+seenOf (DataOf t d) = Data t
+
+-- how long after a packet its data come
+abbrev pub delayOf : Settings → View → ℕ
+delayOf s v = cond (v .reads) (s .cac) (cond (v .writes) (s .cwd) 0)
+
+-- ---- the write buffer
+
+unfoldable pub heldOf : Buffer → Bool → Held
+heldOf Empty due = record { waits = false; due = false; bank = 32; at = never }
+heldOf (One w) due = record { waits = true; due = due; bank = w .bank; at = w .at }
+
+-- whether a packet retires the waiting write
+abbrev pub leaves : Settings → Held → View → Bool
+leaves s h v = h .waits && v .other

@@ -1,0 +1,53 @@
+// What a record, the write buffer and the banks are to the rules, in the form that code tests: a record as flags with one bank, the
+// tracks of the banks that it concerns, the bounds that last instants ask.
+pub mod banks;
+pub mod bounds;
+pub mod neighbours;
+pub mod views;
+
+use settings::DataAt;
+use settings::PacketAt;
+use spec_rules::Bank;
+use spec_rules::BankTrack;
+
+// What a packet is to the rules: its instant, the bank and column that it names (0: none) and what it makes of that bank; then
+// whether it opens the bank (ACT, REFA), is an ACT, precharges (PRER, REFP), reads (RD), writes (WR), takes the ROW pins or
+// the COL pins, is a COL packet other than RD, and has M = 1.
+pub struct View {
+    pub at: PacketAt,
+    pub bank: u32,
+    pub column: u32,
+    pub state: Bank,
+    pub opens: bool,
+    pub acts: bool,
+    pub precharges: bool,
+    pub reads: bool,
+    pub writes: bool,
+    pub row: bool,
+    pub col: bool,
+    pub other: bool,
+    pub masked: bool,
+}
+
+// A record: a packet, or data at their own instant.
+pub enum Seen {
+    Packet(View),
+    Data(DataAt),
+}
+
+// The write buffer in numbers: whether a write waits, whether its data are due, its bank and the instant of its WR.
+pub struct Held {
+    pub waits: bool,
+    pub due: bool,
+    pub bank: u32,
+    pub at: PacketAt,
+}
+
+// The tracks of the banks that a packet concerns: the bank that it names, the neighbours below and above that, and the bank
+// of the waiting write; idle where there is none.
+pub struct Tracks {
+    pub own: BankTrack,
+    pub low: BankTrack,
+    pub high: BankTrack,
+    pub held: BankTrack,
+}
