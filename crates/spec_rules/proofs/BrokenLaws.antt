@@ -1,19 +1,21 @@
 -- The rule that is named at a record is the lowest that the record breaks, and every rule holds on a list where no record
 -- breaks one.
 -- Assumes nothing.
-use Prim.Native.Nat.{ℕ, zero, suc, _+_, _-_, _≤_, _<_}
-use mathlib.Core.Path.{_≡_, refl, ap, _∙_}
+use Prim.Native.Nat.{ℕ, zero, suc, _+_, _≤_, _<_}
+use mathlib.Core.Path.{_≡_, refl, sym, ap, _∙_}
 use mathlib.Core.Bool.{Bool, true, false, not}
 use mathlib.Core.List.{List, [], _∷_}
+use mathlib.Core.Logic.{_↔_}
 use lib.Dec.{eqb}
 use lib.ListN.{length, getD}
-use borrow.Author.Tests.{eqb-true, eq-eqb}
+use borrow.Author.Tests.{eqb-true, eqb-false, eq-eqb, ne-eqb}
 use native.Mathlib.Omega.{arith}
-use Rattle.num.proofs.SearchLaws.{all-at, all-intro}
+use Rattle.num.specs.Search.{firstFalse}
+use Rattle.num.proofs.SearchLaws.{all-at, all-intro, first-at, first-before, first-fails}
 use Rattle.record.specs.declared.Record.{Record}
 use Rattle.spec_rules.specs.Neighbour.{Context}
 use Rattle.spec_rules.specs.Rules.{rules}
-use Rattle.spec_rules.specs.Broken.{earlier, recordIn, breaks, lowest, lowestRule, ruleAt, everyRule}
+use Rattle.spec_rules.specs.Broken.{earlier, recordIn, breaksAfter, breaks, LowestBroken, FirstBreach, lowest, lowestRule, ruleAt, firstBroken, everyRule}
 use Rattle.spec_rules.proofs.Bools.{not-both}
 
 -- ---- the number of the first test that fails
@@ -49,32 +51,87 @@ lowest-before n i (false ∷ l) e m h = absurd (omega arith)
 
 -- ---- the rules that a record breaks
 
-module _ (cx : Context) (l : List Record) (j : ℕ) where
-  pub breaks-none : ruleAt cx l j ≡ 0 → (n : ℕ) → breaks cx n l j ≡ false
-  unfolding lowestRule breaks
-  breaks-none e n = ap not (lowest-none 0 (rules cx (earlier l j) (recordIn l j)) e (n - 1))
+module _ (cx : Context) (es : List Record) (r : Record) where
+  pub breaks-none : lowestRule cx es r ≡ 0 → (n : ℕ) → breaksAfter cx n es r ≡ false
+  unfolding lowestRule breaksAfter
+  breaks-none e zero = refl
+  breaks-none e (suc n) = ap not (lowest-none 0 (rules cx es r) e n)
 
-  -- rule n + 1 is named: it is broken, and none before it
-  pub breaks-lowest : (n : ℕ) → ruleAt cx l j ≡ suc n
-      → (breaks cx (suc n) l j ≡ true) × ((m : ℕ) → m < n → breaks cx (suc m) l j ≡ false)
-  unfolding lowestRule breaks
+  -- the rule that is named is broken, and none below it
+  pub breaks-lowest : (n : ℕ) → lowestRule cx es r ≡ suc n → LowestBroken cx es r (suc n)
+  unfolding lowestRule breaksAfter
   breaks-lowest n e =
-      let tests : List Bool = rules cx (earlier l j) (recordIn l j) in
+      let tests : List Bool = rules cx es r in
       let f : lowest 1 tests ≡ suc (0 + n) = e ∙ omega arith in
-      let at : (m : ℕ) → suc m - 1 ≡ m = λ m. omega arith in
-      (rw (at n) (ap not (lowest-fails 0 n tests f)), λ m h. rw (at m) (ap not (lowest-before 0 n tests f m h)))
+      record { broken = ap not (lowest-fails 0 n tests f); none-below = below f }
+    where
+      below : lowest 1 (rules cx es r) ≡ suc (0 + n) → (m : ℕ) → m < suc n → breaksAfter cx m es r ≡ false
+      below f zero h = refl
+      below f (suc m) h = ap not (lowest-before 0 n (rules cx es r) f m (omega arith))
 
--- ---- every rule holds on a list exactly where no record breaks one
+  -- a record that breaks no rule has none named
+  none-named : ((n : ℕ) → breaksAfter cx n es r ≡ false) → lowestRule cx es r ≡ 0
+  none-named f = go (lowestRule cx es r) refl
+    where
+      go : (k : ℕ) → lowestRule cx es r ≡ k → k ≡ 0
+      go zero e = refl
+      go (suc n) e = not-both (breaksAfter cx (suc n) es r) (breaks-lowest n e .broken) (f (suc n))
+
+  -- no two rules are the lowest
+  lowest-same : (n : ℕ) → LowestBroken cx es r n → lowestRule cx es r ≡ n
+  lowest-same n b = go (lowestRule cx es r) refl
+    where
+      go : (k : ℕ) → lowestRule cx es r ≡ k → k ≡ n
+      go zero e = not-both (breaksAfter cx n es r) (b .broken) (breaks-none e n)
+      go (suc k) e =
+          let low = breaks-lowest k e in
+          let a : n < suc k → ⊥ = λ h. not-both (breaksAfter cx n es r) (b .broken) (low .none-below n h) in
+          let c : suc k < n → ⊥ = λ h. not-both (breaksAfter cx (suc k) es r) (low .broken) (b .none-below (suc k) h) in
+          omega arith
+
+  -- the rule that is named, where one is, is the lowest that is broken
+  pub lowest-iff : (n : ℕ) → ((0 < n) × (lowestRule cx es r ≡ n)) ↔ LowestBroken cx es r n
+  unfolding breaksAfter
+  lowest-iff n = (named n, λ b. (some n b, lowest-same n b))
+    where
+      named : (n : ℕ) → (0 < n) × (lowestRule cx es r ≡ n) → LowestBroken cx es r n
+      named zero e = absurd (omega arith)
+      named (suc n) e = breaks-lowest n (e .1)
+
+      some : (n : ℕ) → LowestBroken cx es r n → 0 < n
+      some zero b = not-both false (b .broken) refl
+      some (suc n) b = omega arith
+
+-- ---- the records of a list that break a rule
 
 module _ (cx : Context) (l : List Record) where
+  -- every rule holds on a list exactly where no record breaks one
   pub every-none : everyRule cx l ≡ true → (j : ℕ) → j < length l → (n : ℕ) → breaks cx n l j ≡ false
   unfolding everyRule
-  every-none e j h = breaks-none cx l j (eqb-true _ _ (all-at (λ j. eqb (ruleAt cx l j) 0) (length l) j e h))
+  every-none e j h = breaks-none cx (earlier l j) (recordIn l j) (eqb-true _ _ (all-at (λ j. eqb (ruleAt cx l j) 0) (length l) j e h))
 
   pub none-every : ((j : ℕ) → j < length l → (n : ℕ) → breaks cx n l j ≡ false) → everyRule cx l ≡ true
   unfolding everyRule
-  none-every f = all-intro (λ j. eqb (ruleAt cx l j) 0) (length l) (λ j h. eq-eqb _ _ (go j h (ruleAt cx l j) refl))
+  none-every f = all-intro (λ j. eqb (ruleAt cx l j) 0) (length l) (λ j h. eq-eqb _ _ (none-named cx (earlier l j) (recordIn l j) (f j h)))
+
+  -- the first record that breaks a rule, and the rule that is named there
+  pub breach-iff : (n j : ℕ) → ((firstBroken cx l ≡ j) × (j < length l) × (ruleAt cx l j ≡ n)) ↔ FirstBreach cx l n j
+  unfolding firstBroken
+  breach-iff n j = (named, λ b. (at b, b .within, lowest-iff cx (earlier l j) (recordIn l j) n .1 (b .lowest) .1))
     where
-      go : (j : ℕ) → j < length l → (k : ℕ) → ruleAt cx l j ≡ k → k ≡ 0
-      go j h zero e = refl
-      go j h (suc n) e = not-both (breaks cx (suc n) l j) (breaks-lowest cx l j n e .0) (f j h (suc n))
+      holds : ℕ → Bool
+      holds i = eqb (ruleAt cx l i) 0
+
+      named : (firstFalse holds (length l) ≡ j) × (j < length l) × (ruleAt cx l j ≡ n) → FirstBreach cx l n j
+      named e =
+          let some : ruleAt cx l j ≡ 0 → ⊥ = eqb-false _ _ (rw (e .0) at (first-fails holds (length l) (omega arith))) in
+          record {
+            within = e .1;
+            lowest = lowest-iff cx (earlier l j) (recordIn l j) n .0 (omega arith, e .2);
+            none-before = λ i h. breaks-none cx (earlier l i) (recordIn l i) (eqb-true _ _ (first-before holds (length l) i (omega arith)));
+          }
+
+      at : FirstBreach cx l n j → firstFalse holds (length l) ≡ j
+      at b =
+          let r = lowest-iff cx (earlier l j) (recordIn l j) n .1 (b .lowest) in
+          first-at holds (length l) j (λ i h. eq-eqb _ _ (none-named cx (earlier l i) (recordIn l i) (b .none-before i h))) (b .within) (ne-eqb (ruleAt cx l j) 0 (λ z. omega arith))

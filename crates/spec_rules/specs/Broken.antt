@@ -1,7 +1,8 @@
 -- Which record of a list breaks which rule.
 -- Assumes nothing.
-use Prim.Native.Nat.{ℕ, suc, _-_}
-use mathlib.Core.Bool.{Bool, true, not, cond}
+use Prim.Native.Nat.{ℕ, zero, suc, _<_}
+use mathlib.Core.Path.{_≡_}
+use mathlib.Core.Bool.{Bool, true, false, not, cond}
 use mathlib.Core.List.{List, [], _∷_, reverse}
 use lib.Dec.{eqb}
 use lib.ListN.{length, take, getD}
@@ -19,9 +20,25 @@ earlier l j = reverse (take j l)
 abbrev pub recordIn : List Record → ℕ → Record
 recordIn l j = getD l j (DataOf (record { 0 = 0 }) (record { dqa = 0; dqb = 0 }))
 
+-- whether a record breaks rule n after these earlier ones; the rules count from 1
+unfoldable pub breaksAfter : Context → ℕ → List Record → Record → Bool
+breaksAfter cx zero es r = false
+breaksAfter cx (suc n) es r = not (getD (rules cx es r) n true)
+
 -- whether record j of list l breaks rule n
-unfoldable pub breaks : Context → ℕ → List Record → ℕ → Bool
-breaks cx n l j = not (getD (rules cx (earlier l j) (recordIn l j)) (n - 1) true)
+abbrev pub breaks : Context → ℕ → List Record → ℕ → Bool
+breaks cx n l j = breaksAfter cx n (earlier l j) (recordIn l j)
+
+-- rule n is the lowest that a record breaks after these earlier ones
+pub record LowestBroken (cx : Context) (es : List Record) (r : Record) (n : ℕ) : Type 0 where
+  pub broken : breaksAfter cx n es r ≡ true
+  pub none-below : (m : ℕ) → m < n → breaksAfter cx m es r ≡ false
+
+-- record j of a list is the first that breaks a rule, and rule n the lowest that it breaks
+pub record FirstBreach (cx : Context) (l : List Record) (n j : ℕ) : Type 0 where
+  pub within : j < length l
+  pub lowest : LowestBroken cx (earlier l j) (recordIn l j) n
+  pub none-before : (i : ℕ) → i < j → (m : ℕ) → breaks cx m l i ≡ false
 
 -- the number of the first test that fails, counted from n on, or 0
 unfoldable pub lowest : ℕ → List Bool → ℕ
