@@ -1,0 +1,4 @@
+pub mod Settings
+pub mod Plans
+pub mod Models
+pub mod Checks
