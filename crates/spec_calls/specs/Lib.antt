@@ -2,3 +2,4 @@ pub mod Settings
 pub mod Plans
 pub mod Models
 pub mod Checks
+pub mod Runs

@@ -22,6 +22,14 @@ use Rattle.spec_calls.specs.Plans.{FreshResult, freshInto}
 unfoldable pub modelFresh : List ℕ → FreshResult
 modelFresh model = freshInto modelLength (modelBytes freshModel) model
 
+-- a model call's answer in numbers: event 0 neither, 1 read, 2 retired with the number of bytes that were written. A call on one
+-- record names no place.
+unfoldable pub steppedAnswer : Stepped → StepAnswer
+steppedAnswer (Refused why) = record { number = answerOf why .number; rule = answerOf why .rule; event = 0; bytes = 0 }
+steppedAnswer Read = record { number = 0; rule = 0; event = 1; bytes = 0 }
+steppedAnswer (Retired n) = record { number = 0; rule = 0; event = 2; bytes = n }
+steppedAnswer Neither = record { number = 0; rule = 0; event = 0; bytes = 0 }
+
 -- the answer, and the bytes of model, store and answer buffer at exit
 pub record StepResult : Type 0 where
   pub answer : StepAnswer
@@ -31,16 +39,15 @@ pub record StepResult : Type 0 where
 
 -- of a model, a store, a record and an answer buffer as they are lent
 module _ (model store given room : List ℕ) where
-  -- "A refusal returns its number, with the rule [..], and changes no lent buffer." A call on one record names no place.
+  -- "A refusal returns its number, with the rule [..], and changes no lent buffer."
   abbrev pub stepRefused : Refusal → StepResult
-  stepRefused why =
-      record { answer = record { number = answerOf why .number; rule = answerOf why .rule; event = 0; bytes = 0 }; model = model; store = store; room = room }
+  stepRefused why = record { answer = steppedAnswer (Refused why); model = model; store = store; room = room }
 
-  -- a record that is taken, with what it did: event 0 neither, 1 read, 2 retired with the number of bytes that were written
-  abbrev pub stepTaken : Context → ModelState → ℕ → ℕ → StepResult
-  stepTaken cx m event n =
+  -- a record that is taken, with what it did
+  abbrev pub stepTaken : Context → ModelState → Stepped → StepResult
+  stepTaken cx m did =
       record {
-        answer = record { number = 0; rule = 0; event = event; bytes = n };
+        answer = steppedAnswer did;
         model = modelBytes (stepModel cx m (length store) given (length room));
         store = stepStore cx m store given (length room);
         room = stepRoom cx m store given room;
@@ -48,9 +55,9 @@ module _ (model store given room : List ℕ) where
 
   abbrev pub stepBy : Context → ModelState → Stepped → StepResult
   stepBy cx m (Refused why) = stepRefused why
-  stepBy cx m Read = stepTaken cx m 1 0
-  stepBy cx m (Retired n) = stepTaken cx m 2 n
-  stepBy cx m Neither = stepTaken cx m 0 0
+  stepBy cx m Read = stepTaken cx m Read
+  stepBy cx m (Retired n) = stepTaken cx m (Retired n)
+  stepBy cx m Neither = stepTaken cx m Neither
 
   -- 1 for a model's bytes that are no state under the settings, then 9, 13, 10, 11, 8
   unfoldable pub stepUnder : Figures → StepResult

@@ -32,6 +32,11 @@ freshInto size fresh given =
 unfoldable pub plannerFresh : List ℕ → FreshResult
 plannerFresh planner = freshInto plannerLength (plannerBytes freshPlanner) planner
 
+-- a plan call's answer in numbers
+unfoldable pub planAnswer : Outcome → PlanAnswer
+planAnswer (Refused why) = record { number = answerOf why .number; records = 0 }
+planAnswer (Made n) = record { number = 0; records = n }
+
 -- the answer, and the bytes of planner and room at exit
 pub record PlanResult : Type 0 where
   pub answer : PlanAnswer
@@ -42,13 +47,13 @@ pub record PlanResult : Type 0 where
 module _ (planner request room : List ℕ) where
   -- "A refusal returns its number [..], and changes no lent buffer."
   abbrev pub planRefused : Refusal → PlanResult
-  planRefused why = record { answer = record { number = answerOf why .number; records = 0 }; planner = planner; room = room }
+  planRefused why = record { answer = planAnswer (Refused why); planner = planner; room = room }
 
   -- an accepted call: the next state, and the records from the room's start on
   abbrev pub planMade : Context → PlannerState → ℕ → PlanResult
   planMade cx p n =
       record {
-        answer = record { number = 0; records = n };
+        answer = planAnswer (Made n);
         planner = plannerBytes (planNext cx p request (length room));
         room = planRoom cx p request room;
       }
