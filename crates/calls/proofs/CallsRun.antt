@@ -1,6 +1,6 @@
 -- Demand 3 of the C calls (document 01, "Flat memory and whole runs"): every list of rdram_plan calls from a fresh planner makes a
 -- list that rdram_check passes and that rdram_model_step takes from a fresh model, with flat memory's answers in order, and after
--- an accepted drain with flat memory as store.
+-- an accepted drain with flat memory as store; the numbers of bytes written sum to the ones in the masks.
 -- Assumes nothing.
 use Prim.Native.Nat.{ℕ, _+_, _-_, _/_, _<_, _≤_}
 use mathlib.Core.Path.{_≡_, refl, sym, ap, _∙_}

@@ -98,7 +98,7 @@ unfoldable pub deviceAfter : List ℕ → List ℕ → List (List ℕ) → Devic
 deviceAfter settings list [] x = x
 deviceAfter settings list (room ∷ rooms) x = deviceAfter settings list rooms (deviceNext settings list room x)
 
--- how many of the calls have 16 bytes, "room for [an] answer" of any record
+-- how many of the calls have 16 bytes, which is "room for [the] answer" of any record
 unfoldable pub wideBuffers : List (List ℕ) → ℕ
 wideBuffers [] = 0
 wideBuffers (room ∷ rooms) = cond (leb 16 (length room)) 1 0 + wideBuffers rooms

@@ -22,7 +22,7 @@ use Rattle.record.specs.Record.{recordRead}
 use Rattle.rules.specs.declared.Write.{Write}
 use Rattle.rules.specs.Neighbour.{Relation}
 use Rattle.rules.specs.Packets.{traits, colTraits}
-use Rattle.rules.specs.History.{waitingAfter, bankOf, only, retiredBy, has}
+use Rattle.rules.specs.History.{waitingAfter, bankOf, only, has}
 use Rattle.rules.specs.Channel.{waitingOf}
 use Rattle.rules.specs.Checks.{judged}
 use Rattle.validity.proofs.AfterLaws.{waitingNext, after-waits}
@@ -32,7 +32,7 @@ use Rattle.model.specs.declared.Stepped.the-variants.{Refused, Read}
 use Rattle.model.specs.Store.{maskBit, onesUpTo, ones, storeLength}
 use Rattle.model.specs.Model.{maskOf, onlyWrite, retiredWrite, modelNext, readOf}
 use Rattle.model.specs.Step.{retireAnswer, passedAnswer, recordAnswer, readAnswer, stepAnswer, isTaken, taken, modelBy, stepModel, stepStore}
-use Rattle.runs.specs.Count.{writtenBy, masksAfter, onesOf, ModelCall, recordIn, writtenAll, takenAll}
+use Rattle.runs.specs.Count.{writtenBy, retiredMask, masksAfter, onesOf, ModelCall, recordIn, writtenAll, takenAll}
 use Rattle.runs.proofs.PlainRun.{maskIf, maskBy, masksAll}
 
 pub ones-append : (a b : List ℕ) → onesOf (a ++ b) ≡ onesOf a + onesOf b
@@ -51,8 +51,8 @@ ones-full = refl
 abbrev pub Waits : ModelState → List Record → Type 0
 Waits m es = waitingOf (m .channel .buffer) ≡ waitingAfter es
 
-mask-is : (m : ModelState) (es : List Record) → Waits m es → (r : Record) → cond (has (retiredBy (waitingAfter es) r)) (maskOf r ∷ []) [] ≡ maskBy m r
-unfolding retiredWrite
+mask-is : (m : ModelState) (es : List Record) → Waits m es → (r : Record) → retiredMask es r ≡ maskBy m r
+unfolding retiredMask retiredWrite
 mask-is m es e r = rw e (go (traits r .notRead) (waitingAfter es))
   where
     go : (q : Bool) (w : Option Write) → cond (has (only q (bankOf w))) (maskOf r ∷ []) [] ≡ maskIf (onlyWrite q w) (maskOf r)
@@ -141,7 +141,8 @@ module _ (s : Settings) (nbr : Relation) (m : ModelState) where
 
 -- ---- any calls, of any bytes
 
-pub count-all : (s : Settings) (nbr : Relation) (m : ModelState) (es : List Record) → Waits m es → (store : List ℕ) (l : List ModelCall)
+-- from any model in which the same write waits as after the records es; from a fresh one these are none
+pub count-all : (s : Settings) (nbr : Relation) (m : ModelState) (es : List Record) → waitingOf (m .channel .buffer) ≡ waitingAfter es → (store : List ℕ) (l : List ModelCall)
     → writtenAll s nbr m store l ≡ onesOf (masksAfter es (takenAll s nbr m store l))
 unfolding writtenAll takenAll masksAfter onesOf stepModel
 count-all s nbr m es e store [] = refl

@@ -1,5 +1,6 @@
 -- Demand 3 (document 01, "Flat memory and whole runs"): every list of plan calls, from a fresh planner, makes a list that breaks no
--- rule, that a fresh model passes, with flat memory's answers in order, and after an accepted drain with flat memory as store.
+-- rule, that a fresh model passes, with flat memory's answers in order, and after an accepted drain with flat memory as store; the
+-- numbers of bytes written sum to the ones in the masks.
 -- Assumes nothing.
 use Prim.Native.Nat.{ℕ, _+_, _<_, _≤_}
 use mathlib.Core.Path.{_≡_, refl, sym, ap, _∙_}

@@ -228,6 +228,11 @@ module _ (s : Settings) (nbr : Relation) where
   unfolding modelAll storeAll answersAll masksAll onesOf wideCalls
   ran-none x l k = record { count = 0; within = omega arith; enough = omega arith; ran = rw (append-nil, add-zero (x .written)); ready = k }
 
+  -- a call without room for an answer counts for none
+  narrow-next : (room : ℕ) (rooms : List ℕ) → leb 16 room ≡ false → wideCalls (room ∷ rooms) ≡ wideCalls rooms
+  unfolding wideCalls
+  narrow-next room rooms e = ap (λ (b : Bool). cond b 1 0 + wideCalls rooms) e ∙ zero-add (wideCalls rooms)
+
   ran-one : (room : ℕ) (rooms : List ℕ) (x : Drive) (r : Record) (l : List Record) (y : Drive) → Ran rooms (gone x r l) l y → Ran (room ∷ rooms) x (r ∷ l) y
   unfolding modelAll storeAll answersAll masksAll wideCalls
   ran-one room rooms x r l y k =
@@ -248,9 +253,8 @@ module _ (s : Settings) (nbr : Relation) where
   ran-empty room rooms x y k = record { count = k .count; within = k .within; enough = omega arith; ran = k .ran; ready = k .ready }
 
   ran-left : (room : ℕ) (rooms : List ℕ) (o : Option ℕ) → roomy o room ≡ false → (x : Drive) (l : List Record) (y : Drive) → Ran rooms x l y → Ran (room ∷ rooms) x l y
-  unfolding wideCalls
   ran-left room rooms none e x l y k = not-both true refl e
-  ran-left room rooms (some i) e x l y k = record { count = k .count; within = k .within; enough = rw e (omega (arith, k .enough)); ran = k .ran; ready = k .ready }
+  ran-left room rooms (some i) e x l y k = record { count = k .count; within = k .within; enough = rw (narrow-next room rooms e) (k .enough); ran = k .ran; ready = k .ready }
 
   ran-from : (rooms : List ℕ) (x : Drive) (l : List Record) (y z : Drive) → y ≡ z → Ran rooms x l z → Ran rooms x l y
   ran-from rooms x l y z e k = record { count = k .count; within = k .within; enough = k .enough; ran = e ∙ k .ran; ready = rw e (k .ready) }

@@ -32,7 +32,7 @@ use Rattle.model.specs.Store.{storeLength, dualoctAt, dualoct, dualoctBytes, ma
 use Rattle.model.specs.Model.{freshModel, rowOf, maskOf, retiredWrite, storeNext, refrBy, refrNext, bytesNext, modelNext, readOf}
 use Rattle.model.specs.Step.{retireAnswer, passedAnswer, recordAnswer, readAnswer, stepAnswer, isTaken, modelBy, stepModel, storeBy, stepStore, bytesRead, bytesBy}
 use Rattle.runs.specs.Flat.{memoryBy, answersBy, memoryOf, answersOf, flatNext, flatAnswer, flatAfter, flatAnswers, masksBy, masksOf, flatMask, flatMasks}
-use Rattle.runs.specs.Count.{writtenBy, masksAfter, retiredMasks, onesOf}
+use Rattle.runs.specs.Count.{writtenBy, retiredMask, masksAfter, retiredMasks, onesOf}
 use Rattle.runs.specs.Drive.{Drive, started, returned, leftBy, isFull, fails, calledOn, called, driven}
 use Rattle.runs.specs.WholeRun.{fed}
 
@@ -79,5 +79,5 @@ store = (1 ∷ 2 ∷ replicate 14 7) ++ (replicate 16 7 ++ ((1 ∷ (replicate 14
 -- masks 0003, 8001 and FFFF have 2, 2 and 16 ones; without room the calls stop at the first RD, after the first retire
 pub result : (driver .failed ≡ false) × (driver .pending ≡ []) × (driver .answers ≡ answers) × (driver .store ≡ store) × (flatAfter small (fed small split freshPlanner list) (replicate 512 7) ≡ store) × (flatAnswers small (fed small split freshPlanner list) (replicate 512 7) ≡ answers)
     × (driver .written ≡ 20) × (onesOf (retiredMasks (listed small split freshPlanner list)) ≡ 20) × (onesOf (flatMasks small (fed small split freshPlanner list)) ≡ 20) × (driven small split (replicate 20 0) start .written ≡ 2)
-unfolding answers store start setOf small requests calls list rooms driver bytes number allUpTo deviceHead rowFields rowWord rowFits rowCoded packetRow rowDecoded carriesMask maskField colFields colWord colFits colCoded maskSaid packetMask colOf colDecoded recordFields recordBytes rowRecord colRecord recordOf recordRead usesByte spareRight placed requestOf requestRead requestFields requestBytes split rowTraits colTraits traits instant isPacket bankBy isClosed isOpen waitingBy waitingAfter bankCount dataDelay lowest fresh waitingOf dueOf bankNext trackNext settled bufferBy bufferNext afterPacket afterData after maxUpTo checks judged placedAt earliest freshPlanner slot sent flushed closed closedUpTo reached plannedRead loaded written plannedWrite turned plannedRefresh plannedWait plannedDrain stepsOf planned inTime timely outcomeOf outcomeBy planOutcome isMade draftBy planNext planRecords listed storeLength dualoctAt dualoct dualoctBytes maskBit masked onesUpTo freshModel rowOf maskOf retiredWrite storeNext refrBy refrNext bytesNext modelNext readOf retireAnswer passedAnswer recordAnswer readAnswer stepAnswer isTaken modelBy stepModel storeBy stepStore bytesRead bytesBy memoryBy answersBy memoryOf answersOf flatNext flatAnswer flatAfter flatAnswers masksBy masksOf flatMask flatMasks writtenBy masksAfter onesOf started returned leftBy isFull fails calledOn called driven fed
+unfolding answers store start setOf small requests calls list rooms driver bytes number allUpTo deviceHead rowFields rowWord rowFits rowCoded packetRow rowDecoded carriesMask maskField colFields colWord colFits colCoded maskSaid packetMask colOf colDecoded recordFields recordBytes rowRecord colRecord recordOf recordRead usesByte spareRight placed requestOf requestRead requestFields requestBytes split rowTraits colTraits traits instant isPacket bankBy isClosed isOpen waitingBy waitingAfter bankCount dataDelay lowest fresh waitingOf dueOf bankNext trackNext settled bufferBy bufferNext afterPacket afterData after maxUpTo checks judged placedAt earliest freshPlanner slot sent flushed closed closedUpTo reached plannedRead loaded written plannedWrite turned plannedRefresh plannedWait plannedDrain stepsOf planned inTime timely outcomeOf outcomeBy planOutcome isMade draftBy planNext planRecords listed storeLength dualoctAt dualoct dualoctBytes maskBit masked onesUpTo freshModel rowOf maskOf retiredWrite storeNext refrBy refrNext bytesNext modelNext readOf retireAnswer passedAnswer recordAnswer readAnswer stepAnswer isTaken modelBy stepModel storeBy stepStore bytesRead bytesBy memoryBy answersBy memoryOf answersOf flatNext flatAnswer flatAfter flatAnswers masksBy masksOf flatMask flatMasks writtenBy retiredMask masksAfter onesOf started returned leftBy isFull fails calledOn called driven fed
 result = (refl, refl, refl, refl, refl, refl, refl, refl, refl, refl)

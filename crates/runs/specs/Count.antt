@@ -26,10 +26,14 @@ writtenBy Read = 0
 writtenBy (Retired n) = n
 writtenBy Neither = 0
 
--- the masks of the retiring packets among the records l, in order, after the records es, newest first; FFFF stands for M = 0
+-- the mask of a record that retires a write, after the records es, newest first; FFFF stands for M = 0
+unfoldable pub retiredMask : List Record → Record → List ℕ
+retiredMask es r = cond (has (retiredBy (waitingAfter es) r)) (maskOf r ∷ []) []
+
+-- those of the records l, in order
 unfoldable pub masksAfter : List Record → List Record → List ℕ
 masksAfter es [] = []
-masksAfter es (r ∷ l) = cond (has (retiredBy (waitingAfter es) r)) (maskOf r ∷ []) [] ++ masksAfter (r ∷ es) l
+masksAfter es (r ∷ l) = retiredMask es r ++ masksAfter (r ∷ es) l
 
 -- "all retired masks" of a packet list
 abbrev pub retiredMasks : List Record → List ℕ
