@@ -1,3 +1,4 @@
 pub mod PlanCalls
 pub mod ModelCall
 pub mod PlanTests
+pub mod Refused

@@ -7,6 +7,7 @@ use mathlib.Core.Bool.{Bool, true, false, cond}
 use mathlib.Core.List.{List, [], _∷_, _++_, append-assoc, append-nil}
 use lib.Dec.{eqb, leb}
 use lib.ListN.{length, take}
+use borrow.Author.Tests.{ne-eqb}
 use native.Mathlib.Omega.{arith}
 use Rattle.num.proofs.SpliceLaws.{part-splice}
 use Rattle.settings.specs.declared.Settings.{Settings}
@@ -20,6 +21,7 @@ use Rattle.record.specs.declared.RequestRead.{RequestRead}
 use Rattle.record.specs.declared.RequestRead.the-variants as request
 use Rattle.record.specs.Refusal.{answerOf}
 use Rattle.record.specs.Request.{requestRead}
+use Rattle.record.proofs.RefusalLaws.{refused-number}
 use Rattle.rules.specs.Neighbour.{split}
 use Rattle.rules.proofs.NeighbourLaws.{split-neighbours}
 use Rattle.plan.specs.declared.PlannerState.{PlannerState}
@@ -61,20 +63,7 @@ calls-append (c ∷ a) b = rw (calls-append a b)
 
 -- no refusal has number 0
 pub refusal-number : (r : Refusal) → eqb (answerOf r .number) 0 ≡ false
-unfolding answerOf
-refusal-number refusal.Settings = refl
-refusal-number refusal.Kind = refl
-refusal-number refusal.Spare = refl
-refusal-number refusal.Bank = refl
-refusal-number refusal.Row = refl
-refusal-number refusal.Column = refl
-refusal-number refusal.Horizon = refl
-refusal-number refusal.Full = refl
-refusal-number refusal.Store = refl
-refusal-number (refusal.Word place) = refl
-refusal-number (refusal.Rule rule place) = refl
-refusal-number (refusal.Block place) = refl
-refusal-number refusal.Length = refl
+refusal-number r = ne-eqb _ 0 (refused-number r)
 
 answer-accepted : (o : Outcome) → eqb (planAnswer o .number) 0 ≡ isMade o
 unfolding planAnswer isMade

@@ -1,12 +1,13 @@
 -- Demand 3 of the C calls (document 01, "Flat memory and whole runs"): every list of rdram_plan calls from a fresh planner makes a
 -- list that rdram_check passes and that rdram_model_step takes from a fresh model, with flat memory's answers in order, and after
--- an accepted drain with flat memory as store.
+-- an accepted drain with flat memory as store; the numbers of bytes written sum to the ones in the masks.
 -- Assumes nothing.
-use Prim.Native.Nat.{ℕ, zero, suc, _-_, _/_, _≤_, _<_}
+use Prim.Native.Nat.{ℕ, _+_, _-_, _/_, _<_, _≤_}
 use mathlib.Core.Path.{_≡_, refl, sym, ap, _∙_}
-use mathlib.Core.Bool.{true}
+use mathlib.Core.Bool.{true, cond}
+use lib.Dec.{leb}
 use mathlib.Core.List.{List, [], _∷_, _++_}
-use lib.ListN.{length, getD, length-drop}
+use lib.ListN.{length, take, drop, length-drop}
 use native.Mathlib.Omega.{arith}
 use Rattle.num.specs.Bytes.{Bytes}
 use Rattle.settings.specs.declared.Settings.{Settings}
@@ -22,30 +23,21 @@ use Rattle.plan.specs.Runs.{OfBytes, listed}
 use Rattle.model.specs.Store.{storeLength}
 use Rattle.model.specs.Model.{freshModel}
 use Rattle.model.proofs.NextValid.{fresh-model-valid}
-use Rattle.runs.specs.Drive.{Drive, started, driven}
+use Rattle.runs.specs.Drive.{Drive, started, called, driven, wideCalls}
 use Rattle.runs.specs.WholeRun.{EndsInDrain, WholeRun}
-use Rattle.runs.proofs.DriveLaws.{kept, driven-ran}
-use Rattle.runs.proofs.Demand.{fresh-passing, run-fits, run-data, run-coded, whole-run-split}
-use Rattle.calls.specs.Runs.{PlanCall, Device, freshBench, benchAfter, freshDevice, deviceAfter, BytesIn, DrainsLast, CallsRun}
-use Rattle.calls.proofs.ListOf.{length-list, list-count, list-checked}
+use Rattle.runs.proofs.DriveLaws.{Ready, driven-within, driven-none-left}
+use Rattle.runs.proofs.Demand.{run-fits, run-data, run-ready, whole-run-split}
+use Rattle.checker.specs.Check.{recordsUpTo}
+use Rattle.calls.specs.Runs.{PlanCall, Device, freshBench, benchAfter, freshDevice, deviceNext, deviceAfter, wideBuffers, BytesIn, DrainsLast, CallsRun}
+use Rattle.calls.proofs.ListOf.{length-list, list-count, records-up-to, list-checked}
 use Rattle.calls.proofs.BenchRun.{callOf, callsOf, calls-bytes, calls-append, bench-list, bench-fed, answers-accepted}
-use Rattle.calls.proofs.DeviceRun.{lengths, like, Ready, device-is}
-
-nil-of : (l : List Record) → length l ≡ 0 → l ≡ []
-nil-of [] e = refl
-nil-of (r ∷ l) e = absurd (omega arith)
+use Rattle.calls.proofs.DeviceRun.{lengths, like, Stands, device-is}
 
 -- the rooms by their lengths
-length-lengths : (rooms : List (List ℕ)) → length (lengths rooms) ≡ length rooms
-unfolding lengths
-length-lengths [] = refl
-length-lengths (room ∷ rooms) = ap suc (length-lengths rooms)
-
-getD-lengths : (rooms : List (List ℕ)) (i : ℕ) → getD (lengths rooms) i 0 ≡ length (getD rooms i [])
-unfolding lengths
-getD-lengths [] i = refl
-getD-lengths (room ∷ rooms) zero = refl
-getD-lengths (room ∷ rooms) (suc i) = getD-lengths rooms i
+wide-lengths : (rooms : List (List ℕ)) → wideCalls (lengths rooms) ≡ wideBuffers rooms
+unfolding lengths wideCalls wideBuffers
+wide-lengths [] = refl
+wide-lengths (room ∷ rooms) = ap (λ (n : ℕ). cond (leb 16 (length room)) 1 0 + n) (wide-lengths rooms)
 
 -- the first of calls of bytes
 bytes-first : (calls rest : List PlanCall) → BytesIn (calls ++ rest) → BytesIn calls
@@ -53,8 +45,21 @@ unfolding BytesIn
 bytes-first [] rest b = tt
 bytes-first (c ∷ calls) rest b = (b .0, bytes-first calls rest (b .1))
 
+-- one call more
+device-more : (settings list : List ℕ) (rooms : List (List ℕ)) (room : List ℕ) (x : Device)
+    → deviceAfter settings list (rooms ++ (room ∷ [])) x ≡ deviceNext settings list room (deviceAfter settings list rooms x)
+unfolding deviceAfter
+device-more settings list [] room x = refl
+device-more settings list (first ∷ rooms) room x = device-more settings list rooms room (deviceNext settings list first x)
+
+driven-more : (s : Settings) (rooms : List (List ℕ)) (room : List ℕ) (x : Drive)
+    → driven s split (lengths (rooms ++ (room ∷ []))) x ≡ called s split (length room) (driven s split (lengths rooms) x) (driven s split (lengths rooms) x .pending)
+unfolding lengths driven
+driven-more s [] room x = refl
+driven-more s (first ∷ rooms) room x = driven-more s rooms room (called s split (length first) x (x .pending))
+
 module _ (settings : List ℕ) (s : Settings) (a : settingsRead settings ≡ Accepted s) (calls : List PlanCall) (b : BytesIn calls)
-    (store : List ℕ) (stored : length store ≡ storeLength s) (w : Bytes store) (rooms : List (List ℕ)) where
+    (store : List ℕ) (stored : length store ≡ storeLength s) (w : Bytes store) where
   v : valid s ≡ true
   v = accepted-valid settings s a
 
@@ -62,20 +67,17 @@ module _ (settings : List ℕ) (s : Settings) (a : settingsRead settings ≡ Acc
   abbrev l : List Record
   l = listed s split freshPlanner (callsOf calls)
 
-  abbrev end : Drive
-  end = driven s split (lengths rooms) (started store l)
+  abbrev end : List (List ℕ) → Drive
+  end rooms = driven s split (lengths rooms) (started store l)
 
   abbrev list : List ℕ
   list = benchAfter settings calls freshBench .list
 
-  abbrev device : Device
-  device = deviceAfter settings list rooms (freshDevice store)
+  abbrev device : List (List ℕ) → Device
+  device rooms = deviceAfter settings list rooms (freshDevice store)
 
   of-bytes : OfBytes (callsOf calls)
   of-bytes = calls-bytes calls b
-
-  whole : WholeRun s split (callsOf calls) store (lengths rooms)
-  whole = whole-run-split s v (callsOf calls) of-bytes store stored w (lengths rooms)
 
   list-is : list ≡ listBytes s l
   list-is = bench-list settings s a calls b
@@ -83,39 +85,42 @@ module _ (settings : List ℕ) (s : Settings) (a : settingsRead settings ≡ Acc
   count : length list / 32 ≡ length l
   count = rw list-is (list-count s l)
 
-  ready : Ready s (listBytes s l) (length l) freshModel store l
+  ready : Ready s split freshModel store l
+  ready = run-ready s v split split-neighbours (callsOf calls) of-bytes store stored
+
+  stands : Stands s (listBytes s l) (length l) freshModel store l
   unfolding freshModel
-  ready =
+  stands =
       record {
         before = [];
         stands = refl;
         taken = omega arith;
         within = omega arith;
-        stored = stored;
         model-valid = fresh-model-valid s v split;
         data-held = (omega arith, omega arith);
-        coded = run-coded s v split split-neighbours (callsOf calls) of-bytes;
         fits = run-fits s v split split-neighbours (callsOf calls) of-bytes;
         data-in = run-data s v split split-neighbours (callsOf calls) of-bytes;
-        passing = fresh-passing s v split split-neighbours (callsOf calls) of-bytes;
+        ready = ready;
       }
 
-  fresh-like : freshDevice store ≡ like (length l) (kept s split freshModel store [] l)
-  unfolding freshDevice
+  fresh-like : freshDevice store ≡ like (length l) (started store l)
+  unfolding freshDevice started
   fresh-like = let none-taken : length l - length l ≡ 0 = omega arith in rw none-taken
 
-  device-end : device ≡ like (length l) end
+  device-end : (rooms : List (List ℕ)) → device rooms ≡ like (length l) (end rooms)
   unfolding started
-  device-end = rw (list-is, fresh-like) (device-is settings s a (listBytes s l) (length l) (length-list s l) rooms freshModel store [] l ready)
+  device-end rooms = rw (list-is, fresh-like) (device-is settings s a (listBytes s l) (length l) (length-list s l) rooms (started store l) l stands)
+
+  within : (rooms : List (List ℕ)) → length (end rooms .pending) ≤ length l
+  unfolding started
+  within rooms = driven-within s split (lengths rooms) freshModel store l ready
 
   -- where every record is taken, none waits
-  none-waits : device .next ≡ length list / 32 → end .pending ≡ []
+  none-waits : (rooms : List (List ℕ)) → device rooms .next ≡ length list / 32 → end rooms .pending ≡ []
   unfolding started
-  none-waits e =
-      let ran = driven-ran s split (lengths rooms) freshModel store [] l stored (ready .coded) (ready .passing) in
-      let left : length (end .pending) ≡ length l - ran .count = ap (λ (x : Drive). length (x .pending)) (ran .ran) ∙ length-drop (ran .count) l in
-      let next : length l - length (end .pending) ≡ length l = sym (ap (λ (x : Device). x .next) device-end) ∙ e ∙ count in
-      nil-of (end .pending) (omega arith)
+  none-waits rooms e =
+      let next : length l - length (end rooms .pending) ≡ length l = sym (ap (λ (x : Device). x .next) (device-end rooms)) ∙ e ∙ count in
+      driven-none-left s split (lengths rooms) freshModel store l ready (omega (arith, within rooms, next))
 
   drains : DrainsLast settings s calls → EndsInDrain s split (callsOf calls)
   unfolding callsOf
@@ -129,22 +134,41 @@ module _ (settings : List ℕ) (s : Settings) (a : settingsRead settings ≡ Acc
         taken = answers-accepted settings s a (d .first) first-bytes (d .last .request) (d .last .room) (d .taken);
       }
 
-  run-calls : CallsRun settings s calls store rooms
-  run-calls =
-      record {
-        lawful = rw list-is (list-checked s settings a l (ready .coded) (whole .lawful));
-        passes = ap (λ (x : Device). x .failed) device-end ∙ whole .passes;
-        takes = λ wide e. ap (λ (x : Device). x .next) device-end ∙ all-taken wide e ∙ sym count;
-        reads = λ e. ap (λ (x : Device). x .answers) device-end ∙ rw (bench-fed settings s a calls b) (whole .reads (none-waits e));
-        drained = λ e d. ap (λ (x : Device). x .store) device-end ∙ rw (bench-fed settings s a calls b) (whole .drained (none-waits e) (drains d));
-      }
-    where
-      all-taken : ((i : ℕ) → i < length rooms → 16 ≤ length (getD rooms i [])) → length rooms ≡ length list / 32 → length l - length (end .pending) ≡ length l
-      all-taken wide e =
-          let none-left : end .pending ≡ [] =
-          whole .takes (λ i h. rw (getD-lengths rooms i) (wide i (omega (arith, length-lengths rooms)))) (length-lengths rooms ∙ e ∙ count)
-          in
-          omega (arith, ap length none-left)
+  module _ (rooms : List (List ℕ)) where
+    whole : WholeRun s split (callsOf calls) store (lengths rooms)
+    whole = whole-run-split s v (callsOf calls) of-bytes store stored w (lengths rooms)
+
+    done-is : recordsUpTo s list (device rooms .next) ≡ take (length l - length (end rooms .pending)) l
+    done-is = rw (device-end rooms, list-is) (records-up-to s l (ready .coded) (length l - length (end rooms .pending)) (omega arith))
+
+    run-calls : CallsRun settings s calls store rooms
+    run-calls =
+        let fed-is = bench-fed settings s a calls b in
+        record {
+          lawful = rw list-is (list-checked s settings a l (ready .coded) (whole .lawful));
+          passes = ap (λ (x : Device). x .failed) (device-end rooms) ∙ whole .passes;
+          takes = next-taken;
+          takes-all = λ wide. ap (λ (x : Device). x .next) (device-end rooms) ∙ all-taken wide ∙ sym count;
+          so-far = ap (λ (x : Device). x .answers) (device-end rooms) ∙ rw (fed-is, done-is) (whole .so-far);
+          reads = λ e. ap (λ (x : Device). x .answers) (device-end rooms) ∙ rw fed-is (whole .reads (none-waits rooms e));
+          drained = λ e d. ap (λ (x : Device). x .store) (device-end rooms) ∙ rw fed-is (whole .drained (none-waits rooms e) (drains d));
+          counted = ap (λ (x : Device). x .written) (device-end rooms) ∙ rw done-is (whole .counted);
+          drained-count = λ e d. ap (λ (x : Device). x .written) (device-end rooms) ∙ rw fed-is (whole .drained-count (none-waits rooms e) (drains d));
+        }
+      where
+        all-taken : length list / 32 ≤ wideBuffers rooms → length l - length (end rooms .pending) ≡ length l
+        all-taken wide =
+            let none-left : end rooms .pending ≡ [] = whole .takes-all (rw (wide-lengths rooms) (omega (arith, count, wide))) in
+            omega (arith, ap length none-left)
+
+        next-taken : (room : List ℕ) → 16 ≤ length room → device rooms .next < length list / 32 → deviceNext settings list room (device rooms) .next ≡ device rooms .next + 1
+        next-taken room h more =
+            let new : end (rooms ++ (room ∷ [])) .pending ≡ drop 1 (end rooms .pending) = ap (λ (x : Drive). x .pending) (driven-more s rooms room (started store l)) ∙ whole .takes (length room) h in
+            let size : length (end (rooms ++ (room ∷ [])) .pending) ≡ length (end rooms .pending) - 1 = ap length new ∙ length-drop 1 (end rooms .pending) in
+            let before : device rooms .next ≡ length l - length (end rooms .pending) = ap (λ (x : Device). x .next) (device-end rooms) in
+            let after : deviceNext settings list room (device rooms) .next ≡ length l - length (end (rooms ++ (room ∷ [])) .pending) =
+            ap (λ (x : Device). x .next) (sym (device-more settings list rooms room (freshDevice store)) ∙ device-end (rooms ++ (room ∷ []))) in
+            omega (arith, size, before, after, more, count, within rooms)
 
 pub calls-run : (settings : List ℕ) (s : Settings) → settingsRead settings ≡ Accepted s → (calls : List PlanCall) → BytesIn calls
     → (store : List ℕ) → length store ≡ storeLength s → Bytes store → (rooms : List (List ℕ)) → CallsRun settings s calls store rooms

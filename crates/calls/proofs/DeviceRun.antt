@@ -50,9 +50,9 @@ use Rattle.model.specs.Step.{retireAnswer, passedAnswer, recordAnswer, readAnsw
 use Rattle.model.proofs.StoreLaws.{dualoct-in}
 use Rattle.model.proofs.ModelRoundTrip.{DataHeld, model-decode-encode, model-right}
 use Rattle.model.proofs.NextValid.{next-model-valid}
+use Rattle.runs.specs.Count.{writtenBy}
 use Rattle.runs.specs.Drive.{Drive, returned, leftBy, isFull, fails, calledOn, driven}
-use Rattle.runs.proofs.PlainRun.{answerOf as answersOf, Passing, length-next}
-use Rattle.runs.proofs.DriveLaws.{Every, Coded, length-record, roomy, kept, gone, call-is, driven-none, next-none, next-one}
+use Rattle.runs.proofs.DriveLaws.{Every, length-record, roomy, kept, gone, Ready, ready-next, call-is, driven-none, next-none, next-one}
 use Rattle.runs.proofs.Sim.{DataIn}
 use Rattle.by_bytes.specs.Models.{steppedAnswer, stepBy, stepUnder, stepAnswered, modelAfterBy, modelUnder, steppedModel, storeUnder, steppedStore, answerUnder, steppedRoom}
 use Rattle.calls.specs.Runs.{Device, deviceBy, deviceNext, deviceAfter}
@@ -102,6 +102,14 @@ kept-failed Read = refl
 kept-failed (Retired n) = refl
 kept-failed Neither = refl
 
+-- the number of bytes written
+kept-written : (a : Stepped) → steppedAnswer a .bytes ≡ writtenBy a
+unfolding steppedAnswer writtenBy
+kept-written (Refused why) = refl
+kept-written Read = refl
+kept-written (Retired n) = refl
+kept-written Neither = refl
+
 -- ---- the dualoct that is read is in the store
 
 -- an answer of 16 bytes, where there is one
@@ -131,9 +139,9 @@ read-sixteen s v ch k store n (DataOf t d) f = tt
 -- ---- one call
 
 -- field by field, so that a definition that is wrong in one field is refused at that field
-device-same : (m n st su : List ℕ) (a b : List (List ℕ)) (i j : ℕ) (p q : Bool) → m ≡ n → st ≡ su → a ≡ b → i ≡ j → p ≡ q →
-    _≡_ {A = Device} (record { model = m; store = st; answers = a; next = i; failed = p }) (record { model = n; store = su; answers = b; next = j; failed = q })
-device-same m n st su a b i j p q e f g h k = rw (e, f, g, h, k)
+device-same : (m n st su : List ℕ) (a b : List (List ℕ)) (c d i j : ℕ) (p q : Bool) → m ≡ n → st ≡ su → a ≡ b → c ≡ d → i ≡ j → p ≡ q →
+    _≡_ {A = Device} (record { model = m; store = st; answers = a; written = c; next = i; failed = p }) (record { model = n; store = su; answers = b; written = d; next = j; failed = q })
+device-same m n st su a b c d i j p q e f g h k l = rw (e, f, g, h, k, l)
 
 module _ (settings : List ℕ) (s : Settings) (a : settingsRead settings ≡ Accepted s) (m : ModelState) (k : modelValid s split m ≡ true) (d : DataHeld (m .bytes)) (store given room : List ℕ) where
   v : valid s ≡ true
@@ -167,6 +175,9 @@ module _ (settings : List ℕ) (s : Settings) (a : settingsRead settings ≡ Acc
   step-returned : (new : List ℕ) → (called ≡ Read → take 16 (stepRoom s split m store given room) ≡ new) →
       cond (eqb (stepAnswered settings (modelBytes m) store given room .event) 1) (take 16 (steppedRoom settings (modelBytes m) store given room) ∷ []) [] ≡ returned called new
   step-returned new f = rw (step-answer, step-room) (kept-answer called (stepRoom s split m store given room) new f)
+
+  step-written : stepAnswered settings (modelBytes m) store given room .bytes ≡ writtenBy called
+  step-written = rw step-answer (kept-written called)
 
   step-next : (r : Record) (l : List Record) (n : ℕ) → suc (length l) ≤ n →
       cond (eqb (stepAnswered settings (modelBytes m) store given room .number) 0) (n - suc (length l) + 1) (n - suc (length l)) ≡ n - length (leftBy called r l)
@@ -204,21 +215,19 @@ lengths (room ∷ rooms) = length room ∷ lengths rooms
 
 -- calls on states as calls on bytes, of a list of n records
 abbrev pub like : ℕ → Drive → Device
-like n x = record { model = modelBytes (x .model); store = x .store; answers = x .answers; next = n - length (x .pending); failed = x .failed }
+like n x = record { model = modelBytes (x .model); store = x .store; answers = x .answers; written = x .written; next = n - length (x .pending); failed = x .failed }
 
 -- a model and a store before the records that wait, which stand in the list after some bytes
-pub record Ready (s : Settings) (list : List ℕ) (n : ℕ) (m : ModelState) (store : List ℕ) (l : List Record) : Type 0 where
+pub record Stands (s : Settings) (list : List ℕ) (n : ℕ) (m : ModelState) (store : List ℕ) (l : List Record) : Type 0 where
   pub before : List ℕ
   pub stands : list ≡ before ++ listBytes s l
   pub taken : length before ≡ 32 * (n - length l)
   pub within : length l ≤ n
-  pub stored : length store ≡ storeLength s
   pub model-valid : modelValid s split m ≡ true
   pub data-held : DataHeld (m .bytes)
-  pub coded : Every (Coded s) l
   pub fits : Every (λ r. recordFits s r ≡ true) l
   pub data-in : Every DataIn l
-  pub passing : Passing s split (m .channel) l
+  pub ready : Ready s split m store l
 
 bytes-held : (r : Record) (d : Dualoct) → DataIn r → DataHeld d → DataHeld (bytesNext r d)
 unfolding bytesNext
@@ -227,79 +236,74 @@ bytes-held (ColAt t p) d i h = h
 bytes-held (DataOf t e) d i h = i
 
 module _ (settings : List ℕ) (s : Settings) (a : settingsRead settings ≡ Accepted s) (list : List ℕ) (n : ℕ) (whole : length list ≡ 32 * n) where
-  ready-next : (m : ModelState) (store : List ℕ) (r : Record) (l : List Record) → Ready s list n m store (r ∷ l) → Ready s list n (modelNext s split m r) (storeNext s m r store) l
+  stands-next : (m : ModelState) (store : List ℕ) (r : Record) (l : List Record) → Stands s list n m store (r ∷ l) → Stands s list n (modelNext s split m r) (storeNext s m r store) l
   unfolding listBytes modelNext
-  ready-next m store r l k =
+  stands-next m store r l k =
       record {
         before = k .before ++ recordBytes s r;
         stands = k .stands ∙ sym (append-assoc (k .before) (recordBytes s r) (listBytes s l));
         taken = length-append (k .before) (recordBytes s r) ∙ omega (arith, k .taken, length-record s r, k .within);
         within = omega (arith, k .within);
-        stored = length-next s split m r store ∙ k .stored;
-        model-valid = next-model-valid s (accepted-valid settings s a) split split-neighbours m (k .model-valid) r (k .fits .0) (k .passing .0);
+        model-valid = next-model-valid s (accepted-valid settings s a) split split-neighbours m (k .model-valid) r (k .fits .0) (k .ready .passing .0);
         data-held = bytes-held r (m .bytes) (k .data-in .0) (k .data-held);
-        coded = k .coded .1;
         fits = k .fits .1;
         data-in = k .data-in .1;
-        passing = k .passing .1;
+        ready = ready-next s split m store r l (k .ready);
       }
 
-  module _ (m : ModelState) (store : List ℕ) (answers : List (List ℕ)) (r : Record) (l : List Record) (k : Ready s list n m store (r ∷ l)) (room : List ℕ) where
+  module _ (x : Drive) (r : Record) (l : List Record) (k : Stands s list n (x .model) (x .store) (r ∷ l)) (room : List ℕ) where
     -- the record that comes next
     given-is : part list (32 * (n - suc (length l))) 32 ≡ recordBytes s r
     unfolding listBytes
     given-is = rw (k .stands) (list-next s (k .before) (listBytes s l) r (n - suc (length l)) (k .taken))
 
-    by-call : deviceBy settings list room (like n (kept s split m store answers (r ∷ l))) ≡ like n (calledOn s split (length room) (kept s split m store answers (r ∷ l)) r l)
+    by-call : deviceBy settings list room (like n (kept s split x (r ∷ l))) ≡ like n (calledOn s split (length room) (kept s split x (r ∷ l)) r l)
     unfolding deviceBy calledOn
     by-call =
+        let m : ModelState = x .model in
+        let store : List ℕ = x .store in
         let b : List ℕ = recordBytes s r in
         let new : List ℕ = bytesBy s m (recordRead s b) store in
-        let read = room-read settings s a m (k .model-valid) (k .data-held) store b room r (k .stored) (length-record s r) (k .coded .0) (k .fits .0) (k .passing .0) in
+        let read = room-read settings s a m (k .model-valid) (k .data-held) store b room r (k .ready .stored) (length-record s r) (k .ready .coded .0) (k .fits .0) (k .ready .passing .0) in
         rw given-is
-        (device-same _ _ _ _ _ _ _ _ _ _
+        (device-same _ _ _ _ _ _ _ _ _ _ _ _
         (step-model settings s a m (k .model-valid) (k .data-held) store b room)
         (step-store settings s a m (k .model-valid) (k .data-held) store b room)
-        (ap (λ x. answers ++ x) (step-returned settings s a m (k .model-valid) (k .data-held) store b room new read))
+        (ap (λ y. x .answers ++ y) (step-returned settings s a m (k .model-valid) (k .data-held) store b room new read))
+        (ap (λ (i : ℕ). x .written + i) (step-written settings s a m (k .model-valid) (k .data-held) store b room))
         (step-next settings s a m (k .model-valid) (k .data-held) store b room r l n (k .within))
         (step-failed settings s a m (k .model-valid) (k .data-held) store b room))
 
-    next-call : deviceNext settings list room (like n (kept s split m store answers (r ∷ l)))
-        ≡ like n (cond (roomy (readOf s (m .channel) r) (length room)) (gone s split m store answers r l) (kept s split m store answers (r ∷ l)))
+    next-call : deviceNext settings list room (like n (kept s split x (r ∷ l)))
+        ≡ like n (cond (roomy (readOf s (x .model .channel) r) (length room)) (gone s split x r l) (kept s split x (r ∷ l)))
     unfolding deviceNext
     next-call =
         let count : length list / 32 ≡ n = omega arith in
         let more : ltb (n - suc (length l)) n ≡ true = lt-ltb (n - suc (length l)) n (omega (arith, k .within)) in
-        rw (count, more) (by-call ∙ ap (like n) (call-is s split (length room) m store answers r l (k .stored) (k .coded .0) (k .passing .0)))
+        rw (count, more) (by-call ∙ ap (like n) (call-is s split (length room) x r l (k .ready)))
 
   -- no record comes next
-  next-none-left : (m : ModelState) (store : List ℕ) (answers : List (List ℕ)) (room : List ℕ)
-      → deviceNext settings list room (like n (kept s split m store answers [])) ≡ like n (kept s split m store answers [])
+  next-none-left : (x : Drive) (room : List ℕ) → deviceNext settings list room (like n (kept s split x [])) ≡ like n (kept s split x [])
   unfolding deviceNext
-  next-none-left m store answers room =
+  next-none-left x room =
       let count : length list / 32 ≡ n = omega arith in
       let none-left : ltb (n - 0) n ≡ false = le-ltb (n - 0) n (omega arith) in
       rw (count, none-left)
 
-  pub device-is : (rooms : List (List ℕ)) (m : ModelState) (store : List ℕ) (answers : List (List ℕ)) (l : List Record) → Ready s list n m store l
-      → deviceAfter settings list rooms (like n (kept s split m store answers l)) ≡ like n (driven s split (lengths rooms) (kept s split m store answers l))
+  pub device-is : (rooms : List (List ℕ)) (x : Drive) (l : List Record) → Stands s list n (x .model) (x .store) l
+      → deviceAfter settings list rooms (like n (kept s split x l)) ≡ like n (driven s split (lengths rooms) (kept s split x l))
   unfolding deviceAfter lengths
-  device-is [] m store answers l k = rw (driven-none s split (kept s split m store answers l))
-  device-is (room ∷ rooms) m store answers [] k =
-      rw (next-none-left m store answers room, next-none s split (length room) (lengths rooms) m store answers) (device-is rooms m store answers [] k)
-  device-is (room ∷ rooms) m store answers (r ∷ l) k =
-      rw (
-        next-call m store answers r l k room,
-        next-one s split (length room) (lengths rooms) m store answers r l (k .stored) (k .coded .0) (k .passing .0),
-      )
-      (go (roomy (readOf s (m .channel) r) (length room))
-      (device-is rooms (modelNext s split m r) (storeNext s m r store) (answers ++ answersOf (readOf s (m .channel) r) store) l (ready-next m store r l k))
-      (device-is rooms m store answers (r ∷ l) k))
+  device-is [] x l k = rw (driven-none s split (kept s split x l))
+  device-is (room ∷ rooms) x [] k = rw (next-none-left x room, next-none s split (length room) (lengths rooms) x) (device-is rooms x [] k)
+  device-is (room ∷ rooms) x (r ∷ l) k =
+      rw (next-call x r l k room, next-one s split (length room) (lengths rooms) x r l (k .ready))
+      (go (roomy (readOf s (x .model .channel) r) (length room))
+      (device-is rooms (gone s split x r l) l (stands-next (x .model) (x .store) r l k))
+      (device-is rooms x (r ∷ l) k))
     where
-      go : (q : Bool)
-          → deviceAfter settings list rooms (like n (gone s split m store answers r l)) ≡ like n (driven s split (lengths rooms) (gone s split m store answers r l))
-          → deviceAfter settings list rooms (like n (kept s split m store answers (r ∷ l))) ≡ like n (driven s split (lengths rooms) (kept s split m store answers (r ∷ l)))
-          → deviceAfter settings list rooms (like n (cond q (gone s split m store answers r l) (kept s split m store answers (r ∷ l))))
-          ≡ like n (driven s split (lengths rooms) (cond q (gone s split m store answers r l) (kept s split m store answers (r ∷ l))))
+      Same : Drive → Type 0
+      Same y = deviceAfter settings list rooms (like n y) ≡ like n (driven s split (lengths rooms) y)
+
+      go : (q : Bool) → Same (gone s split x r l) → Same (kept s split x (r ∷ l)) → Same (cond q (gone s split x r l) (kept s split x (r ∷ l)))
       go true t f = t
       go false t f = f

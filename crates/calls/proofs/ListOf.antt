@@ -67,7 +67,7 @@ module _ (s : Settings) where
     read-at : (j : ℕ) → j < length l → recordRead s (recordAt (listBytes s l) j) ≡ Known (recordOf l j)
     read-at j m = ap (recordRead s) (list-at l j m) ∙ coded-at l c j m
 
-    records-up-to : (n : ℕ) → n ≤ length l → recordsUpTo s (listBytes s l) n ≡ take n l
+    pub records-up-to : (n : ℕ) → n ≤ length l → recordsUpTo s (listBytes s l) n ≡ take n l
     unfolding recordsUpTo known
     records-up-to zero h = refl
     records-up-to (suc n) h = rw (records-up-to n (omega arith), read-at n (omega arith)) (sym (take-suc l n _ (omega arith)))

@@ -2,12 +2,13 @@
 -- Assumes nothing.
 use Prim.Native.Nat.{ℕ, _+_, _*_, _/_, _<_, _≤_}
 use mathlib.Core.Path.{_≡_}
-use mathlib.Core.Bool.{Bool, true, false, not, _||_, cond}
+use mathlib.Core.Bool.{Bool, false, not, _||_, cond}
 use mathlib.Core.List.{List, [], _∷_, _++_}
-use lib.Dec.{eqb, ltb}
-use lib.ListN.{length, take, getD}
+use lib.Dec.{eqb, leb, ltb}
+use lib.ListN.{length, take}
 use Rattle.num.specs.Bytes.{Bytes, part}
 use Rattle.settings.specs.declared.Settings.{Settings}
+use Rattle.record.specs.declared.Record.{Record}
 use Rattle.record.specs.declared.Request.the-variants.{Drain}
 use Rattle.record.specs.declared.RequestRead.the-variants.{Accepted}
 use Rattle.record.specs.Request.{requestRead}
@@ -15,8 +16,10 @@ use Rattle.plan.specs.Planner.{freshPlanner}
 use Rattle.plan.specs.PlannerBytes.{plannerBytes}
 use Rattle.model.specs.Model.{freshModel}
 use Rattle.model.specs.ModelBytes.{modelBytes}
-use Rattle.runs.specs.Flat.{Fed, flatAfter, flatAnswers}
-use Rattle.by_bytes.specs.declared.PlanAnswer.{PlanAnswer}
+use Rattle.runs.specs.Flat.{Fed, flatAfter, flatAnswers, flatMasks}
+use Rattle.runs.specs.Count.{onesOf, retiredMasks}
+use Rattle.runs.specs.Drive.{readsIn}
+use Rattle.checker.specs.Check.{recordsUpTo}
 use Rattle.by_bytes.specs.declared.StepAnswer.{StepAnswer}
 use Rattle.lists.specs.Checks.{listChecked}
 use Rattle.by_bytes.specs.Plans.{planAnswered, planPlanner, planPlaced}
@@ -58,18 +61,19 @@ benchFed settings (c ∷ l) x =
 
 -- ---- model calls
 
--- the model's bytes and the store, the dualocts that were returned, the record that comes next, and whether a call was refused
--- for another reason than 8
+-- the model's bytes and the store, the dualocts that were returned, the sum of the numbers of bytes written, the record that comes
+-- next, and whether a call was refused for another reason than 8
 pub record Device : Type 0 where
   pub model : List ℕ
   pub store : List ℕ
   pub answers : List (List ℕ)
+  pub written : ℕ
   pub next : ℕ
   pub failed : Bool
 
 -- the model is as rdram_model_fresh leaves it, "with any bytes of the right length as store"
 unfoldable pub freshDevice : List ℕ → Device
-freshDevice store = record { model = modelBytes freshModel; store = store; answers = []; next = 0; failed = false }
+freshDevice store = record { model = modelBytes freshModel; store = store; answers = []; written = 0; next = 0; failed = false }
 
 -- one call of rdram_model_step on the next record of the list, with a lent answer buffer of any bytes
 unfoldable pub deviceBy : List ℕ → List ℕ → List ℕ → Device → Device
@@ -80,6 +84,7 @@ deviceBy settings list room x =
       model = steppedModel settings (x .model) (x .store) given room;
       store = steppedStore settings (x .model) (x .store) given room;
       answers = x .answers ++ cond (eqb (a .event) 1) (take 16 (steppedRoom settings (x .model) (x .store) given room) ∷ []) [];
+      written = x .written + a .bytes;
       next = cond (eqb (a .number) 0) (x .next + 1) (x .next);
       failed = x .failed || not (eqb (a .number) 0 || eqb (a .number) 8);
     }
@@ -92,6 +97,11 @@ deviceNext settings list room x = cond (ltb (x .next) (length list / 32)) (devic
 unfoldable pub deviceAfter : List ℕ → List ℕ → List (List ℕ) → Device → Device
 deviceAfter settings list [] x = x
 deviceAfter settings list (room ∷ rooms) x = deviceAfter settings list rooms (deviceNext settings list room x)
+
+-- how many of the calls have 16 bytes, which is "room for [the] answer" of any record
+unfoldable pub wideBuffers : List (List ℕ) → ℕ
+wideBuffers [] = 0
+wideBuffers (room ∷ rooms) = cond (leb 16 (length room)) 1 0 + wideBuffers rooms
 
 -- ---- the claim
 
@@ -109,18 +119,42 @@ pub record DrainsLast (settings : List ℕ) (s : Settings) (calls : List PlanCal
   pub taken : planAnswered settings (benchAfter settings first freshBench .planner) (last .request) (last .room) .number ≡ 0
 
 -- demand 3 of the C calls: of settings bytes that say s, plan calls, the bytes of a store, and the answer buffers of the model calls
-pub record CallsRun (settings : List ℕ) (s : Settings) (calls : List PlanCall) (store : List ℕ) (rooms : List (List ℕ)) : Type 0 where
-  -- rdram_check passes the list
-  pub lawful : listChecked settings (benchAfter settings calls freshBench .list) .number ≡ 0
-  -- no model call is refused but for want of room
-  pub passes : deviceAfter settings (benchAfter settings calls freshBench .list) rooms (freshDevice store) .failed ≡ false
-  -- calls with room for an answer take a record each
-  pub takes : ((i : ℕ) → i < length rooms → 16 ≤ length (getD rooms i [])) → length rooms ≡ length (benchAfter settings calls freshBench .list) / 32
-      → deviceAfter settings (benchAfter settings calls freshBench .list) rooms (freshDevice store) .next ≡ length (benchAfter settings calls freshBench .list) / 32
-  -- where every record is taken, the dualocts that were returned are flat memory's answers, in order
-  pub reads : deviceAfter settings (benchAfter settings calls freshBench .list) rooms (freshDevice store) .next ≡ length (benchAfter settings calls freshBench .list) / 32
-      → deviceAfter settings (benchAfter settings calls freshBench .list) rooms (freshDevice store) .answers ≡ flatAnswers s (benchFed settings calls freshBench) store
-  -- and after an accepted drain the store is flat memory
-  pub drained : deviceAfter settings (benchAfter settings calls freshBench .list) rooms (freshDevice store) .next ≡ length (benchAfter settings calls freshBench .list) / 32
-      → DrainsLast settings s calls
-      → deviceAfter settings (benchAfter settings calls freshBench .list) rooms (freshDevice store) .store ≡ flatAfter s (benchFed settings calls freshBench) store
+module _ (settings : List ℕ) (s : Settings) (calls : List PlanCall) (store : List ℕ) (rooms : List (List ℕ)) where
+  -- the packet list that the rdram_plan calls leave, and the number of its records
+  abbrev pub packets : List ℕ
+  packets = benchAfter settings calls freshBench .list
+
+  abbrev pub records : ℕ
+  records = length packets / 32
+
+  -- what flat memory is fed
+  abbrev pub feed : List Fed
+  feed = benchFed settings calls freshBench
+
+  -- the model and what it has answered, after the rdram_model_step calls on that list
+  abbrev pub end : Device
+  end = deviceAfter settings packets rooms (freshDevice store)
+
+  -- the records that it has taken
+  abbrev pub done : List Record
+  done = recordsUpTo s packets (end .next)
+
+  pub record CallsRun : Type 0 where
+    -- rdram_check passes the list
+    pub lawful : listChecked settings packets .number ≡ 0
+    -- no model call is refused but for want of room
+    pub passes : end .failed ≡ false
+    -- "the same record comes again until a call has room for its answer": a further call with 16 bytes takes the next record
+    pub takes : (room : List ℕ) → 16 ≤ length room → end .next < records → deviceNext settings packets room end .next ≡ end .next + 1
+    -- so as many such calls as the list has records take it whole, whatever calls stand between
+    pub takes-all : records ≤ wideBuffers rooms → end .next ≡ records
+    -- the dualocts that were returned, one for each RD that was taken, are the first of flat memory's answers, in order
+    pub so-far : end .answers ≡ take (readsIn done) (flatAnswers s feed store)
+    -- and all of them where every record is taken
+    pub reads : end .next ≡ records → end .answers ≡ flatAnswers s feed store
+    -- and after an accepted drain the store is flat memory
+    pub drained : end .next ≡ records → DrainsLast settings s calls → end .store ≡ flatAfter s feed store
+    -- "the number of bytes a retire wrote [..]; their sum over a run is the ones in all retired masks", of the records taken
+    pub counted : end .written ≡ onesOf (retiredMasks done)
+    -- and after an accepted drain the ones in the masks of all accepted writes
+    pub drained-count : end .next ≡ records → DrainsLast settings s calls → end .written ≡ onesOf (flatMasks s feed)

@@ -1,13 +1,14 @@
 -- Laws of a whole listing: its two cases, each of a text and the last line.
 -- Assumes nothing.
-use Prim.Native.Nat.{ℕ, _/_, _%_, _≤_}
-use mathlib.Core.Path.{_≡_}
-use mathlib.Core.Bool.{true, false}
+use Prim.Native.Nat.{ℕ, _/_, _%_, _≤_, _<_}
+use mathlib.Core.Path.{_≡_, refl, ap}
+use mathlib.Core.Bool.{Bool, true, false}
 use mathlib.Core.List.{List}
 use native.Mathlib.Omega.{arith}
-use borrow.Author.Tests.{leb-true}
+use borrow.Author.Tests.{leb-true, leb-false, lt-leb}
 use lib.Dec.{leb, eqb}
-use lib.ListN.{length}
+use lib.ListN.{length, take}
+use lib.Seq.{take-all, length-take-le}
 use Rattle.rules.proofs.Bools.{and-left}
 use Rattle.text.specs.Text.{Put, refusedLine, recordsLine}
 use Rattle.entries.specs.Entries.{recordsUpTo, textUpTo}
@@ -17,6 +18,24 @@ use Rattle.text.proofs.TextLaws.{put-then}
 pub length-fits : (n : ℕ) → lengthRight n ≡ true → n ≤ 65520
 unfolding lengthRight
 length-fits n h = leb-true n 65520 (and-left (leb n 65520) (eqb (n % 24) 0) h)
+
+length-over : (n : ℕ) → 65520 < n → lengthRight n ≡ false
+unfolding lengthRight
+length-over n h = rw (lt-leb n 65520 h)
+
+-- a buffer of more than 65,520 bytes takes enough of an input: what it does not take alters no listing
+listing-first : (room : ℕ) (input : List ℕ) → 65520 < room → listing (take room input) ≡ listing input
+unfolding listing
+listing-first room input h = go (leb (length input) room) refl
+  where
+    go : (q : Bool) → leb (length input) room ≡ q → listing (take room input) ≡ listing input
+    go true e = ap listing (take-all room input (leb-true _ _ e))
+    go false e =
+        let longer : room < length input = leb-false _ _ e in
+        rw (length-take-le room input (omega arith), length-over room h, length-over (length input) (omega arith))
+
+pub listed-first : (l read input : List ℕ) (room : ℕ) {m : List ℕ} {end : ℕ} → 65520 < room → take room input ≡ read → Put l 0 (listing read) m end → Put l 0 (listing input) m end
+listed-first l read input room h r p = rw (← listing-first room input h, r) p
 
 pub listed : (l input : List ℕ) (records : ℕ) {m n : List ℕ} {at end : ℕ} → at ≤ length l → lengthRight (length input) ≡ true
     → records ≡ recordsUpTo input (length input / 24) → Put l 0 (textUpTo input (length input / 24)) m at → Put m at (recordsLine records) n end → Put l 0 (listing input) n end

@@ -1,7 +1,8 @@
 // The listing program (document 01, "Bench runs"). The text is made whole before it is printed, so that one contract,
 // of `put_listing`, says all that is printed; only the reading of the input and the writing of the text are outside.
 ghost use mathlib.Core.Path.{_≡_};
-ghost use Prim.Native.Nat.{_≤_};
+ghost use Prim.Native.Nat.{ℕ, _≤_};
+ghost use mathlib.Core.List.{List};
 ghost use lib.ListN.{length, take};
 ghost use Rattle.text.specs.Text.{Put};
 ghost use Rattle.listing.specs.Listing.{lengthRight, listingRoom, listing};
@@ -12,8 +13,8 @@ use text::put_refused;
 // Room for the longest listing: 2,730 requests of at most 17 lines and the last line, each of at most 64 bytes.
 pub const ROOM: usize = 2_970_304;
 
-// Room for more than the longest input that is listed, 65,520 bytes, so that a longer one is seen to be so.
-pub const INPUT: usize = 65_536;
+// Room for one byte more than the longest input that is listed, so that a longer one is seen to be so.
+pub const INPUT: usize = 65_521;
 
 // Whether an input of n bytes is listed: whole requests, and no more than 2,730.
 fn length_right(n: usize) -> bool
@@ -46,12 +47,13 @@ fn print(text: &[u8], n: usize)
     io::write_all(1, &text[..n]);
 }
 
-// Puts the listing of an input and prints it. The array's length is in its type, so nothing need be shown of 2,970,304
-// zeros.
-fn print_listing(input: &[u8], out: &mut [u8; ROOM]) -> usize
-    ensures { λ r. ⌜ Put (now (out .entry)) 0 (listing (now (input .entry))) (now (out .exit)) r ⌝ }
+// Puts the listing of the first n bytes and prints it. The array's length is in its type, so nothing need be shown of
+// 2,970,304 zeros.
+fn print_listing(input: &[u8], n: usize, out: &mut [u8; ROOM]) -> usize
+    requires { ⌜ n ≤ length (now input) ⌝ }
+    ensures { λ r. ⌜ Put (now (out .entry)) 0 (listing (take n (now (input .entry)))) (now (out .exit)) r ⌝ }
 {
-    let end = put_listing(input, out);
+    let end = put_listing(&input[..n], out);
     print(out, end);
     end
 }
@@ -63,13 +65,13 @@ pub struct Counts {
 }
 
 // Reads standard input into one buffer, puts its listing into the other and prints that. A contract cannot name what the
-// system gives and takes, so this one speaks of the first bytes of the two buffers. An input that is longer than its
-// buffer fills it: `INPUT` bytes are too many.
-pub fn run(input: &mut [u8], out: &mut [u8; ROOM]) -> Counts
+// system gives and takes, so this one speaks of every input of which the bytes that were read are all that the buffer
+// takes: whole, or the first `INPUT` bytes of a longer one. What is printed is the listing of that input.
+pub fn run(input: &mut [u8; INPUT], out: &mut [u8; ROOM]) -> Counts
     ensures { λ r. ⌜ r .read ≤ length (now (input .exit)) ⌝ }
-    ensures { λ r. ⌜ Put (now (out .entry)) 0 (listing (take (r .read) (now (input .exit)))) (now (out .exit)) (r .printed) ⌝ }
+    ensures { λ r. ⌜ ((given : List ℕ) → take (length (now (input .exit))) given ≡ take (r .read) (now (input .exit)) → Put (now (out .entry)) 0 (listing given) (now (out .exit)) (r .printed)) ⌝ }
 {
     let read = io::read_full(0, input);
-    let printed = print_listing(&input[..read], out);
+    let printed = print_listing(input, read, out);
     Counts { read, printed }
 }

@@ -1,8 +1,9 @@
 -- Demand 3 (document 01, "Flat memory and whole runs"): every list of plan calls, from a fresh planner, makes a list that breaks no
--- rule, that a fresh model passes, with flat memory's answers in order, and after an accepted drain with flat memory as store.
+-- rule, that a fresh model passes, with flat memory's answers in order, and after an accepted drain with flat memory as store; the
+-- numbers of bytes written sum to the ones in the masks.
 -- Assumes nothing.
 use Prim.Native.Nat.{ℕ, _+_, _<_, _≤_}
-use mathlib.Core.Path.{_≡_, refl, sym, _∙_}
+use mathlib.Core.Path.{_≡_, refl, sym, ap, _∙_}
 use mathlib.Core.Bool.{Bool, true, _&&_}
 use mathlib.Core.List.{List, [], _∷_, _++_, append-nil}
 use mathlib.Core.Option.{none}
@@ -22,6 +23,7 @@ use Rattle.record.proofs.RoundTrip.{Held, record-decode-encode}
 use Rattle.rules.specs.declared.Channel.{Channel}
 use Rattle.rules.specs.Neighbour.{Relation, Neighbours, split}
 use Rattle.rules.specs.Packets.{instant}
+use Rattle.rules.specs.History.{waitingAfter}
 use Rattle.rules.specs.Rules.{dataDelay}
 use Rattle.rules.specs.Broken.{recordOf, ruleAt, firstBroken, everyRule}
 use Rattle.rules.specs.Channel.{fresh, waitingOf, after}
@@ -37,11 +39,13 @@ use Rattle.plan.specs.Runs.{Call, OfBytes, plannerAfter, listed}
 use Rattle.plan.proofs.Legal.{run-made, run-words, rules-hold}
 use Rattle.model.specs.Store.{storeLength}
 use Rattle.model.specs.Model.{freshModel, retiredTo}
-use Rattle.runs.specs.Flat.{flatAfter}
+use Rattle.runs.specs.Flat.{flatAfter, flatAnswers, flatMasks}
+use Rattle.runs.specs.Count.{retiredMasks, onesOf}
 use Rattle.runs.specs.Drive.{started}
 use Rattle.runs.specs.WholeRun.{fed, EndsInDrain, WholeRun}
-use Rattle.runs.proofs.PlainRun.{storeAll, Passing, passing-all}
-use Rattle.runs.proofs.DriveLaws.{Every, every-at, Coded, driven-passes, driven-takes, driven-store, driven-answers}
+use Rattle.runs.proofs.PlainRun.{maskIf, storeAll, answersAll, masksAll, Passing, passing-all}
+use Rattle.runs.proofs.Count.{masks-are}
+use Rattle.runs.proofs.DriveLaws.{Every, every-at, Coded, Ready, driven-passes, driven-takes, driven-takes-all, driven-store, driven-written, driven-written-all, driven-answers, driven-so-far}
 use Rattle.runs.proofs.Sim.{DataIn}
 use Rattle.runs.proofs.SimCalls.{sim-run, drain-empties}
 
@@ -106,10 +110,6 @@ module _ (s : Settings) (v : valid s ≡ true) (nbr : Relation) (ns : Neighbours
   pub run-passing : Passing s nbr fresh list
   run-passing = passing-all s nbr list found-at
 
-  pub fresh-passing : Passing s nbr (freshModel .channel) list
-  unfolding freshModel
-  fresh-passing = run-passing
-
   pub run-fits : Every (λ r. recordFits s r ≡ true) list
   run-fits = every-at (λ r. recordFits s r ≡ true) list words
 
@@ -118,6 +118,15 @@ module _ (s : Settings) (v : valid s ≡ true) (nbr : Relation) (ns : Neighbours
 
   pub run-coded : Every (Coded s) list
   run-coded = coded-all s nbr v fresh list run-passing run-fits run-data
+
+  pub run-ready : (store : List ℕ) → length store ≡ storeLength s → Ready s nbr freshModel store list
+  unfolding freshModel
+  run-ready store n = record { stored = n; coded = run-coded; passing = run-passing }
+
+  -- the masks that the model retires under are those of the retiring packets
+  fresh-masks : (l : List Record) → masksAll s nbr freshModel l ≡ retiredMasks l
+  unfolding freshModel fresh waitingOf waitingAfter
+  fresh-masks l = masks-are s nbr freshModel [] refl l
 
   -- after an accepted drain no write waits
   pub drained-empty : EndsInDrain s nbr calls → waitingOf (last .channel .buffer) ≡ none
@@ -128,18 +137,32 @@ module _ (s : Settings) (v : valid s ≡ true) (nbr : Relation) (ns : Neighbours
       (drain-empties s nbr ns [] (listed s nbr freshPlanner first) (plannerAfter s nbr freshPlanner first) (run-made s nbr ns first c .inv) _ _ _
       (sim-run s nbr ns [] first c) (e .last .request) (e .last .room) (e .drain) (e .taken))
 
+  -- and the masks that were retired under are those of the accepted writes, in order
+  drained-masks : EndsInDrain s nbr calls → masksAll s nbr freshModel list ≡ flatMasks s (fed s nbr freshPlanner calls)
+  drained-masks e =
+      let k : masksAll s nbr freshModel list ++ maskIf (waitingOf (last .channel .buffer)) (last .mask) ≡ flatMasks s (fed s nbr freshPlanner calls) =
+      rw append-nil at (sim-run s nbr ns [] calls b .written-under) in
+      rw (drained-empty e, append-nil) at k
+
   run-whole : (store : List ℕ) → length store ≡ storeLength s → Bytes store → (rooms : List ℕ) → WholeRun s nbr calls store rooms
   unfolding started
   run-whole store n w rooms =
       let k = sim-run s nbr ns store calls b in
+      let r = run-ready store n in
       let flat : flatAfter s (fed s nbr freshPlanner calls) store ≡ retiredTo s (last .channel) (waitingOf (last .channel .buffer)) (last .mask) (k .bytes) (storeAll s nbr freshModel list store) =
       rw append-nil at (k .flat) in
+      let answered : answersAll s nbr freshModel list store ≡ flatAnswers s (fed s nbr freshPlanner calls) store = rw append-nil at (k .same) in
+      let written = driven-written s nbr rooms freshModel store list r in
       record {
         lawful = rules-hold s nbr ns calls b;
-        passes = driven-passes s nbr rooms freshModel store list n run-coded fresh-passing;
-        takes = driven-takes s nbr rooms freshModel store list n run-coded fresh-passing;
-        reads = λ e. driven-answers s nbr rooms freshModel store list n run-coded fresh-passing e ∙ rw append-nil at (k .same);
-        drained = λ e d. driven-store s nbr rooms freshModel store list n run-coded fresh-passing e ∙ sym (rw (drained-empty d) at flat);
+        passes = driven-passes s nbr rooms freshModel store list r;
+        takes = driven-takes s nbr rooms freshModel store list r;
+        takes-all = driven-takes-all s nbr rooms freshModel store list r;
+        so-far = driven-so-far s nbr rooms freshModel store list r ∙ rw answered;
+        reads = λ e. driven-answers s nbr rooms freshModel store list r e ∙ answered;
+        drained = λ e d. driven-store s nbr rooms freshModel store list r e ∙ sym (rw (drained-empty d) at flat);
+        counted = written ∙ ap onesOf (fresh-masks _);
+        drained-count = λ e d. driven-written-all s nbr rooms freshModel store list r e ∙ ap onesOf (drained-masks d);
       }
 
 pub whole-run : (s : Settings) → valid s ≡ true → (nbr : Relation) → Neighbours nbr → (calls : List Call) → OfBytes calls

@@ -1,18 +1,21 @@
 -- Model calls, one for each room, are the plain run of as many records as they have taken; calls with room for an answer take one
 -- record each.
 -- Assumes nothing.
-use Prim.Native.Nat.{ℕ, suc, _-_, _≤_, _<_}
+use Prim.Native.Nat.{ℕ, suc, _+_, _-_, _≤_, _<_}
 use mathlib.Core.Path.{_≡_, refl, sym, ap, _∙_}
 use mathlib.Core.Bool.{Bool, true, false, cond}
 use mathlib.Core.List.{List, [], _∷_, _++_, append-nil, append-assoc}
 use mathlib.Core.Option.{Option, none, some}
 use lib.Dec.{leb}
-use lib.ListN.{length, getD, take, drop, length-append, length-drop}
-use lib.Seq.{take-all, drop-nil, drop-length}
+use lib.ListN.{length, take, drop, length-append, length-drop, take-append-drop, drop-of-length-le}
+use lib.Seq.{take-all, take-append-seam}
 use borrow.Author.Tests.{le-leb, eq-eqb}
+use native.Mathlib.Nat.{add-zero, zero-add, add-assoc}
 use native.Mathlib.Omega.{arith}
 use Rattle.num.proofs.ByteLaws.{length-bytes}
 use Rattle.settings.specs.declared.Settings.{Settings}
+use Rattle.packet.specs.declared.RowPacket.the-variants.{Act, Prer, Refa, Refp}
+use Rattle.packet.specs.declared.ColPacket.the-variants.{Nocop, Wr, Rd}
 use Rattle.record.specs.declared.Record.{Record}
 use Rattle.record.specs.declared.Record.the-variants.{RowAt, ColAt, DataOf}
 use Rattle.record.specs.declared.RecordRead.the-variants.{Known}
@@ -20,17 +23,20 @@ use Rattle.record.specs.declared.Refusal.the-variants.{Full}
 use Rattle.record.specs.Record.{recordFields, recordBytes, recordRead}
 use Rattle.rules.specs.declared.Write.{Write}
 use Rattle.rules.specs.Neighbour.{Relation}
+use Rattle.rules.specs.Packets.{traits, rowTraits, colTraits}
+use Rattle.rules.specs.History.{has}
 use Rattle.rules.specs.Broken.{recordOf}
-use Rattle.rules.specs.Channel.{after}
-use Rattle.rules.specs.Checks.{judged}
+use Rattle.rules.proofs.Bools.{not-both}
 use Rattle.model.specs.declared.ModelState.{ModelState}
 use Rattle.model.specs.declared.Stepped.{Stepped}
 use Rattle.model.specs.declared.Stepped.the-variants.{Refused, Read}
 use Rattle.model.specs.Store.{storeLength}
 use Rattle.model.specs.Model.{maskOf, retiredWrite, storeNext, modelNext, readOf}
-use Rattle.model.specs.Step.{retireAnswer, passedAnswer, recordAnswer, readAnswer, stepAnswer, isTaken, taken, modelBy, stepModel, storeBy, stepStore, bytesRead, bytesBy}
-use Rattle.runs.specs.Drive.{Drive, returned, leftBy, isFull, fails, calledOn, called, driven}
-use Rattle.runs.proofs.PlainRun.{answerOf, modelAll, storeAll, answersAll, Passing, length-next}
+use Rattle.model.specs.Step.{retireAnswer, passedAnswer, recordAnswer, readAnswer, stepAnswer, isTaken, modelBy, stepModel, storeBy, stepStore, bytesRead, bytesBy}
+use Rattle.runs.specs.Drive.{Drive, returned, leftBy, isFull, fails, calledOn, called, driven, wideCalls, readsIn}
+use Rattle.runs.specs.Count.{onesOf}
+use Rattle.runs.proofs.PlainRun.{answerOf, maskBy, modelAll, storeAll, answersAll, masksAll, answers-append, Passing, length-next}
+use Rattle.runs.proofs.Count.{ones-append, passed-count}
 
 -- ---- a claim of every record of a list
 
@@ -121,157 +127,233 @@ module _ (room mask : ℕ) (w : Option Write) (store : List ℕ) (r : Record) (l
       go false = refl
 
 module _ (s : Settings) (nbr : Relation) where
-  -- calls that have taken no record, and one
-  abbrev pub kept : ModelState → List ℕ → List (List ℕ) → List Record → Drive
-  kept m store answers l = record { model = m; store = store; answers = answers; pending = l; failed = false }
+  -- calls so far that have left the records l
+  abbrev pub kept : Drive → List Record → Drive
+  kept x l = record { model = x .model; store = x .store; answers = x .answers; written = x .written; pending = l; failed = false }
 
-  abbrev pub gone : ModelState → List ℕ → List (List ℕ) → Record → List Record → Drive
-  gone m store answers r l = kept (modelNext s nbr m r) (storeNext s m r store) (answers ++ answerOf (readOf s (m .channel) r) store) l
+  -- and a call that has taken the record r
+  abbrev pub gone : Drive → Record → List Record → Drive
+  gone x r l =
+      record {
+        model = modelNext s nbr (x .model) r;
+        store = storeNext s (x .model) r (x .store);
+        answers = x .answers ++ answerOf (readOf s (x .model .channel) r) (x .store);
+        written = x .written + onesOf (maskBy (x .model) r);
+        pending = l;
+        failed = false;
+      }
 
-  pub call-is : (room : ℕ) (m : ModelState) (store : List ℕ) (answers : List (List ℕ)) (r : Record) (l : List Record)
-      → length store ≡ storeLength s → Coded s r → judged s nbr (m .channel) r ≡ 0
-      → calledOn s nbr room (kept m store answers (r ∷ l)) r l
-      ≡ cond (roomy (readOf s (m .channel) r) room) (gone m store answers r l) (kept m store answers (r ∷ l))
-  unfolding calledOn stepModel stepStore stepAnswer readAnswer recordAnswer modelBy storeBy bytesBy
-  call-is room m store answers r l n c j =
+  -- records that a model and a store can take
+  pub record Ready (m : ModelState) (store : List ℕ) (l : List Record) : Type 0 where
+    pub stored : length store ≡ storeLength s
+    pub coded : Every (Coded s) l
+    pub passing : Passing s nbr (m .channel) l
+
+  pub ready-next : (m : ModelState) (store : List ℕ) (r : Record) (l : List Record) → Ready m store (r ∷ l) → Ready (modelNext s nbr m r) (storeNext s m r store) l
+  unfolding modelNext
+  ready-next m store r l k = record { stored = length-next s nbr m r store ∙ k .stored; coded = k .coded .1; passing = k .passing .1 }
+
+  pub call-is : (room : ℕ) (x : Drive) (r : Record) (l : List Record) → Ready (x .model) (x .store) (r ∷ l)
+      → calledOn s nbr room (kept x (r ∷ l)) r l ≡ cond (roomy (readOf s (x .model .channel) r) room) (gone x r l) (kept x (r ∷ l))
+  unfolding calledOn stepModel stepStore stepAnswer readAnswer recordAnswer modelBy storeBy bytesBy onesOf
+  call-is room x r l k =
+      let m : ModelState = x .model in
       let o : Option ℕ = readOf s (m .channel) r in
       let w : Option Write = retiredWrite m r in
-      rw (eq-eqb (length store) (storeLength s) n, length-record s r, c, j)
-      (rw (passed-taken room (maskOf r) w store r l o, passed-returned room (maskOf r) w store r l o, passed-left room (maskOf r) w store r l o, passed-fails room (maskOf r) w store r l o)
+      rw (eq-eqb (length (x .store)) (storeLength s) (k .stored), length-record s r, k .coded .0, k .passing .0)
+      (rw (
+        passed-count s nbr m r room o refl,
+        passed-taken room (maskOf r) w (x .store) r l o,
+        passed-returned room (maskOf r) w (x .store) r l o,
+        passed-left room (maskOf r) w (x .store) r l o,
+        passed-fails room (maskOf r) w (x .store) r l o,
+      )
       (pick (roomy o room)))
     where
       pick : (q : Bool)
           → record {
-            model = cond q (modelNext s nbr m r) m;
-            store = cond q (storeNext s m r store) store;
-            answers = answers ++ cond q (answerOf (readOf s (m .channel) r) store) [];
+            model = cond q (modelNext s nbr (x .model) r) (x .model);
+            store = cond q (storeNext s (x .model) r (x .store)) (x .store);
+            answers = x .answers ++ cond q (answerOf (readOf s (x .model .channel) r) (x .store)) [];
+            written = x .written + onesOf (cond q (maskBy (x .model) r) []);
             pending = cond q l (r ∷ l);
             failed = false;
           }
-          ≡ cond q (gone m store answers r l) (kept m store answers (r ∷ l))
+          ≡ cond q (gone x r l) (kept x (r ∷ l))
       pick true = refl
-      pick false = rw append-nil
+      pick false = rw (append-nil, add-zero (x .written))
 
-  pub call-taken : (room : ℕ) (m : ModelState) (store : List ℕ) (r : Record) → length store ≡ storeLength s → Coded s r → judged s nbr (m .channel) r ≡ 0
-      → taken s nbr m (length store) (recordBytes s r) room ≡ roomy (readOf s (m .channel) r) room
-  unfolding stepAnswer readAnswer recordAnswer
-  call-taken room m store r n c j =
-      rw (eq-eqb (length store) (storeLength s) n, length-record s r, c, j) (passed-taken room (maskOf r) (retiredWrite m r) store r [] (readOf s (m .channel) r))
-
-  -- ---- calls in a row
-
-  -- y is what the first records that wait in x make of it
-  pub record Ran (x y : Drive) : Type 0 where
-    pub count : ℕ
-    pub within : count ≤ length (x .pending)
-    pub ran : y ≡ record {
-      model = modelAll s nbr (x .model) (take count (x .pending));
-      store = storeAll s nbr (x .model) (take count (x .pending)) (x .store);
-      answers = x .answers ++ answersAll s nbr (x .model) (take count (x .pending)) (x .store);
-      pending = drop count (x .pending);
-      failed = false;
-    }
-
-  ran-none : (m : ModelState) (store : List ℕ) (answers : List (List ℕ)) (l : List Record) → Ran (kept m store answers l) (kept m store answers l)
-  unfolding modelAll storeAll answersAll
-  ran-none m store answers l = record { count = 0; within = omega arith; ran = rw append-nil }
-
-  ran-one : (m : ModelState) (store : List ℕ) (answers : List (List ℕ)) (r : Record) (l : List Record) (y : Drive)
-      → Ran (gone m store answers r l) y → Ran (kept m store answers (r ∷ l)) y
-  unfolding modelAll storeAll answersAll
-  ran-one m store answers r l y k =
-      record { count = suc (k .count); within = omega (arith, k .within); ran = rw (k .ran) (rw (append-assoc answers (answerOf (readOf s (m .channel) r) store))) }
-
+  -- the first of some calls
   pub driven-none : (x : Drive) → driven s nbr [] x ≡ x
   unfolding driven
   driven-none x = refl
 
-  -- the first of some calls
-  pub next-none : (room : ℕ) (rooms : List ℕ) (m : ModelState) (store : List ℕ) (answers : List (List ℕ))
-      → driven s nbr (room ∷ rooms) (kept m store answers []) ≡ driven s nbr rooms (kept m store answers [])
+  pub next-none : (room : ℕ) (rooms : List ℕ) (x : Drive) → driven s nbr (room ∷ rooms) (kept x []) ≡ driven s nbr rooms (kept x [])
   unfolding driven called
-  next-none room rooms m store answers = refl
+  next-none room rooms x = refl
 
-  pub next-one : (room : ℕ) (rooms : List ℕ) (m : ModelState) (store : List ℕ) (answers : List (List ℕ)) (r : Record) (l : List Record)
-      → length store ≡ storeLength s → Coded s r → judged s nbr (m .channel) r ≡ 0
-      → driven s nbr (room ∷ rooms) (kept m store answers (r ∷ l))
-      ≡ driven s nbr rooms (cond (roomy (readOf s (m .channel) r) room) (gone m store answers r l) (kept m store answers (r ∷ l)))
+  pub next-one : (room : ℕ) (rooms : List ℕ) (x : Drive) (r : Record) (l : List Record) → Ready (x .model) (x .store) (r ∷ l)
+      → driven s nbr (room ∷ rooms) (kept x (r ∷ l)) ≡ driven s nbr rooms (cond (roomy (readOf s (x .model .channel) r) room) (gone x r l) (kept x (r ∷ l)))
   unfolding driven called
-  next-one room rooms m store answers r l n c j = ap (driven s nbr rooms) (call-is room m store answers r l n c j)
-
-  pub next-channel : (m : ModelState) (r : Record) → modelNext s nbr m r .channel ≡ after nbr (m .channel) r
-  unfolding modelNext
-  next-channel m r = refl
-
-  ran-from : (x y z : Drive) → y ≡ z → Ran x z → Ran x y
-  ran-from x y z e k = record { count = k .count; within = k .within; ran = e ∙ k .ran }
-
-  ran-next : (room : ℕ) (rooms : List ℕ) (m : ModelState) (store : List ℕ) (answers : List (List ℕ)) (r : Record) (l : List Record)
-      → length store ≡ storeLength s → Coded s r → judged s nbr (m .channel) r ≡ 0
-      → Ran (gone m store answers r l) (driven s nbr rooms (gone m store answers r l))
-      → Ran (kept m store answers (r ∷ l)) (driven s nbr rooms (kept m store answers (r ∷ l)))
-      → Ran (kept m store answers (r ∷ l)) (driven s nbr (room ∷ rooms) (kept m store answers (r ∷ l)))
-  ran-next room rooms m store answers r l n c j taken left =
-      ran-from _ _ _ (next-one room rooms m store answers r l n c j) (go (roomy (readOf s (m .channel) r) room))
-    where
-      go : (b : Bool) → Ran (kept m store answers (r ∷ l)) (driven s nbr rooms (cond b (gone m store answers r l) (kept m store answers (r ∷ l))))
-      go true = ran-one m store answers r l _ taken
-      go false = left
-
-  pub driven-ran : (rooms : List ℕ) (m : ModelState) (store : List ℕ) (answers : List (List ℕ)) (l : List Record)
-      → length store ≡ storeLength s → Every (Coded s) l → Passing s nbr (m .channel) l
-      → Ran (kept m store answers l) (driven s nbr rooms (kept m store answers l))
-  driven-ran [] m store answers l n c j = ran-from _ _ _ (driven-none (kept m store answers l)) (ran-none m store answers l)
-  driven-ran (room ∷ rooms) m store answers [] n c j = ran-from _ _ _ (next-none room rooms m store answers) (driven-ran rooms m store answers [] n c j)
-  driven-ran (room ∷ rooms) m store answers (r ∷ l) n c j =
-      ran-next room rooms m store answers r l n (c .0) (j .0)
-      (driven-ran rooms (modelNext s nbr m r) (storeNext s m r store) (answers ++ answerOf (readOf s (m .channel) r) store) l (length-next s nbr m r store ∙ n) (c .1) (rw (next-channel m r) (j .1)))
-      (driven-ran rooms m store answers (r ∷ l) n c j)
-
-  -- calls with room for an answer
-  abbrev pub Wide : List ℕ → Type 0
-  Wide rooms = (i : ℕ) → i < length rooms → 16 ≤ getD rooms i 0
+  next-one room rooms x r l k = ap (driven s nbr rooms) (call-is room x r l k)
 
   roomy-wide : (o : Option ℕ) (room : ℕ) → 16 ≤ room → roomy o room ≡ true
   roomy-wide none room h = refl
   roomy-wide (some k) room h = le-leb 16 room h
 
-  pub driven-wide : (rooms : List ℕ) (m : ModelState) (store : List ℕ) (answers : List (List ℕ)) (l : List Record)
-      → length store ≡ storeLength s → Every (Coded s) l → Passing s nbr (m .channel) l → Wide rooms
-      → driven s nbr rooms (kept m store answers l) .pending ≡ drop (length rooms) l
-  driven-wide [] m store answers l n c j w = rw (driven-none (kept m store answers l))
-  driven-wide (room ∷ rooms) m store answers [] n c j w =
-      rw (next-none room rooms m store answers) (driven-wide rooms m store answers [] n c j (λ i h. w (suc i) (omega arith)) ∙ drop-nil (length rooms))
-  driven-wide (room ∷ rooms) m store answers (r ∷ l) n c j w =
-      rw (next-one room rooms m store answers r l n (c .0) (j .0), roomy-wide (readOf s (m .channel) r) room (w 0 (omega arith)))
-      (driven-wide rooms (modelNext s nbr m r) (storeNext s m r store) (answers ++ answerOf (readOf s (m .channel) r) store) l (length-next s nbr m r store ∙ n) (c .1)
-      (rw (next-channel m r) (j .1)) (λ i h. w (suc i) (omega arith)))
+  -- a call with room for an answer takes a record, where one waits
+  wide-takes : (room : ℕ) → 16 ≤ room → (x : Drive) (l : List Record) → x .pending ≡ l → Ready (x .model) (x .store) l → called s nbr room x l .pending ≡ drop 1 l
+  unfolding called calledOn
+  wide-takes room h x [] e k = e
+  wide-takes room h x (r ∷ l) e k = ap (λ (y : Drive). y .pending) (call-is room x r l k) ∙ rw (roomy-wide (readOf s (x .model .channel) r) room h)
 
-  -- ---- all records
+  -- ---- calls in a row
 
-  module _ (rooms : List ℕ) (m : ModelState) (store : List ℕ) (l : List Record) (n : length store ≡ storeLength s) (c : Every (Coded s) l) (j : Passing s nbr (m .channel) l) where
+  -- y is what the first of the records l make of x, as many at least as calls have room for an answer, and can take the others
+  pub record Ran (rooms : List ℕ) (x : Drive) (l : List Record) (y : Drive) : Type 0 where
+    pub count : ℕ
+    pub within : count ≤ length l
+    pub enough : length l - count ≤ length l - wideCalls rooms
+    pub ran : y ≡ record {
+      model = modelAll s nbr (x .model) (take count l);
+      store = storeAll s nbr (x .model) (take count l) (x .store);
+      answers = x .answers ++ answersAll s nbr (x .model) (take count l) (x .store);
+      written = x .written + onesOf (masksAll s nbr (x .model) (take count l));
+      pending = drop count l;
+      failed = false;
+    }
+    pub ready : Ready (y .model) (y .store) (y .pending)
+
+  ran-none : (x : Drive) (l : List Record) → Ready (x .model) (x .store) l → Ran [] x l (kept x l)
+  unfolding modelAll storeAll answersAll masksAll onesOf wideCalls
+  ran-none x l k = record { count = 0; within = omega arith; enough = omega arith; ran = rw (append-nil, add-zero (x .written)); ready = k }
+
+  -- a call without room for an answer counts for none
+  narrow-next : (room : ℕ) (rooms : List ℕ) → leb 16 room ≡ false → wideCalls (room ∷ rooms) ≡ wideCalls rooms
+  unfolding wideCalls
+  narrow-next room rooms e = ap (λ (b : Bool). cond b 1 0 + wideCalls rooms) e ∙ zero-add (wideCalls rooms)
+
+  ran-one : (room : ℕ) (rooms : List ℕ) (x : Drive) (r : Record) (l : List Record) (y : Drive) → Ran rooms (gone x r l) l y → Ran (room ∷ rooms) x (r ∷ l) y
+  unfolding modelAll storeAll answersAll masksAll wideCalls
+  ran-one room rooms x r l y k =
+      record {
+        count = suc (k .count);
+        within = omega (arith, k .within);
+        enough = go (leb 16 room);
+        ran = k .ran ∙ rw (append-assoc (x .answers) (answerOf (readOf s (x .model .channel) r) (x .store)), ones-append (maskBy (x .model) r)) (rw (add-assoc (x .written)));
+        ready = k .ready;
+      }
+    where
+      go : (b : Bool) → suc (length l) - suc (k .count) ≤ suc (length l) - (cond b 1 0 + wideCalls rooms)
+      go true = omega (arith, k .enough)
+      go false = omega (arith, k .enough)
+
+  -- a call that has taken no record, where none waits or for want of room
+  ran-empty : (room : ℕ) (rooms : List ℕ) (x y : Drive) → Ran rooms x [] y → Ran (room ∷ rooms) x [] y
+  ran-empty room rooms x y k = record { count = k .count; within = k .within; enough = omega arith; ran = k .ran; ready = k .ready }
+
+  ran-left : (room : ℕ) (rooms : List ℕ) (o : Option ℕ) → roomy o room ≡ false → (x : Drive) (l : List Record) (y : Drive) → Ran rooms x l y → Ran (room ∷ rooms) x l y
+  ran-left room rooms none e x l y k = not-both true refl e
+  ran-left room rooms (some i) e x l y k = record { count = k .count; within = k .within; enough = rw (narrow-next room rooms e) (k .enough); ran = k .ran; ready = k .ready }
+
+  ran-from : (rooms : List ℕ) (x : Drive) (l : List Record) (y z : Drive) → y ≡ z → Ran rooms x l z → Ran rooms x l y
+  ran-from rooms x l y z e k = record { count = k .count; within = k .within; enough = k .enough; ran = e ∙ k .ran; ready = rw e (k .ready) }
+
+  ran-next : (room : ℕ) (rooms : List ℕ) (x : Drive) (r : Record) (l : List Record) → Ready (x .model) (x .store) (r ∷ l)
+      → Ran rooms (gone x r l) l (driven s nbr rooms (gone x r l)) → Ran rooms x (r ∷ l) (driven s nbr rooms (kept x (r ∷ l)))
+      → Ran (room ∷ rooms) x (r ∷ l) (driven s nbr (room ∷ rooms) (kept x (r ∷ l)))
+  ran-next room rooms x r l k took left = ran-from _ _ _ _ _ (next-one room rooms x r l k) (go (roomy o room) refl)
+    where
+      o : Option ℕ
+      o = readOf s (x .model .channel) r
+
+      go : (b : Bool) → roomy o room ≡ b → Ran (room ∷ rooms) x (r ∷ l) (driven s nbr rooms (cond b (gone x r l) (kept x (r ∷ l))))
+      go true e = ran-one room rooms x r l _ took
+      go false e = ran-left room rooms o e x (r ∷ l) _ left
+
+  pub driven-ran : (rooms : List ℕ) (x : Drive) (l : List Record) → Ready (x .model) (x .store) l → Ran rooms x l (driven s nbr rooms (kept x l))
+  driven-ran [] x l k = ran-from _ _ _ _ _ (driven-none (kept x l)) (ran-none x l k)
+  driven-ran (room ∷ rooms) x [] k = ran-from _ _ _ _ _ (next-none room rooms x) (ran-empty room rooms x _ (driven-ran rooms x [] k))
+  driven-ran (room ∷ rooms) x (r ∷ l) k =
+      ran-next room rooms x r l k (driven-ran rooms (gone x r l) l (ready-next (x .model) (x .store) r l k)) (driven-ran rooms x (r ∷ l) k)
+
+  -- ---- the records that are taken
+
+  -- one answer for each RD
+  answers-count : (m : ModelState) (l : List Record) (store : List ℕ) → length (answersAll s nbr m l store) ≡ readsIn l
+  unfolding answersAll readsIn answerOf readOf traits rowTraits colTraits
+  answers-count m [] store = refl
+  answers-count m (r ∷ l) store =
+      length-append (answerOf (readOf s (m .channel) r) store) _ ∙ rw (answers-count (modelNext s nbr m r) l (storeNext s m r store), one r)
+    where
+      one : (r : Record) → length (answerOf (readOf s (m .channel) r) store) ≡ cond (has (traits r .reads)) 1 0
+      one (RowAt t (Act b row)) = refl
+      one (RowAt t (Prer b)) = refl
+      one (RowAt t (Refa b)) = refl
+      one (RowAt t (Refp b)) = refl
+      one (ColAt t (Nocop m)) = refl
+      one (ColAt t (Wr b c m)) = refl
+      one (ColAt t (Rd b c m)) = refl
+      one (DataOf t d) = refl
+
+  module _ (rooms : List ℕ) (m : ModelState) (store : List ℕ) (l : List Record) (k : Ready m store l) where
+    abbrev start : Drive
+    start = record { model = m; store = store; answers = []; written = 0; pending = l; failed = false }
+
     abbrev end : Drive
-    end = driven s nbr rooms (kept m store [] l)
+    end = driven s nbr rooms start
+
+    abbrev done : List Record
+    done = take (length l - length (end .pending)) l
+
+    run : Ran rooms start l end
+    run = driven-ran rooms start l k
+
+    left : length (end .pending) ≡ length l - run .count
+    left = ap (λ (x : Drive). length (x .pending)) (run .ran) ∙ length-drop (run .count) l
+
+    done-is : done ≡ take (run .count) l
+    done-is = let n : length l - length (end .pending) ≡ run .count = omega (arith, left, run .within) in ap (λ (i : ℕ). take i l) n
+
+    pub driven-within : length (end .pending) ≤ length l
+    driven-within = omega (arith, left)
+
+    pub driven-none-left : length (end .pending) ≡ 0 → end .pending ≡ []
+    driven-none-left e = ap (λ (x : Drive). x .pending) (run .ran) ∙ drop-of-length-le l {i = run .count} (omega (arith, left, e))
+
+    done-all : end .pending ≡ [] → done ≡ l
+    done-all e = rw e (take-all (length l - 0) l (omega arith))
 
     pub driven-passes : end .failed ≡ false
-    driven-passes = ap (λ (x : Drive). x .failed) (driven-ran rooms m store [] l n c j .ran)
+    driven-passes = ap (λ (x : Drive). x .failed) (run .ran)
 
-    pub driven-takes : Wide rooms → length rooms ≡ length l → end .pending ≡ []
-    driven-takes w e = driven-wide rooms m store [] l n c j w ∙ rw e (drop-length l)
+    pub driven-takes : (room : ℕ) → 16 ≤ room → called s nbr room end (end .pending) .pending ≡ drop 1 (end .pending)
+    driven-takes room h = wide-takes room h end (end .pending) refl (run .ready)
 
-    -- calls that leave none have taken all
-    taken-all : end .pending ≡ [] → take (driven-ran rooms m store [] l n c j .count) l ≡ l
-    taken-all e =
-        let k = driven-ran rooms m store [] l n c j in
-        let d : drop (k .count) l ≡ [] = sym (ap (λ (x : Drive). x .pending) (k .ran)) ∙ e in
-        let z : length l - k .count ≡ 0 = sym (length-drop (k .count) l) ∙ ap length d in
-        take-all (k .count) l (omega arith)
-
-    pub driven-model : end .pending ≡ [] → end .model ≡ modelAll s nbr m l
-    driven-model e = ap (λ (x : Drive). x .model) (driven-ran rooms m store [] l n c j .ran) ∙ rw (taken-all e)
+    pub driven-takes-all : length l ≤ wideCalls rooms → end .pending ≡ []
+    driven-takes-all h = driven-none-left (omega (arith, left, run .enough, h))
 
     pub driven-store : end .pending ≡ [] → end .store ≡ storeAll s nbr m l store
-    driven-store e = ap (λ (x : Drive). x .store) (driven-ran rooms m store [] l n c j .ran) ∙ rw (taken-all e)
+    driven-store e = ap (λ (x : Drive). x .store) (run .ran) ∙ rw (← done-is, done-all e)
+
+    pub driven-written : end .written ≡ onesOf (masksAll s nbr m done)
+    driven-written = ap (λ (x : Drive). x .written) (run .ran) ∙ rw (← done-is) (zero-add _)
+
+    pub driven-written-all : end .pending ≡ [] → end .written ≡ onesOf (masksAll s nbr m l)
+    driven-written-all e = driven-written ∙ rw (done-all e)
+
+    -- what is answered so far is the first of what all records answer
+    answered : end .answers ≡ answersAll s nbr m done store
+    answered = ap (λ (x : Drive). x .answers) (run .ran) ∙ rw (← done-is)
 
     pub driven-answers : end .pending ≡ [] → end .answers ≡ answersAll s nbr m l store
-    driven-answers e = ap (λ (x : Drive). x .answers) (driven-ran rooms m store [] l n c j .ran) ∙ rw (taken-all e)
+    driven-answers e = answered ∙ rw (done-all e)
+
+    pub driven-so-far : end .answers ≡ take (readsIn done) (answersAll s nbr m l store)
+    driven-so-far =
+        let first : List (List ℕ) = answersAll s nbr m done store in
+        let i : ℕ = length l - length (end .pending) in
+        let rest : List (List ℕ) = answersAll s nbr (modelAll s nbr m done) (drop i l) (storeAll s nbr m done store) in
+        let whole : answersAll s nbr m l store ≡ first ++ rest =
+        ap (λ (q : List Record). answersAll s nbr m q store) (sym (take-append-drop i l)) ∙ answers-append s nbr m done (drop i l) store in
+        answered ∙ sym (rw (← answers-count m done store, whole) (take-append-seam first rest))

@@ -49,9 +49,9 @@ module _ (s : Settings) (nbr : Relation) where
   answersAll m (r ∷ l) store = answerOf (readOf s (m .channel) r) store ++ answersAll (modelNext s nbr m r) l (storeNext s m r store)
 
   -- the masks under which writes are retired, in order
-  unfoldable pub retiredMasks : ModelState → List Record → List ℕ
-  retiredMasks m [] = []
-  retiredMasks m (r ∷ l) = maskBy m r ++ retiredMasks (modelNext s nbr m r) l
+  unfoldable pub masksAll : ModelState → List Record → List ℕ
+  masksAll m [] = []
+  masksAll m (r ∷ l) = maskBy m r ++ masksAll (modelNext s nbr m r) l
 
   -- each record of a list is judged 0 in its turn
   abbrev pub Passing : Channel → List Record → Type 0
@@ -77,8 +77,8 @@ module _ (s : Settings) (nbr : Relation) where
   answers-append m (r ∷ a) b store =
       rw (answers-append (modelNext s nbr m r) a b (storeNext s m r store)) (sym (append-assoc (answerOf (readOf s (m .channel) r) store) _ _))
 
-  pub masks-append : (m : ModelState) (a b : List Record) → retiredMasks m (a ++ b) ≡ retiredMasks m a ++ retiredMasks (modelAll m a) b
-  unfolding modelAll retiredMasks
+  pub masks-append : (m : ModelState) (a b : List Record) → masksAll m (a ++ b) ≡ masksAll m a ++ masksAll (modelAll m a) b
+  unfolding modelAll masksAll
   masks-append m [] b = refl
   masks-append m (r ∷ a) b = rw (masks-append (modelNext s nbr m r) a b) (sym (append-assoc (maskBy m r) _ _))
 

@@ -32,7 +32,7 @@ use Rattle.model.specs.declared.ModelState.{ModelState}
 use Rattle.model.specs.Store.{dualoctAt, dualoct, dualoctBytes, masked}
 use Rattle.model.specs.Model.{freshModel, rowOf, maskOf, retiredWrite, retiredTo, storeNext, refrNext, bytesNext, modelNext, readOf}
 use Rattle.runs.proofs.DriveLaws.{Every, every-append}
-use Rattle.runs.proofs.PlainRun.{answerOf, maskIf, maskBy, modelAll, storeAll, answersAll, retiredMasks, model-append, store-append, answers-append, masks-append}
+use Rattle.runs.proofs.PlainRun.{answerOf, maskIf, maskBy, modelAll, storeAll, answersAll, masksAll, model-append, store-append, answers-append, masks-append}
 
 -- the data of a D are two numbers of 64 bits
 abbrev pub DataIn : Record → Type 0
@@ -48,7 +48,7 @@ pub record Sim (s : Settings) (nbr : Relation) (st : List ℕ) (before : List Re
   pub model : modelAll s nbr freshModel (before ++ d .records) ≡ record { channel = d .planner .channel; refr = refr; bytes = bytes }
   pub flat : memory ≡ retiredTo s (d .planner .channel) (waiting d) (d .planner .mask) bytes (storeAll s nbr freshModel (before ++ d .records) st)
   pub same : answersAll s nbr freshModel (before ++ d .records) st ≡ answers
-  pub written-under : retiredMasks s nbr freshModel (before ++ d .records) ++ maskIf (waiting d) (d .planner .mask) ≡ masks
+  pub written-under : masksAll s nbr freshModel (before ++ d .records) ++ maskIf (waiting d) (d .planner .mask) ≡ masks
   pub data-in : Every DataIn (before ++ d .records)
 
 -- ---- the waiting write done
@@ -108,8 +108,8 @@ module _ (s : Settings) (nbr : Relation) (st : List ℕ) (before : List Record) 
     unfolding answersAll
     answers-one = rw (← append-assoc before l (r ∷ []), answers-append s nbr freshModel (before ++ l) (r ∷ []) st, e) (rw append-nil)
 
-    masks-one : retiredMasks s nbr freshModel longer ≡ retiredMasks s nbr freshModel (before ++ l) ++ maskBy m r
-    unfolding retiredMasks
+    masks-one : masksAll s nbr freshModel longer ≡ masksAll s nbr freshModel (before ++ l) ++ maskBy m r
+    unfolding masksAll
     masks-one = rw (← append-assoc before l (r ∷ []), masks-append s nbr freshModel (before ++ l) (r ∷ []), e) (rw append-nil)
 
     data-one : DataIn r → Every DataIn (before ++ l) → Every DataIn longer
@@ -123,7 +123,7 @@ module _ (s : Settings) (nbr : Relation) (st : List ℕ) (before : List Record) 
     stored = storeAll s nbr freshModel (before ++ d .records) st
 
     abbrev retired : List ℕ
-    retired = retiredMasks s nbr freshModel (before ++ d .records)
+    retired = masksAll s nbr freshModel (before ++ d .records)
 
     sim-more : (z : Draft) (r : Record) (after-memory after-masks : List ℕ) → z .records ≡ d .records ++ (r ∷ []) → z .planner .channel ≡ after nbr (d .planner .channel) r → DataIn r
         → after-memory ≡ retiredTo s (z .planner .channel) (waiting z) (z .planner .mask) (bytesNext r (k .bytes)) (storeNext s now r stored)
@@ -198,7 +198,7 @@ module _ (s : Settings) (nbr : Relation) (st : List ℕ) (before : List Record) 
         (store-one (d .records) (now d memory answers masks k) (k .model) r
         ∙ sym (k .flat ∙ retired-carried s (d .planner .channel) (waiting d) (d .planner .mask) (k .bytes) (stored d memory answers masks k)))
 
-    written-masks : retiredMasks s nbr freshModel (before ++ z .records) ≡ masks
+    written-masks : masksAll s nbr freshModel (before ++ z .records) ≡ masks
     unfolding placedAt retiredWrite traits colTraits maskOf
     written-masks =
         rw (sent-records s nbr x d)

@@ -26,31 +26,11 @@ use Rattle.plan.proofs.Trace.{trace-start}
 use Rattle.plan.proofs.CallLaws.{call-made}
 use Rattle.plan.proofs.Legal.{run-fresh}
 use Rattle.model.specs.Model.{freshModel}
-use Rattle.runs.specs.Flat.{Fed, memoryBy, answersBy, memoryOf, answersOf, flatNext, flatAnswer, flatAfter, flatAnswers}
+use Rattle.runs.specs.Flat.{Fed, memoryBy, answersBy, memoryOf, answersOf, flatNext, flatAnswer, flatAfter, flatAnswers, masksBy, masksOf, flatMask, flatMasks}
 use Rattle.runs.specs.WholeRun.{fed}
-use Rattle.runs.proofs.PlainRun.{modelAll, storeAll, answersAll, retiredMasks}
+use Rattle.runs.proofs.PlainRun.{modelAll, storeAll, answersAll, masksAll}
 use Rattle.runs.proofs.Sim.{Sim}
 use Rattle.runs.proofs.SimPlan.{Both, sim-read, sim-write, sim-refresh, sim-wait, sim-drain}
-
--- ---- the masks of accepted writes, in order
-
-unfoldable pub masksBy : Request → List ℕ
-masksBy (Read at) = []
-masksBy (Write at mask d) = mask ∷ []
-masksBy Refresh = []
-masksBy (Wait n) = []
-masksBy Drain = []
-
-unfoldable pub masksOf : RequestRead → List ℕ
-masksOf (Refused why) = []
-masksOf (Accepted q) = masksBy q
-
-unfoldable pub fedMask : Settings → Fed → List ℕ
-fedMask s f = cond (f .accepted) (masksOf (requestRead s (f .request))) []
-
-unfoldable pub fedMasks : Settings → List Fed → List ℕ
-fedMasks s [] = []
-fedMasks s (f ∷ l) = fedMask s f ++ fedMasks s l
 
 -- a planner between calls
 abbrev pub rested : PlannerState → Draft
@@ -104,8 +84,8 @@ module _ (s : Settings) (nbr : Relation) (ns : Neighbours nbr) (st : List ℕ) w
   pub sim-call : (before : List Record) (p : PlannerState) → Inv s nbr p → (memory : List ℕ) (answers : List (List ℕ)) (masks : List ℕ) → Between before p memory answers masks
       → (request : List ℕ) (room : ℕ) → Bytes request →
       let f : Fed = record { request = request; accepted = accepted s nbr p request room } in
-      Between (before ++ planRecords s nbr p request room) (planNext s nbr p request room) (flatNext s f memory) (answers ++ flatAnswer s f memory) (masks ++ fedMask s f)
-  unfolding planNext planRecords flatNext flatAnswer fedMask
+      Between (before ++ planRecords s nbr p request room) (planNext s nbr p request room) (flatNext s f memory) (answers ++ flatAnswer s f memory) (masks ++ flatMask s f)
+  unfolding planNext planRecords flatNext flatAnswer flatMask
   sim-call before p v memory answers masks k request room w = go (accepted s nbr p request room)
     where
       x : RequestRead
@@ -120,8 +100,8 @@ module _ (s : Settings) (nbr : Relation) (ns : Neighbours nbr) (st : List ℕ) w
 
   pub sim-calls : (calls : List Call) → OfBytes calls → (before : List Record) (p : PlannerState) → Inv s nbr p → (memory : List ℕ) (answers : List (List ℕ)) (masks : List ℕ)
       → Between before p memory answers masks
-      → Between (before ++ listed s nbr p calls) (plannerAfter s nbr p calls) (flatAfter s (fed s nbr p calls) memory) (answers ++ flatAnswers s (fed s nbr p calls) memory) (masks ++ fedMasks s (fed s nbr p calls))
-  unfolding plannerAfter listed fed flatAfter flatAnswers fedMasks OfBytes
+      → Between (before ++ listed s nbr p calls) (plannerAfter s nbr p calls) (flatAfter s (fed s nbr p calls) memory) (answers ++ flatAnswers s (fed s nbr p calls) memory) (masks ++ flatMasks s (fed s nbr p calls))
+  unfolding plannerAfter listed fed flatAfter flatAnswers flatMasks OfBytes
   sim-calls [] b before p v memory answers masks k = rw (append-nil before, append-nil answers, append-nil masks) k
   sim-calls (c ∷ calls) b before p v memory answers masks k =
       let q : PlannerState = planNext s nbr p (c .request) (c .room) in
@@ -130,11 +110,11 @@ module _ (s : Settings) (nbr : Relation) (ns : Neighbours nbr) (st : List ℕ) w
       (sim-calls calls (b .1) (before ++ planRecords s nbr p (c .request) (c .room)) q inv _ _ _ (sim-call before p v memory answers masks k (c .request) (c .room) (b .0)))
 
   pub sim-fresh : Between [] freshPlanner st [] []
-  unfolding freshPlanner freshModel modelAll storeAll answersAll retiredMasks fresh waitingOf
+  unfolding freshPlanner freshModel modelAll storeAll answersAll masksAll fresh waitingOf
   sim-fresh = record { refr = 0; bytes = record { dqa = 0; dqb = 0 }; model = refl; flat = refl; same = refl; written-under = refl; data-in = tt }
 
   -- after a list of calls from a fresh planner
   pub sim-run : (calls : List Call) → OfBytes calls
       → Between (listed s nbr freshPlanner calls) (plannerAfter s nbr freshPlanner calls) (flatAfter s (fed s nbr freshPlanner calls) st) (flatAnswers s (fed s nbr freshPlanner calls) st)
-      (fedMasks s (fed s nbr freshPlanner calls))
+      (flatMasks s (fed s nbr freshPlanner calls))
   sim-run calls b = sim-calls calls b [] freshPlanner (run-fresh s nbr ns .inv) st [] [] sim-fresh
