@@ -1,1 +1,4 @@
 pub mod ListOf
+pub mod BenchRun
+pub mod DeviceRun
+pub mod CallsRun
