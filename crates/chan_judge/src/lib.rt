@@ -94,7 +94,7 @@ pub fn data_rule(s: Settings, h: Held, t: DataAt) -> u32
     unless(tests::in_range(t.0), 1, unless(right, 15, 0))
 }
 
-// The same of a packet in a state, where h is the state's write buffer.
+// The lowest rule that a packet breaks in a state, or 0, where h is the write buffer of that state.
 fn packet_in(s: Settings, ch: Channel, h: Held, v: View) -> u32
     ensures { λ n. ⌜ n ≡ packetRule s v h (tracksOf s (ch .banks) (v .bank) (h .bank)) (actOver s (ch .banks) (v .bank)) (ch .lasts) ⌝ }
 {
