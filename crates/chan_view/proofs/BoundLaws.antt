@@ -1,7 +1,7 @@
 -- What the banks ask of a deed at bank b is what the tracks of that bank and its neighbours ask.
 -- Assumes nothing.
 use Prim.Native.Nat.{ℕ, _≤_, max}
-use mathlib.Core.Path.{_≡_, refl, ap, ap₂, sym, _∙_}
+use mathlib.Core.Path.{_≡_, refl, ap, sym, _∙_}
 use mathlib.Core.Bool.{Bool, true, false}
 use mathlib.Core.List.{List}
 use native.Mathlib.Nat.{zero-max, max-zero}

@@ -1,7 +1,7 @@
 -- Views say what records and the write buffer are to the rules.
 -- Assumes nothing.
 use Prim.Native.Nat.{ℕ, _+_}
-use mathlib.Core.Path.{_≡_, refl, ap, sym, _∙_}
+use mathlib.Core.Path.{_≡_, refl, ap, _∙_}
 use mathlib.Core.Bool.{Bool, true, false, not, _&&_, _||_, or-false}
 use mathlib.Core.Option.{Option, none, some}
 use native.Mathlib.Omega.{arith}
@@ -19,9 +19,7 @@ use Rattle.spec_rules.specs.declared.Buffer.{Buffer}
 use Rattle.spec_rules.specs.declared.Buffer.the-variants.{Empty, One}
 use Rattle.spec_rules.specs.declared.Channel.{Channel}
 use Rattle.chan_view.specs.declared.View.{View}
-use Rattle.chan_view.specs.declared.Seen.{Seen}
-use Rattle.chan_view.specs.declared.Seen.the-variants.{Packet, Data}
-use Rattle.chan_view.specs.declared.Held.{Held}
+use Rattle.chan_view.specs.declared.Seen.the-variants.{Packet}
 use Rattle.spec_rules.specs.Neighbour.{contextOf}
 use Rattle.spec_rules.specs.Packets.{Traits, traits, rowTraits, colTraits, instant, isPacket}
 use Rattle.spec_rules.specs.History.{only, onlyWrite, first, bankOf, leaving, anyWrite}

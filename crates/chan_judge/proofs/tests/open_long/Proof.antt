@@ -1,0 +1,14 @@
+-- `chan_judge::tests::open_long` meets its contract: the bound of three last instants.
+use borrow.Author.Needs.{needs}
+use Rattle.chan_judge.proofs.tests.open_long.Statement.{statement}
+use Rattle.chan_judge.proofs.tests.open_long.Tie as tie
+
+returns : tie.Need-returns
+returns c =
+    rw (
+      c .keeps .ensures,
+      c .before .after-three .ensures,
+    )
+
+pub open-long-spec : {M : Type 1} → statement M
+open-long-spec = tie.close (tie.spec (λ c κs. search needs) (λ c κs. search needs) returns)

@@ -1,0 +1,14 @@
+-- `chan_judge::tests::write_safe` meets its contract: the test is that of the definition.
+use borrow.Author.Needs.{needs}
+use Rattle.chan_judge.proofs.tests.write_safe.Statement.{statement}
+use Rattle.chan_judge.proofs.tests.write_safe.Tie as tie
+
+returns : tie.Need-returns
+returns c =
+    rw (
+      c .is-closed .ensures,
+      c .before .before .before .is-near .ensures,
+    )
+
+pub write-safe-spec : {M : Type 1} → statement M
+write-safe-spec = tie.close (tie.spec (λ c κs. search needs) (λ c κs. search needs) returns)
