@@ -39,7 +39,7 @@ use Rattle.spec_plan.specs.declared.PlannerState.{PlannerState}
 use Rattle.spec_plan.specs.Planner.{freshPlanner, plannerValid}
 use Rattle.spec_plan.specs.Call.{inTime, timely, outcomeOf, outcomeBy, planOutcome, isMade, draftBy, planNext, planRecords}
 use Rattle.spec_plan.specs.Runs.{Call, plannerAfter}
-use Rattle.spec_plan.specs.Plan.{Draft, rowPacket, colPacket, when, waiting, stateIn, openOn, hits, anyWaits, slot, sent, flushed, flushedWhile, closed, closedUpTo, reached, plannedRead, loaded, written, plannedWrite, turned, plannedRefresh, plannedWait, plannedDrain, stepsOf, planned}
+use Rattle.spec_plan.specs.Plan.{Draft, rowPacket, colPacket, when, waiting, stateIn, openOn, hits, anyWaits, slot, sent, flushed, flushedWhile, closed, loses, closedUpTo, cleared, reached, plannedRead, loaded, written, plannedWrite, turned, plannedRefresh, plannedWait, plannedDrain, stepsOf, planned}
 use Rattle.spec_plan.proofs.SentLaws.{when-either, Sized, sent-records, flushed-waiting, row-waiting, read-waiting, while-keeps, while-size, while-state, saved, up-to-shut}
 use Rattle.spec_plan.proofs.Invariant.{Inv, Banked, valid-inv}
 
@@ -159,7 +159,7 @@ module _ (cx : Context) where
       omega (
         arith,
         sent-cost (rowPacket (Prer x)) (saved cx x d) (row-waiting cx (Prer x) (saved cx x d)),
-        while-cost (anyWrite (λ w. near cx x (w .bank))) refl d,
+        while-cost (loses cx x) refl d,
       )
 
   -- one record for each of the banks that were open at first
@@ -185,20 +185,24 @@ module _ (cx : Context) where
 -- ---- the requests
 
 module _ (s : Settings) where
-  cleared-cost : (b : ℕ) (d : Draft) → Sized d → cost (closedUpTo (contextOf s) (near (contextOf s) b) bankCount d) ≤ cost d + 3
-  cleared-cost b d k =
+  near-cost : (b : ℕ) (d : Draft) → Sized d → (n : ℕ) → n ≤ bankCount → cost (closedUpTo (contextOf s) (near (contextOf s) b) n d) ≤ cost d + 3
+  near-cost b d k n l =
       omega (
         arith,
-        up-to-cost (contextOf s) (near (contextOf s) b) d k bankCount (omega arith),
-        count-le (λ x. near (contextOf s) b x && not (isClosed (stateIn d x))) (near (contextOf s) b) bankCount (λ x m e. and-left (near (contextOf s) b x) _ e),
-        count-near s b bankCount .0,
+        up-to-cost (contextOf s) (near (contextOf s) b) d k n l,
+        count-le (λ x. near (contextOf s) b x && not (isClosed (stateIn d x))) (near (contextOf s) b) n (λ x m e. and-left (near (contextOf s) b x) _ e),
+        count-near s b n .0,
       )
+
+  cleared-cost : (b : ℕ) (d : Draft) → Sized d → cost (cleared (contextOf s) b d) ≤ cost d + 3
+  unfolding bankCount
+  cleared-cost b d k = near-cost b d k _ (omega arith)
 
   reached-cost : (b row : ℕ) (d : Draft) → Sized d → cost (reached (contextOf s) b row d) ≤ cost d + 4
   unfolding reached
   reached-cost b row d k =
-      let z : Draft = closedUpTo (contextOf s) (near (contextOf s) b) bankCount d in
-      when-either (λ y. cost y ≤ cost d + 4) (not (openOn (stateIn d b) row)) (λ d. sent (contextOf s) (rowPacket (Act b row)) (closedUpTo (contextOf s) (near (contextOf s) b) bankCount d)) d
+      let z : Draft = cleared (contextOf s) b d in
+      when-either (λ y. cost y ≤ cost d + 4) (not (openOn (stateIn d b) row)) (λ d. sent (contextOf s) (rowPacket (Act b row)) (cleared (contextOf s) b d)) d
       (λ _. omega (arith, sent-cost (contextOf s) (rowPacket (Act b row)) z (row-waiting (contextOf s) (Act b row) z), cleared-cost b d k)) (λ _. omega arith)
 
   written-length : (at : Place) (mask : ℕ) (bytes : Dualoct) (d : Draft) → length (written (contextOf s) at mask bytes d .records) ≡ length (d .records) + 2
@@ -245,7 +249,7 @@ module _ (s : Settings) where
           omega (arith, written-length at mask bytes z, records-cost z, reached-cost (at .bank) (at .row) d (k .size), start-cost p)
       go RefreshBank k =
           let b : ℕ = p .refresh in
-          let z : Draft = closedUpTo (contextOf s) (near (contextOf s) b) bankCount d in
+          let z : Draft = cleared (contextOf s) b d in
           let y : Draft = sent (contextOf s) (rowPacket (Refa b)) z in
           omega (
             arith,

@@ -1,3 +1,4 @@
+pub mod Worked
 pub mod Invariant
 pub mod SentLaws
 pub mod Trace
@@ -9,5 +10,4 @@ pub mod Least
 pub mod Refused
 pub mod Bound
 pub mod DataFree
-pub mod Worked
 pub mod PlannerRoundTrip

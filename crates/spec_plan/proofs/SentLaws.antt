@@ -33,7 +33,7 @@ use Rattle.spec_rules.proofs.TrackLaws.{row-keeps, keeps-all, after-waits}
 use Rattle.spec_rules.proofs.EarliestLaws.{placed-instant, moved-not-read, moved-leaving, moved-bank, moved-writes}
 use Rattle.spec_state.proofs.AfterLaws.{after-size, after-due, after-state}
 use Rattle.spec_plan.specs.declared.PlannerState.{PlannerState}
-use Rattle.spec_plan.specs.Plan.{Draft, rowPacket, colPacket, when, waiting, stateIn, carried, anyWaits, slot, leaver, placedIn, sent, flushed, flushedWhile, closed, closedUpTo}
+use Rattle.spec_plan.specs.Plan.{Draft, rowPacket, colPacket, when, waiting, stateIn, carried, anyWaits, slot, leaver, placedIn, sent, flushed, flushedWhile, loses, closed, closedUpTo}
 
 -- ---- a record at another instant, under another mask
 
@@ -196,17 +196,17 @@ module _ (cx : Context) where
 
   -- NOCOPs where a PRER to this bank would lose a write that waits
   abbrev pub saved : ℕ → Draft → Draft
-  saved x d = flushedWhile cx (anyWrite (λ w. near cx x (w .bank))) d
+  saved x d = flushedWhile cx (loses cx x) d
 
   pub saved-state : (x : ℕ) (d : Draft) → Sized d → (y : ℕ) → y < bankCount → stateIn (saved x d) y ≡ stateIn d y
-  saved-state x d n y m = while-state (anyWrite (λ w. near cx x (w .bank))) refl d n y m
+  saved-state x d n y m = while-state (loses cx x) refl d n y m
 
   pub saved-size : (x : ℕ) (d : Draft) → Sized d → Sized (saved x d)
-  saved-size x d n = while-size (anyWrite (λ w. near cx x (w .bank))) refl d n
+  saved-size x d n = while-size (loses cx x) refl d n
 
   -- then no write waits that the PRER would lose
   pub saved-far : (x : ℕ) (d : Draft) → anyWrite (λ w. near cx x (w .bank)) (waiting (saved x d)) ≡ false
-  saved-far x d = while-ends (anyWrite (λ w. near cx x (w .bank))) refl d
+  saved-far x d = while-ends (loses cx x) refl d
 
   pub closed-size : (x : ℕ) (d : Draft) → Sized d → Sized (closed cx x d)
   unfolding closed

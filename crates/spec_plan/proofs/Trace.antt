@@ -30,7 +30,7 @@ use Rattle.spec_rules.specs.Channel.{fresh, stateOf, waitingOf, dueOf, leavingO
 use Rattle.spec_rules.specs.Checks.{channelAfter}
 use Rattle.spec_rules.specs.Distances.{distances}
 use Rattle.spec_rules.specs.Checks.{bounds}
-use Rattle.spec_rules.specs.Earliest.{under, fits, earliest, leavesRight, slotFrom, leastFrom}
+use Rattle.spec_rules.specs.Earliest.{under, fits, earliest, leavesRight, slotFrom, soonest, leastFrom}
 use Rattle.spec_rules.proofs.Bools.{not-both}
 use Rattle.spec_rules.proofs.ListLaws.{earlier-next}
 use Rattle.spec_rules.proofs.EarliestLaws.{moved-instant, moved-packet, moved-earliest, moved-fits, moved-least, moved-leaving, moved-right, picked-right, picked-late}
@@ -126,7 +126,7 @@ module _ (cx : Context) where
   unfolding slot leastFrom under traits rowTraits colTraits
   placed-leaves p r o =
       let ch : Channel = p .channel in
-      let t0 : ℕ = max (p .now .0) (earliest cx ch r) in
+      let t0 : ℕ = soonest cx ch r (p .now .0) in
       let t : ℕ = slotFrom cx ch r t0 (leavingOf cx ch r) in
       let m : ℕ = carried (leaver cx p r) (p .mask) in
       let same : leavingOf cx ch r ≡ leaver cx p r = sym (moved-leaving cx ch t m r) ∙ here-leaving cx r (record { planner = p; records = [] }) in
@@ -145,7 +145,7 @@ module _ (cx : Context) where
 
   slot-late : (p : PlannerState) (r : Record) → earliest cx (p .channel) r ≤ slot cx p r
   unfolding slot leastFrom
-  slot-late p r = omega (arith, picked-late cx (p .channel) r (max (p .now .0) (earliest cx (p .channel) r)) (leavingOf cx (p .channel) r))
+  slot-late p r = omega (arith, picked-late cx (p .channel) r (soonest cx (p .channel) r (p .now .0)) (leavingOf cx (p .channel) r))
 
   module _ (p : PlannerState) (d : Draft) (k : Trace cx p d) where
     -- one packet more

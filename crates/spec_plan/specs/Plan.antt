@@ -96,19 +96,26 @@ module _ (cx : Context) where
   unfoldable pub flushedWhile : (List Write → Bool) → Draft → Draft
   flushedWhile test d = when (test (waiting d)) flushed d
 
+  -- a PRER to bank x closes the bank of a write that waits
+  abbrev pub loses : ℕ → List Write → Bool
+  loses x ws = anyWrite (λ w. near cx x (w .bank)) ws
+
   -- "each by PRER; before a PRER that would lose a buffered write, send NOCOP"
   unfoldable pub closed : ℕ → Draft → Draft
-  closed x d = sent (rowPacket (Prer x)) (flushedWhile (anyWrite (λ w. near cx x (w .bank))) d)
+  closed x d = sent (rowPacket (Prer x)) (flushedWhile (loses x) d)
 
   -- of the banks below n that a test picks, "close the open ones in rising order"
   unfoldable pub closedUpTo : (ℕ → Bool) → ℕ → Draft → Draft
   closedUpTo pick zero d = d
   closedUpTo pick (suc n) d = let z : Draft = closedUpTo pick n d in when (pick n && not (isClosed (stateIn z n))) (closed n) z
 
-  -- "To reach a row that is not open: of the bank and its neighbours, close the open ones [..]. Then ACT."
+  -- "of the bank and its neighbours, close the open ones in rising order"
+  abbrev pub cleared : ℕ → Draft → Draft
+  cleared bank d = closedUpTo (near cx bank) bankCount d
+
+  -- "To reach a row that is not open: [..] Then ACT."
   unfoldable pub reached : ℕ → ℕ → Draft → Draft
-  reached bank row d =
-      when (not (openOn (stateIn d bank) row)) (λ d. sent (rowPacket (Act bank row)) (closedUpTo (near cx bank) bankCount d)) d
+  reached bank row d = when (not (openOn (stateIn d bank) row)) (λ d. sent (rowPacket (Act bank row)) (cleared bank d)) d
 
   -- "Read: NOCOP first if the buffered write has that bank and column; then RD."
   unfoldable pub plannedRead : Place → Draft → Draft
@@ -144,7 +151,7 @@ module _ (cx : Context) where
   unfoldable pub plannedRefresh : Draft → Draft
   plannedRefresh d =
       let bank : ℕ = d .planner .refresh in
-      turned (sent (rowPacket (Refp bank)) (sent (rowPacket (Refa bank)) (closedUpTo (near cx bank) bankCount d)))
+      turned (sent (rowPacket (Refp bank)) (sent (rowPacket (Refa bank)) (cleared bank d)))
 
   -- "wait adds to" now
   unfoldable pub plannedWait : ℕ → Draft → Draft

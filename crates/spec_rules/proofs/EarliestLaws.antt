@@ -26,7 +26,7 @@ use Rattle.spec_rules.specs.Rules.{freeFor, openFor, dataDelay, waited, 
 use Rattle.spec_rules.specs.Broken.{lowest, lowestRule}
 use Rattle.spec_rules.specs.Channel.{stateOf, waitingOf, dueOf, bankNext, leavingOf}
 use Rattle.spec_rules.specs.Checks.{bound, bounds, checkOf, checks, judged}
-use Rattle.spec_rules.specs.Earliest.{placedAt, under, fits, earliest, leavesRight, retireBound, slotFrom, leastFrom}
+use Rattle.spec_rules.specs.Earliest.{placedAt, under, fits, earliest, leavesRight, retireBound, slotFrom, soonest, leastFrom}
 use Rattle.spec_rules.proofs.Bools.{not-both, and-left, and-right, leb-max}
 use Rattle.spec_rules.proofs.TableLaws.{byDistance, rules-lines, all-listed, each-swap, each-ext, leb-maxLine}
 use Rattle.spec_rules.proofs.TrackLaws.{Tracks, row-keeps, keeps-all}
@@ -193,7 +193,7 @@ module _ (cx : Context) (ch : Channel) where
 
   pub moved-least : (t m : ℕ) (r : Record) (now : ℕ) → leastFrom cx ch (moved t m r) now ≡ leastFrom cx ch r now
   unfolding leastFrom
-  moved-least t m r now = rw (moved-earliest t m r, moved-leaving t m r) (same (max now (earliest cx ch r)) (leavingOf cx ch r))
+  moved-least t m r now = rw (moved-earliest t m r, moved-leaving t m r) (same (soonest cx ch r now) (leavingOf cx ch r))
     where
       same : (t0 : ℕ) (o : Option Write) → slotFrom cx ch (moved t m r) t0 o ≡ slotFrom cx ch r t0 o
       same t0 none = refl
@@ -268,7 +268,7 @@ module _ (cx : Context) (ns : Neighbours cx) (ch : Channel) (es : List Record) (
   unfolding leastFrom
   slot-legal now m f a h p =
       let o : Option Write = leavingOf cx ch r in
-      let t0 : ℕ = max now (earliest cx ch r) in
+      let t0 : ℕ = soonest cx ch r now in
       let t : ℕ = slotFrom cx ch r t0 o in
       eqb-true _ _ (rule-at t m ∙ rw (f, le-leb (earliest cx ch r) t (omega (arith, picked-late cx ch r t0 o)), le-leb (t + dataDelay cx r) horizon h) (picked-right cx ch r m t0 o a p))
 
@@ -279,4 +279,4 @@ module _ (cx : Context) (ns : Neighbours cx) (ch : Channel) (es : List Record) (
       let rest = and-right (fits cx ch r) _ all in
       let late : earliest cx ch r ≤ t = leb-true _ _ (and-left (leb (earliest cx ch r) t) _ rest) in
       let leaves = and-right (leb (t + dataDelay cx r) horizon) _ (and-right (leb (earliest cx ch r) t) _ rest) in
-      least-right cx ch r m (max now (earliest cx ch r)) (leavingOf cx ch r) t (omega arith) leaves
+      least-right cx ch r m (soonest cx ch r now) (leavingOf cx ch r) t (omega arith) leaves

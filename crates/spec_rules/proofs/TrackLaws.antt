@@ -32,7 +32,7 @@ use Rattle.spec_rules.specs.declared.Buffer.the-variants.{Empty, One}
 use Rattle.spec_rules.specs.declared.Channel.{Channel}
 use Rattle.spec_rules.specs.Neighbour.{bankCount, Context, near}
 use Rattle.spec_rules.specs.Packets.{onPins, traits, rowTraits, colTraits, retireTraits, instant, isPacket}
-use Rattle.spec_rules.specs.History.{bankBy, bankAfter, rest, onlyWrite, leaving, left, loads, joined, waitingNext, waitingAfter, Event, reaches, closes, Deed, retireDeeds, deeds, eventOf, done, events, has}
+use Rattle.spec_rules.specs.History.{bankBy, bankAfter, first, rest, onlyWrite, leaving, left, loads, joined, waitingNext, waitingAfter, Event, reaches, closes, Deed, retireDeeds, deeds, eventOf, done, events, has}
 use Rattle.spec_rules.specs.Rules.{dueAfter}
 use Rattle.spec_rules.specs.Channel.{idle, fresh, trackOf, stateOf, waitingOf, bufferOf, newestDue, dueOf, inBank, imap, bankNext, trackNext, afterPacket, trackRetired, afterRetire, afterData, leavingOf, after}
 use Rattle.spec_rules.proofs.Bools.{not-both, and-left}
@@ -286,7 +286,7 @@ row-writes t (Refp b) = refl
 -- what does not take the COL pins, and RD, retires nothing
 pub keeps-all : (cx : Context) (r : Record) (ws : List Write) → traits r .notRead ≡ false → leaving cx ws r ≡ none
 unfolding leaving
-keeps-all cx r ws e = rw e
+keeps-all cx r ws e = ap (λ (b : Bool). onlyWrite b (first ws)) e
 
 -- no more writes wait than the buffer holds: a WR has retired the earlier one
 waiting-held : (cx : Context) (t : PacketAt) (p : ColPacket) (b : Buffer)

@@ -63,6 +63,9 @@ module _ (cx : Context) (ch : Channel) where
     slotFrom t none = t
     slotFrom t (some w) = max t (retireBound w)
 
-    -- the least instant from now on
+    -- the least instant from now on: of the packet itself, and of the retire that it makes
+    abbrev pub soonest : ℕ → ℕ
+    soonest now = max now earliest
+
     unfoldable pub leastFrom : ℕ → ℕ
-    leastFrom now = slotFrom (max now earliest) (leavingOf cx ch r)
+    leastFrom now = slotFrom (soonest now) (leavingOf cx ch r)

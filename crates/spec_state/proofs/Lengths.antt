@@ -61,7 +61,7 @@ Bytes-count n due = number-first 1 n _ (number-first 1 (cond due 1 0) _ (Bytes-z
 
 Bytes-write : (w : Write) → Bytes (writeBytes w)
 unfolding writeBytes
-Bytes-write w = number-first 1 (w .bank) _ (number-first 1 (w .column) _ (number-first 2 0 _ (Bytes-bytes 4 (w .at .0 - 3))))
+Bytes-write w = number-first 1 (w .bank) _ (number-first 1 (w .column) _ (number-first 2 0 _ (Bytes-bytes 4 _)))
 
 Bytes-buffer : (b : Buffer) (due : Bool) → Bytes (bufferBytes b due)
 unfolding bufferBytes
@@ -71,8 +71,8 @@ Bytes-buffer (One w) due = Bytes-append (countBytes 1 due) _ (Bytes-count 1 due)
 Bytes-lasts : (l : LastInstants) → Bytes (lastsBytes l)
 unfolding lastsBytes
 Bytes-lasts l =
-    number-first 4 (l .packet .0 - 3) _
-    (number-first 4 (l .row .0 - 3) _ (number-first 4 (l .col .0 - 3) _ (number-first 4 (l .pre .0 - 3) _ (number-first 4 (l .rd .0 - 3) _ (Bytes-zeros 4)))))
+    number-first 4 _ _
+    (number-first 4 _ _ (number-first 4 _ _ (number-first 4 _ _ (number-first 4 _ _ (Bytes-zeros 4)))))
 
 Bytes-banks : (ch : Channel) → Bytes (banksBytes ch)
 unfolding banksBytes

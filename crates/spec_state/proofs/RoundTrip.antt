@@ -63,15 +63,22 @@ stored-in n = go (eqb n 0) refl
     go false e = omega arith
 
 -- rows are at most 512, so no open row has the tag of another state
-tag-back : (cx : Context) (k : Bank) → cx .settings .rows ≤ 512 → bankValid cx k ≡ true → bankIn (number (bytes 2 (bankTag k))) ≡ k
+tag-is : (cx : Context) (k : Bank) → cx .settings .rows ≤ 512 → bankValid cx k ≡ true → (bankTag k < 256 ^ 2) × (bankIn (bankTag k) ≡ k)
 unfolding bankIn bankTag bankValid
-tag-back cx Closed m h = rw (number-bytes 2 0 (omega arith))
-tag-back cx (Open r) m h =
-    let l = ltb-true r (cx .settings .rows) h in
-    let b : r + 1 < 256 ^ 2 = omega arith in
-    let e : r + 1 - 1 ≡ r = omega arith in
-    rw (number-bytes 2 (r + 1) b, ne-eqb (r + 1) 0 (λ z. omega arith), ne-eqb (r + 1) 65535 (λ z. omega arith), e)
-tag-back cx Refresh m h = rw (number-bytes 2 65535 (omega arith))
+tag-is cx Closed m h = (omega arith, refl)
+tag-is cx (Open r) m h = (omega (arith, below), go (eqb (bankTag (Open r)) 0) (eqb (bankTag (Open r)) 65535) refl refl)
+  where
+    below : r < cx .settings .rows
+    below = ltb-true r (cx .settings .rows) h
+
+    go : (z q : Bool) → eqb (bankTag (Open r)) 0 ≡ z → eqb (bankTag (Open r)) 65535 ≡ q → cond z Closed (cond q Refresh (Open (bankTag (Open r) - 1))) ≡ Open r
+    go true q e f = absurd (omega (arith, eqb-true (bankTag (Open r)) 0 e))
+    go false true e f = absurd (omega (arith, eqb-true (bankTag (Open r)) 65535 f, below))
+    go false false e f = ap Open (omega arith)
+tag-is cx Refresh m h = (omega arith, refl)
+
+tag-back : (cx : Context) (k : Bank) → cx .settings .rows ≤ 512 → bankValid cx k ≡ true → bankIn (number (bytes 2 (bankTag k))) ≡ k
+tag-back cx k m h = ap bankIn (number-bytes 2 (bankTag k) (tag-is cx k m h .0)) ∙ tag-is cx k m h .1
 
 -- a tag that was read is written
 tag-in : (n : ℕ) → bankTag (bankIn n) ≡ n
