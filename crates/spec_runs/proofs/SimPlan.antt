@@ -25,10 +25,10 @@ use Rattle.spec_rules.specs.Channel.{stateOf, bankNext}
 use Rattle.spec_rules.proofs.Bools.{not-both, and-left, neither}
 use Rattle.spec_state.specs.Valid.{bankValid}
 use Rattle.spec_plan.specs.declared.PlannerState.{PlannerState}
-use Rattle.spec_plan.specs.Plan.{Draft, rowPacket, colPacket, waiting, stateIn, openOn, hits, anyWaits, sent, flushed, flushedWhile, closed, closedUpTo, reached, plannedRead, plannedWrite, turned, plannedRefresh, plannedWait, plannedDrain}
+use Rattle.spec_plan.specs.Plan.{Draft, rowPacket, colPacket, waiting, stateIn, openOn, hits, anyWaits, sent, flushed, flushedWhile, closed, loses, closedUpTo, cleared, reached, plannedRead, plannedWrite, turned, plannedRefresh, plannedWait, plannedDrain}
 use Rattle.spec_plan.proofs.SentLaws.{when-either, sent-size, sent-state, row-waiting, while-keeps, while-ends, while-state, saved, saved-far, up-to-waiting}
 use Rattle.spec_plan.proofs.Invariant.{WritesIn, allOpen, inBanks, Changed, NearClosed, held-far, far-other}
-use Rattle.spec_plan.proofs.PlanLaws.{Good, good-flushed, good-closed, cleared, good-cleared, good-reached}
+use Rattle.spec_plan.proofs.PlanLaws.{Good, good-flushed, good-closed, good-cleared, good-reached}
 use Rattle.spec_model.specs.Store.{dualoctAt, dualoct, dualoctBytes, masked}
 use Rattle.spec_model.specs.Model.{freshModel, openRow, retiredTo}
 use Rattle.spec_model.proofs.StoreLaws.{dualoct-other, dualoctAt-inj}
@@ -83,7 +83,7 @@ module _ (cx : Context) (ns : Neighbours cx) (p : PlannerState) (st : List ℕ) 
   -- ---- banks closed, a row reached
 
   both-saved : (d : Draft) → Both d → (x : ℕ) → Both (saved cx x d)
-  both-saved d k x = both-while d k (anyWrite (λ w. near cx x (w .bank))) refl
+  both-saved d k x = both-while d k (loses cx x) refl
 
   both-closed : (d : Draft) → Both d → (x : ℕ) → x < bankCount → Both (closed cx x d)
   unfolding closed bankNext bankBy
@@ -112,10 +112,10 @@ module _ (cx : Context) (ns : Neighbours cx) (p : PlannerState) (st : List ℕ) 
   sim-reached : (d : Draft) → Both d → (b row : ℕ) → Sim cx st before (reached cx b row d) memory answers masks
   unfolding reached bankNext bankBy
   sim-reached d k b row =
-      let z : Draft = cleared cx ns p b d in
+      let z : Draft = cleared cx b d in
       let a = both-up-to d k (near cx b) bankCount (omega arith) in
       let c = good-cleared cx ns p d (k .0) b in
-      when-either (λ z. Sim cx st before z memory answers masks) (not (openOn (stateIn d b) row)) (λ d. sent cx (rowPacket (Act b row)) (cleared cx ns p b d)) d
+      when-either (λ z. Sim cx st before z memory answers masks) (not (openOn (stateIn d b) row)) (λ d. sent cx (rowPacket (Act b row)) (cleared cx b d)) d
       (λ _. both-row z a (Act b row) (λ x. eqb x b) (Open row) (other-than z (a .0) b (c .1))
       (sent-state cx (rowPacket (Act b row)) z (a .0 .inv .size)))
       (λ _. k .1)
@@ -160,7 +160,7 @@ module _ (cx : Context) (ns : Neighbours cx) (p : PlannerState) (st : List ℕ) 
   unfolding plannedRefresh bankNext bankBy
   sim-refresh d k =
       let b : ℕ = d .planner .refresh in
-      let z : Draft = cleared cx ns p b d in
+      let z : Draft = cleared cx b d in
       let a = both-up-to d k (near cx b) bankCount (omega arith) in
       let c = good-cleared cx ns p d (k .0) b in
       let y : Draft = sent cx (rowPacket (Refa b)) z in
