@@ -2,15 +2,12 @@
 -- list is the first that breaks a rule, and n the lowest that it breaks.
 -- Assumes nothing.
 use Prim.Native.Nat.{ℕ}
-use mathlib.Core.Path.{_≡_, refl, sym, ap, _∙_}
+use mathlib.Core.Path.{_≡_, ap, _∙_}
 use mathlib.Core.List.{List}
-use mathlib.Core.Logic.{_↔_}
+use mathlib.Core.Logic.{_↔_, Iff·trans}
 use native.Mathlib.Omega.{arith}
-use Rattle.settings.specs.declared.Settings.{Settings}
-use Rattle.settings.specs.declared.SettingsRead.{SettingsRead}
-use Rattle.settings.specs.declared.SettingsRead.the-variants.{Refused, Accepted}
-use Rattle.settings.specs.Settings.{settingsRead, AcceptedWith}
-use Rattle.record.specs.declared.Refusal.{Refusal}
+use Rattle.settings.specs.Settings.{AcceptedWith}
+use Rattle.settings.proofs.SettingsLaws.{accepted-iff}
 use Rattle.record.specs.declared.Refusal.the-variants as refusal
 use Rattle.record.specs.Refusal.{answerOf}
 use Rattle.record.proofs.RefusalLaws.{rule-number}
@@ -39,28 +36,20 @@ module _ (n j : ℕ) where
       )
 
   -- settings out of range have 1, not 11
-  under : (settings : List ℕ) (answer : SettingsRead → CheckAnswer) (by : Settings → Judged) (breach : Settings → Type 0)
-      → answer Refused ≡ checkAnswer (judged.Refused refusal.Settings)
-      → ((s : Settings) → answer (Accepted s) ≡ checkAnswer (by s))
-      → ((s : Settings) → (by s ≡ judged.Refused (refusal.Rule n j)) ↔ breach s)
-      → (answer (settingsRead settings) ≡ broken) ↔ AcceptedWith settings breach
+  settings-first : checkAnswer (judged.Refused refusal.Settings) ≡ broken → ⊥
   unfolding checkAnswer answerOf
-  under settings answer by breach f g h = go (settingsRead settings) refl
-    where
-      go : (q : SettingsRead) → settingsRead settings ≡ q → (answer q ≡ broken) ↔ AcceptedWith settings breach
-      go Refused e = (
-        λ x. absurd (let z = ap (λ (a : CheckAnswer). a .number) (sym f ∙ x) in omega arith),
-        λ b. absurd (let r = b .accepted in let z : _≡_ {A = ℕ} 0 1 = cc in omega arith),
-      )
-      go (Accepted s) e = (
-        λ x. record { said = s; accepted = e; holds = h s .0 (in-numbers (by s) .0 (sym (g s) ∙ x)) },
-        λ b. let r = b .accepted in let same : b .said ≡ s = cc in g s ∙ in-numbers (by s) .1 (h s .1 (rw same at (b .holds))),
-      )
+  settings-first e = let z = ap (λ (x : CheckAnswer). x .number) e in omega arith
 
   pub check-names : (settings list : List ℕ) → (listChecked settings list ≡ record { number = 11; rule = n; place = j }) ↔ AcceptedWith settings (λ s. ListBreach s list n j)
   unfolding listChecked listUnder
-  check-names settings list = under settings (λ q. listUnder q list) (λ s. listAnswer s list) (λ s. ListBreach s list n j) refl (λ s. refl) (λ s. list-names s n j list)
+  check-names settings list =
+      accepted-iff settings (listChecked settings list ≡ broken) (λ s. ListBreach s list n j)
+      (λ e x. settings-first (rw e at x))
+      (λ s e. rw e (Iff·trans (in-numbers (listAnswer s list)) (list-names s n j list)))
 
   pub check-log-names : (settings log : List ℕ) → (logChecked settings log ≡ record { number = 11; rule = n; place = j }) ↔ AcceptedWith settings (λ s. LogBreach s log n j)
   unfolding logChecked logUnder
-  check-log-names settings log = under settings (λ q. logUnder q log) (λ s. logAnswer s log) (λ s. LogBreach s log n j) refl (λ s. refl) (λ s. log-names s n j log)
+  check-log-names settings log =
+      accepted-iff settings (logChecked settings log ≡ broken) (λ s. LogBreach s log n j)
+      (λ e x. settings-first (rw e at x))
+      (λ s e. rw e (Iff·trans (in-numbers (logAnswer s log)) (log-names s n j log)))
