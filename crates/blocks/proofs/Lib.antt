@@ -4,3 +4,4 @@ pub mod ReadLaws
 pub mod OneBlock
 pub mod LogThenList
 pub mod ListThenLog
+pub mod Worked

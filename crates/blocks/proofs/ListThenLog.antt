@@ -3,6 +3,7 @@
 -- Assumes nothing.
 use Prim.Native.Nat.{ℕ, zero, suc, _+_, _*_, _/_, _%_, _^_, _<_, _≤_}
 use mathlib.Core.Path.{_≡_, refl, sym, _∙_, ap, ap₂}
+use mathlib.Core.Bool.{true}
 use mathlib.Core.List.{List, [], _++_}
 use mathlib.Core.Logic.{_⊎_, ⊎-elim}
 use native.Mathlib.Nat.{eq-or-lt-of-le, le-of-suc-le-suc}
@@ -37,6 +38,18 @@ Bytes-list log h = Bytes-upTo log h (blocksIn log)
 pub list-none : (log : List ℕ) → blocksIn log ≡ 0 → listOf log ≡ []
 unfolding listOf listUpTo
 list-none log e = rw e
+
+-- blocks before the last are full: of right blocks before block n
+pub length-before : (log : List ℕ) (n : ℕ) → ((k : ℕ) → k < n → rightAt log k ≡ true) → n < blocksIn log → length (listUpTo log n) ≡ 480 * n
+unfolding listUpTo
+length-before log zero right h = refl
+length-before log (suc n) right h =
+    let b : List ℕ = blockAt log n in
+    let i = length-before log n (λ k l. right k (omega arith)) (omega arith) in
+    let u : used b ≡ 15 = right-of n (eqb (n + 1) (blocksIn log)) b (right n (omega arith)) .used-full (ne-eqb (n + 1) (blocksIn log) (λ e. omega arith)) in
+    let size : length b ≡ 512 = length-part log (512 * n) 512 (omega arith) in
+    let r = length-part b 0 (32 * used b) (omega arith) in
+    simp (length-append, i, r) (omega arith)
 
 module _ (log : List ℕ) (good : firstBadBlock log ≡ blocksIn log) where
   -- ---- each block
@@ -83,15 +96,9 @@ module _ (log : List ℕ) (good : firstBadBlock log ≡ blocksIn log) where
 
   -- ---- the list
 
-  -- blocks before the last are full
   pub length-upTo : (n : ℕ) → n < blocksIn log → length (listUpTo log n) ≡ 480 * n
-  unfolding listUpTo
-  length-upTo zero h = refl
-  length-upTo (suc n) h =
-      let i = length-upTo n (omega arith) in
-      let u = used-full n (omega arith) in
-      let r = length-records n (omega arith) in
-      simp (length-append, i, r) (omega arith)
+  unfolding firstBadBlock
+  length-upTo n h = length-before log n (λ k l. first-before (rightAt log) (blocksIn log) k (omega arith)) h
 
   pub length-next : (n : ℕ) → n < blocksIn log → length (listUpTo log (n + 1)) ≡ 32 * (15 * n + used (blockAt log n))
   length-next n h =

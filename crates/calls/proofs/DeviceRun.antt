@@ -151,11 +151,11 @@ module _ (settings : List ℕ) (s : Settings) (a : settingsRead settings ≡ Acc
   abbrev called : Stepped
   called = stepAnswer s split m (length store) given (length room)
 
-  step-answer : stepAnswered settings (modelBytes m) store given room ≡ steppedAnswer called
+  pub step-answer : stepAnswered settings (modelBytes m) store given room ≡ steppedAnswer called
   unfolding stepAnswered stepUnder stepBy
   step-answer = rw (a, model-right s v split m k d, model-decode-encode s v split m k d)
 
-  step-model : steppedModel settings (modelBytes m) store given room ≡ modelBytes (stepModel s split m (length store) given (length room))
+  pub step-model : steppedModel settings (modelBytes m) store given room ≡ modelBytes (stepModel s split m (length store) given (length room))
   unfolding steppedModel modelUnder modelAfterBy stepModel
   step-model = rw (a, model-right s v split m k d, model-decode-encode s v split m k d) (go (isTaken called) (modelBy s split m (recordRead s given)))
     where

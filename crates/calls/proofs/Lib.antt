@@ -3,3 +3,4 @@ pub mod BenchRun
 pub mod DeviceRun
 pub mod CallsRun
 pub mod Refused
+pub mod Judges

@@ -2,3 +2,4 @@ pub mod WalkLaws
 pub mod RuleLaws
 pub mod PassLaws
 pub mod StopLaws
+pub mod BreachLaws

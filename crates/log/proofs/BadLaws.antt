@@ -2,7 +2,7 @@
 -- Assumes nothing.
 use Prim.Native.Nat.{ℕ, _+_, _*_, _/_, _<_, _≤_}
 use mathlib.Core.Path.{_≡_, _∙_, ap}
-use mathlib.Core.Bool.{cond}
+use mathlib.Core.Bool.{true, cond}
 use mathlib.Core.List.{List, _++_}
 use native.Mathlib.Omega.{arith}
 use lib.Dec.{eqb}
@@ -12,9 +12,9 @@ use Rattle.num.proofs.PartLaws.{part-left, part-right, length-part-le}
 use Rattle.num.proofs.SearchLaws.{first-same, first-le, first-join}
 use Rattle.settings.specs.declared.Settings.{Settings}
 use Rattle.record.specs.Record.{wellFormed, recordAt, recordsIn, firstBad}
-use Rattle.blocks.specs.Block.{used, blocksIn, blockAt, firstBadBlock, listUpTo}
-use Rattle.blocks.proofs.BlockLaws.{list-next}
-use Rattle.blocks.proofs.ListThenLog.{length-upTo}
+use Rattle.blocks.specs.Block.{used, blocksIn, blockAt, firstBadBlock, listUpTo, listOf}
+use Rattle.blocks.proofs.BlockLaws.{list-next, rightAt}
+use Rattle.blocks.proofs.ListThenLog.{length-before}
 
 -- a list whose first n records are l
 bad-append : (s : Settings) (l r : List ℕ) (n : ℕ) → length l ≡ 32 * n
@@ -39,9 +39,14 @@ bad-most s b n =
     let f = first-le (λ i. wellFormed s (recordAt (part b 0 (32 * n)) i)) (recordsIn (part b 0 (32 * n))) in
     omega arith
 
--- the records of block k follow 15 × k others
-pub bad-next : (s : Settings) (log : List ℕ) → firstBadBlock log ≡ blocksIn log → (k : ℕ) → k < blocksIn log
+-- the records of block k follow 15 × k others, where the blocks before it are right
+pub bad-next : (s : Settings) (log : List ℕ) (k : ℕ) → ((i : ℕ) → i < k → rightAt log i ≡ true) → k < blocksIn log
     → firstBad s (listUpTo log (k + 1)) ≡ cond (eqb (firstBad s (listUpTo log k)) (15 * k)) (15 * k + firstBad s (part (blockAt log k) 0 (32 * used (blockAt log k)))) (firstBad s (listUpTo log k))
-bad-next s log e k h =
-    let l = length-upTo log e k h in
+bad-next s log k right h =
+    let l = length-before log k right h in
     rw (list-next log k) (bad-append s (listUpTo log k) (part (blockAt log k) 0 (32 * used (blockAt log k))) (15 * k) (omega arith))
+
+-- where no block is bad, the blocks before the first bad one are all
+pub bad-of-all : (s : Settings) (log : List ℕ) → firstBadBlock log ≡ blocksIn log → firstBad s (listUpTo log (firstBadBlock log)) ≡ firstBad s (listOf log)
+unfolding listOf
+bad-of-all s log e = ap (λ (n : ℕ). firstBad s (listUpTo log n)) e

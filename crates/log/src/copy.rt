@@ -6,7 +6,7 @@ ghost use lib.Dec.{eqb};
 ghost use lib.ListN.{length};
 ghost use Rattle.num.specs.Bytes.{part};
 ghost use Rattle.record.specs.Record.{firstBad};
-ghost use Rattle.blocks.specs.Block.{used, blocksIn, blockAt, firstBadBlock, listOf};
+ghost use Rattle.blocks.specs.Block.{used, blocksIn, blockAt, firstBadBlock, listUpTo};
 ghost use Rattle.log.specs.Log.{encodeAnswer, encodeLog, decodeAnswer, decodeLog};
 use crate::Copied;
 use crate::Faults;
@@ -65,9 +65,10 @@ fn bad_up_to(s: Settings, log: &[u8], k: usize, bad: usize) -> usize
     bad
 }
 
-// The first bad block and the first bad record of a log, each block tested whole before the next one is read.
+// The first bad block of a log and the first bad record of the blocks before it, each block tested whole before the next one is
+// read.
 pub fn faults(s: Settings, log: &[u8]) -> Faults
-    ensures { λ r. ⌜ (r .block ≡ firstBadBlock (now (log .entry))) × (r .block ≡ blocksIn (now (log .entry)) → r .record ≡ firstBad s (listOf (now (log .entry)))) ⌝ }
+    ensures { λ r. ⌜ (r .block ≡ firstBadBlock (now (log .entry))) × (r .record ≡ firstBad s (listUpTo (now (log .entry)) (firstBadBlock (now (log .entry))))) ⌝ }
 {
     let n = log.len() / 512;
     let mut bad = 0;

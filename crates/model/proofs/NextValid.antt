@@ -49,6 +49,17 @@ refr-in s n (RowAt t (Refp b)) refr h = h
 refr-in s n (ColAt t p) refr h = h
 refr-in s n (DataOf t d) refr h = h
 
+-- a record that is taken breaks no rule
+pub taken-judged : (s : Settings) (nbr : Relation) (m : ModelState) (r : Record) (room : ℕ) → isTaken (recordAnswer s nbr m r room) ≡ true → judged s nbr (m .channel) r ≡ 0
+unfolding recordAnswer isTaken
+taken-judged s nbr m r room e = go (eqb (judged s nbr (m .channel) r) 0) refl e
+  where
+    go : (q : Bool) → eqb (judged s nbr (m .channel) r) 0 ≡ q
+        → isTaken (cond q (passedAnswer (readOf s (m .channel) r) (retireAnswer (retiredWrite m r) (maskOf r)) room) (Refused (Rule (judged s nbr (m .channel) r) 0))) ≡ true
+        → judged s nbr (m .channel) r ≡ 0
+    go true h t = eqb-true _ 0 h
+    go false h t = not-both false t refl
+
 module _ (s : Settings) (v : valid s ≡ true) (nbr : Relation) (ns : Neighbours nbr) (m : ModelState) (k : modelValid s nbr m ≡ true) where
   pub next-model-valid : (r : Record) → recordFits s r ≡ true → judged s nbr (m .channel) r ≡ 0 → modelValid s nbr (modelNext s nbr m r) ≡ true
   unfolding modelValid modelNext
@@ -57,22 +68,11 @@ module _ (s : Settings) (v : valid s ≡ true) (nbr : Relation) (ns : Neighbours
       let refr = refr-in s (bounds s v .rows-least) r (m .refr) (ltb-true (m .refr) (s .rows) (and-right (channelValid s nbr (m .channel)) _ k)) in
       rw (ch, lt-ltb _ _ refr)
 
-  -- a record that is taken breaks no rule
-  taken-judged : (r : Record) (room : ℕ) → isTaken (recordAnswer s nbr m r room) ≡ true → judged s nbr (m .channel) r ≡ 0
-  unfolding recordAnswer isTaken
-  taken-judged r room e = go (eqb (judged s nbr (m .channel) r) 0) refl e
-    where
-      go : (q : Bool) → eqb (judged s nbr (m .channel) r) 0 ≡ q
-          → isTaken (cond q (passedAnswer (readOf s (m .channel) r) (retireAnswer (retiredWrite m r) (maskOf r)) room) (Refused (Rule (judged s nbr (m .channel) r) 0))) ≡ true
-          → judged s nbr (m .channel) r ≡ 0
-      go true h t = eqb-true _ 0 h
-      go false h t = not-both false t refl
-
   read-valid : (read : RecordRead) → ((r : Record) → read ≡ Known r → recordFits s r ≡ true) → (room : ℕ) → isTaken (readAnswer s nbr m read room) ≡ true
       → modelValid s nbr (modelBy s nbr m read) ≡ true
   unfolding readAnswer modelBy
   read-valid NoRecord f room t = k
-  read-valid (Known r) f room t = next-model-valid r (f r refl) (taken-judged r room t)
+  read-valid (Known r) f room t = next-model-valid r (f r refl) (taken-judged s nbr m r room t)
 
   pub step-valid : (stored : ℕ) (given : List ℕ) (room : ℕ) → modelValid s nbr (stepModel s nbr m stored given room) ≡ true
   unfolding stepModel stepAnswer isTaken

@@ -1,5 +1,6 @@
 -- "Each ROW or COL packet takes the least instant, not before now, that the rules allow." (document 01, "Planner"): of every
--- packet of every call of a run, by the rules over all records before it.
+-- packet of every call of a run, by the rules over all records before it. At no instant from now on before its own does the packet
+-- break no rule, under any mask.
 -- Assumes nothing.
 use Prim.Native.Nat.{ℕ, _+_, _≤_, _<_}
 use mathlib.Core.Path.{_≡_, sym, ap, _∙_}
@@ -15,7 +16,7 @@ use Rattle.rules.specs.declared.Channel.{Channel}
 use Rattle.rules.specs.Neighbour.{Relation, Neighbours}
 use Rattle.rules.specs.Packets.{instant, isPacket}
 use Rattle.rules.specs.Broken.{earlier, recordOf, lowestRule}
-use Rattle.rules.specs.Earliest.{placedAt}
+use Rattle.rules.specs.Earliest.{placedAt, under}
 use Rattle.rules.proofs.TrackLaws.{Tracks}
 use Rattle.rules.proofs.EarliestLaws.{slot-least}
 use Rattle.plan.specs.declared.PlannerState.{PlannerState}
@@ -52,21 +53,21 @@ module _ (s : Settings) (nbr : Relation) (ns : Neighbours nbr) where
         let before : List Record = earlier (l ++ made) (length l + j) in
         isPacket (recordOf made j) ≡ true
         → (lowestRule s nbr before (recordOf made j) ≡ 0)
-        × ((t : ℕ) → nowAt p made j ≤ t → lowestRule s nbr before (placedAt t (recordOf made j)) ≡ 0 → instant (recordOf made j) ≤ t)
-    call-least j m packet =
+        × ((t m : ℕ) → nowAt p made j ≤ t → lowestRule s nbr before (placedAt t (under m (recordOf made j))) ≡ 0 → instant (recordOf made j) ≤ t)
+    call-least j h packet =
         let made : List Record = planRecords s nbr p request room in
         let es : List Record = earlier made j in
         let r : Record = recordOf made j in
         let ch : Channel = channelBy nbr (p .channel) es in
         let all : Made s nbr p (called s nbr p request room) = call-made s nbr p request room ns w (k .inv) in
         let timely : Each (InTime s) (reverse made) = each-in-time s made (call-in-time s nbr p request room) in
-        let here : Placed s nbr p es r = each-at (Placed s nbr p) made (all .each) j m in
+        let here : Placed s nbr p es r = each-at (Placed s nbr p) made (all .each) j h in
         let tracks : Tracks nbr ch (es ++ reverse l) = call-tracks s nbr ns p (reverse l) (k .tracks) (k .each) es (each-before (Placed s nbr p) made (all .each) j (omega arith)) (each-before (InTime s) made timely j (omega arith)) .0 in
         let fine : Allowed s nbr (earlier (l ++ made) (length l + j)) (recordOf (l ++ made) (length l + j)) =
         each-at (Allowed s nbr) (l ++ made) (run-call s nbr ns l p k request w room .each) (length l + j) (rw (length-append l made) (omega arith)) in
         let same : recordOf (l ++ made) (length l + j) ≡ r = getD-append-add l made j _ in (
           rw same at (fine .1),
-          λ t late e. rw (here .least packet) (slot-least s nbr ns ch (es ++ reverse l) tracks r packet (nowAt p made j) t (rw (earlier-join l made j) at e) late),
+          λ t m late e. rw (here .least packet) (slot-least s nbr ns ch (es ++ reverse l) tracks r packet (nowAt p made j) t m (rw (earlier-join l made j) at e) late),
         )
 
   pub placed-least : (calls : List Call) → OfBytes calls → (c : Call) → Bytes (c .request) →
@@ -75,6 +76,6 @@ module _ (s : Settings) (nbr : Relation) (ns : Neighbours nbr) where
       let made : List Record = planRecords s nbr p (c .request) (c .room) in
       (j : ℕ) → j < length made → isPacket (recordOf made j) ≡ true
       → (lowestRule s nbr (earlier (l ++ made) (length l + j)) (recordOf made j) ≡ 0)
-      × ((t : ℕ) → nowAt p made j ≤ t → lowestRule s nbr (earlier (l ++ made) (length l + j)) (placedAt t (recordOf made j)) ≡ 0 → instant (recordOf made j) ≤ t)
+      × ((t m : ℕ) → nowAt p made j ≤ t → lowestRule s nbr (earlier (l ++ made) (length l + j)) (placedAt t (under m (recordOf made j))) ≡ 0 → instant (recordOf made j) ≤ t)
   placed-least calls b c w =
       call-least (listed s nbr freshPlanner calls) (plannerAfter s nbr freshPlanner calls) (run-made s nbr ns calls b) (c .request) w (c .room)

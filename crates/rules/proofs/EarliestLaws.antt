@@ -11,18 +11,19 @@ use borrow.Author.Tests.{leb-true, le-leb, eqb-true, eq-eqb, ne-eqb}
 use native.Mathlib.Omega.{arith}
 use Rattle.settings.specs.declared.Settings.{Settings}
 use Rattle.settings.specs.Instants.{horizon, isInstant}
+use Rattle.packet.specs.declared.ColPacket.the-variants.{Nocop, Wr, Rd}
 use Rattle.record.specs.declared.Record.{Record}
 use Rattle.record.specs.declared.Record.the-variants.{RowAt, ColAt, DataOf}
 use Rattle.rules.specs.declared.Write.{Write}
 use Rattle.rules.specs.declared.Channel.{Channel}
 use Rattle.rules.specs.Neighbour.{Relation, Neighbours}
-use Rattle.rules.specs.Packets.{traits, instant, isPacket}
+use Rattle.rules.specs.Packets.{colTraits, traits, instant, isPacket}
 use Rattle.rules.specs.History.{bankOf, retiredBy, closes, has}
 use Rattle.rules.specs.Rules.{freeFor, openFor, dataDelay, fromWrite, ofBank, dataRight}
 use Rattle.rules.specs.Broken.{lowest, lowestRule}
 use Rattle.rules.specs.Channel.{stateOf, waitingOf, dueOf}
 use Rattle.rules.specs.Checks.{boundIf, bound1, bound2, bound3, bound5, bound6, bound7, bound8, bound10, bound11, bound13Read, bound13Retire, checks, judged}
-use Rattle.rules.specs.Earliest.{placedAt, afterWrite, bound12, fits, earliest}
+use Rattle.rules.specs.Earliest.{placedAt, under, afterWrite, bound12, fits, earliest}
 use Rattle.rules.proofs.Bools.{not-both, and-left, and-right, leb-max}
 use Rattle.rules.proofs.TrackLaws.{Tracks}
 use Rattle.rules.proofs.CheckerRight.{judged-right}
@@ -74,6 +75,12 @@ placed-instant t (RowAt u p) = refl
 placed-instant t (ColAt u p) = refl
 placed-instant t (DataOf u d) = refl
 
+under-packet : (m : ℕ) (r : Record) → isPacket (under m r) ≡ isPacket r
+unfolding under isPacket
+under-packet m (RowAt t p) = refl
+under-packet m (ColAt t p) = refl
+under-packet m (DataOf t d) = refl
+
 module _ (s : Settings) (nbr : Relation) (ch : Channel) where
   pub checks-split : (r : Record)
       → eqb (judged s nbr ch r) 0 ≡ fits s nbr ch r && (leb (earliest s nbr ch r) (instant r) && leb (instant r + dataDelay s r) horizon)
@@ -92,13 +99,22 @@ module _ (s : Settings) (nbr : Relation) (ch : Channel) where
       (not (ofBank (bankOf w) (closes nbr (stateOf ch) r))) (dataRight (dueOf s (ch .buffer)) r) (not (traits r .masked) || has (retiredBy w r))
       ∙ sym (simp leb-max))
 
-  -- the bounds and the tests on the state do not go by the instant of a packet
+  -- the bounds go neither by the mask of a packet nor by its instant
+  under-earliest : (m : ℕ) (r : Record) → earliest s nbr ch (under m r) ≡ earliest s nbr ch r
+  unfolding under earliest traits colTraits isPacket
+  under-earliest m (RowAt t p) = refl
+  under-earliest m (ColAt t (Nocop n)) = refl
+  under-earliest m (ColAt t (Wr b c n)) = refl
+  under-earliest m (ColAt t (Rd b c n)) = refl
+  under-earliest m (DataOf t d) = refl
+
   placed-earliest : (t : ℕ) (r : Record) → earliest s nbr ch (placedAt t r) ≡ earliest s nbr ch r
   unfolding placedAt earliest traits isPacket
   placed-earliest t (RowAt u p) = refl
   placed-earliest t (ColAt u p) = refl
   placed-earliest t (DataOf u d) = refl
 
+  -- nor do the tests on the state go by the instant
   placed-fits : (t : ℕ) (r : Record) → isPacket r ≡ true → fits s nbr ch (placedAt t r) ≡ fits s nbr ch r
   unfolding placedAt fits traits isPacket
   placed-fits t (RowAt u p) h = rw (due-packets (dueOf s (ch .buffer)) (RowAt (record { 0 = t }) p) (RowAt u p) refl refl)
@@ -116,19 +132,24 @@ module _ (s : Settings) (nbr : Relation) (ch : Channel) where
       → eqb (judged s nbr ch (placedAt t r)) 0 ≡ fits s nbr ch r && (leb (earliest s nbr ch r) t && leb (t + dataDelay s r) horizon)
   allowed-at t r h = checks-split (placedAt t r) ∙ rw (placed-instant t r, placed-earliest t r, placed-fits t r h, placed-delay t r)
 
--- in terms of the rules: the later of now and the largest bound is allowed, and no earlier instant from now on is
-module _ (s : Settings) (nbr : Relation) (ns : Neighbours nbr) (ch : Channel) (es : List Record) (k : Tracks nbr ch es) (r : Record) (packet : isPacket r ≡ true) where
-  rule-at : (t : ℕ) → eqb (lowestRule s nbr es (placedAt t r)) 0 ≡ fits s nbr ch r && (leb (earliest s nbr ch r) t && leb (t + dataDelay s r) horizon)
-  rule-at t = ap (λ (n : ℕ). eqb n 0) (sym (judged-right s nbr ns ch es k (placedAt t r))) ∙ allowed-at s nbr ch t r packet
+-- in terms of the rules
+module _ (s : Settings) (nbr : Relation) (ns : Neighbours nbr) (ch : Channel) (es : List Record) (k : Tracks nbr ch es) where
+  rule-at : (r : Record) → isPacket r ≡ true → (t : ℕ)
+      → eqb (lowestRule s nbr es (placedAt t r)) 0 ≡ fits s nbr ch r && (leb (earliest s nbr ch r) t && leb (t + dataDelay s r) horizon)
+  rule-at r packet t = ap (λ (n : ℕ). eqb n 0) (sym (judged-right s nbr ns ch es k (placedAt t r))) ∙ allowed-at s nbr ch t r packet
 
-  pub slot-legal : (now : ℕ) → fits s nbr ch r ≡ true → max now (earliest s nbr ch r) + dataDelay s r ≤ horizon
+  -- the later of now and the largest bound is allowed
+  pub slot-legal : (r : Record) → isPacket r ≡ true → (now : ℕ) → fits s nbr ch r ≡ true → max now (earliest s nbr ch r) + dataDelay s r ≤ horizon
       → lowestRule s nbr es (placedAt (max now (earliest s nbr ch r)) r) ≡ 0
-  slot-legal now f m =
+  slot-legal r packet now f m =
       let t : ℕ = max now (earliest s nbr ch r) in
-      eqb-true _ _ (rule-at t ∙ rw (f, le-leb (earliest s nbr ch r) t (omega arith), le-leb (t + dataDelay s r) horizon m))
+      eqb-true _ _ (rule-at r packet t ∙ rw (f, le-leb (earliest s nbr ch r) t (omega arith), le-leb (t + dataDelay s r) horizon m))
 
-  pub slot-least : (now t : ℕ) → lowestRule s nbr es (placedAt t r) ≡ 0 → now ≤ t → max now (earliest s nbr ch r) ≤ t
-  slot-least now t e m =
-      let all = sym (rule-at t) ∙ eq-eqb _ _ e in
-      let late : earliest s nbr ch r ≤ t = leb-true _ _ (and-left (leb (earliest s nbr ch r) t) _ (and-right (fits s nbr ch r) _ all)) in
+  -- no earlier instant from now on is, under any mask
+  pub slot-least : (r : Record) → isPacket r ≡ true → (now t m : ℕ) → lowestRule s nbr es (placedAt t (under m r)) ≡ 0 → now ≤ t → max now (earliest s nbr ch r) ≤ t
+  slot-least r packet now t m e n =
+      let q : Record = under m r in
+      let all = sym (rule-at q (under-packet m r ∙ packet) t) ∙ eq-eqb _ _ e in
+      let late : earliest s nbr ch q ≤ t = leb-true _ _ (and-left (leb (earliest s nbr ch q) t) _ (and-right (fits s nbr ch q) _ all)) in
+      let same : earliest s nbr ch q ≡ earliest s nbr ch r = under-earliest s nbr ch m r in
       omega arith

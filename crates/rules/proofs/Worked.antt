@@ -65,27 +65,35 @@ lists =
     ∷ (row 4 (Act 0 0) ∷ col 12 (Rd 0 1 full) ∷ [])
     -- a packet in the place of a D: judged by all rules
     ∷ (row 4 (Act 0 0) ∷ col 5 (Wr 0 0 full) ∷ col 6 (Nocop full) ∷ [])
-    -- each rule alone: 1 by order, by range, and by the instant of the data
+    -- each rule alone, but for tRC, which under set H comes with tRP: 1 by order, by range, and by the instant of the data of RD
+    -- and of WR
     ∷ (row 8 (Act 0 0) ∷ col 7 (Nocop full) ∷ [])
     ∷ (row 3 (Act 0 0) ∷ [])
     ∷ (row 4 (Act 0 0) ∷ col 999999993 (Rd 0 0 full) ∷ [])
+    ∷ (row 4 (Act 0 0) ∷ col 999999995 (Wr 0 0 full) ∷ [])
     ∷ (row 4 (Act 0 0) ∷ row 7 (Prer 5) ∷ [])
     ∷ (col 4 (Nocop full) ∷ col 7 (Nocop full) ∷ [])
     ∷ (row 4 (Act 0 0) ∷ row 32 (Act 1 0) ∷ [])
+    -- 5 by tRR, and by tRC of a neighbour
     ∷ (row 4 (Act 0 0) ∷ row 8 (Act 2 0) ∷ [])
+    ∷ (row 4 (Act 0 0) ∷ row 24 (Prer 0) ∷ row 31 (Act 1 0) ∷ [])
     ∷ (row 4 (Refa 0) ∷ row 23 (Prer 1) ∷ [])
-    -- 7 by the bank, and by a neighbour of a bank that the PRER closed
+    -- 7 by the bank, by a neighbour of a bank that the PRER closed, and after a REFP
     ∷ (row 4 (Act 0 0) ∷ row 28 (Prer 0) ∷ row 35 (Act 0 1) ∷ [])
     ∷ (row 4 (Act 1 0) ∷ row 28 (Prer 0) ∷ row 35 (Act 2 0) ∷ [])
+    ∷ (row 4 (Refa 0) ∷ row 28 (Refp 0) ∷ row 35 (Act 0 0) ∷ [])
     ∷ (row 4 (Refp 0) ∷ row 11 (Prer 5) ∷ [])
     ∷ (row 4 (Refa 0) ∷ col 13 (Rd 0 0 full) ∷ [])
     ∷ (row 4 (Act 0 0) ∷ col 4 (Wr 0 0 full) ∷ [])
     ∷ (row 4 (Act 0 0) ∷ col 13 (Rd 0 0 full) ∷ col 18 (Wr 0 0 full) ∷ [])
     ∷ (row 4 (Act 0 0) ∷ col 10 (Wr 0 0 full) ∷ dat 16 ∷ col 17 (Nocop full) ∷ [])
-    -- 13 by an RD, and by a retire
+    -- 13 by an RD of a neighbour, by a retire, and by a retire of a neighbour
     ∷ (row 4 (Act 0 0) ∷ col 21 (Rd 0 0 full) ∷ row 24 (Prer 1) ∷ [])
     ∷ (row 4 (Act 0 0) ∷ col 13 (Wr 0 0 full) ∷ dat 19 ∷ col 21 (Nocop full) ∷ row 24 (Prer 0) ∷ [])
+    ∷ (row 4 (Act 0 0) ∷ col 13 (Wr 0 0 full) ∷ dat 19 ∷ col 21 (Nocop full) ∷ row 24 (Prer 1) ∷ [])
+    -- 14 by a PRER to a neighbour, and by a REFP
     ∷ (row 4 (Act 0 0) ∷ col 5 (Wr 0 0 full) ∷ dat 11 ∷ row 24 (Prer 1) ∷ [])
+    ∷ (row 4 (Act 0 0) ∷ col 5 (Wr 0 0 full) ∷ dat 11 ∷ row 24 (Refp 0) ∷ [])
     -- 15 by a packet in the place of the D, by its instant, and by a D elsewhere
     ∷ (row 4 (Act 0 0) ∷ col 5 (Wr 0 0 full) ∷ col 13 (Nocop full) ∷ [])
     ∷ (row 4 (Act 0 0) ∷ col 5 (Wr 0 0 full) ∷ dat 12 ∷ [])
@@ -93,7 +101,8 @@ lists =
     -- 16 with nothing buffered, and on an RD
     ∷ (col 4 (Nocop 3) ∷ [])
     ∷ (row 4 (Act 0 0) ∷ col 5 (Wr 0 0 full) ∷ dat 11 ∷ col 13 (Rd 0 1 3) ∷ [])
-    -- no rule broken: banks 15 and 16, a ROW and a COL packet at one instant, a packet before the instant of the D before it
+    -- no rule broken: the data of a WR at the last instant; banks 15 and 16, a ROW and a COL packet at one instant, a packet before the instant of the D before it
+    ∷ (row 4 (Act 0 0) ∷ col 999999994 (Wr 0 0 full) ∷ dat 1000000000 ∷ [])
     ∷ (row 4 (Act 15 0) ∷ row 12 (Act 16 0) ∷ col 12 (Wr 15 0 full) ∷ dat 18 ∷ row 16 (Prer 3) ∷ [])
     ∷ []
 
@@ -105,11 +114,14 @@ verdicts =
     ∷ (1 ∷ 1 ∷ 1 ∷ [])
     ∷ (0 ∷ 1 ∷ 1 ∷ [])
     ∷ (1 ∷ 1 ∷ 1 ∷ [])
+    ∷ (1 ∷ 1 ∷ 1 ∷ [])
     ∷ (1 ∷ 2 ∷ 2 ∷ [])
     ∷ (1 ∷ 3 ∷ 3 ∷ [])
     ∷ (1 ∷ 4 ∷ 4 ∷ [])
     ∷ (1 ∷ 5 ∷ 5 ∷ [])
+    ∷ (2 ∷ 5 ∷ 5 ∷ 7 ∷ [])
     ∷ (1 ∷ 6 ∷ 6 ∷ [])
+    ∷ (2 ∷ 7 ∷ 7 ∷ [])
     ∷ (2 ∷ 7 ∷ 7 ∷ [])
     ∷ (2 ∷ 7 ∷ 7 ∷ [])
     ∷ (1 ∷ 8 ∷ 8 ∷ [])
@@ -119,12 +131,15 @@ verdicts =
     ∷ (3 ∷ 12 ∷ 12 ∷ [])
     ∷ (2 ∷ 13 ∷ 13 ∷ [])
     ∷ (4 ∷ 13 ∷ 13 ∷ [])
+    ∷ (4 ∷ 13 ∷ 13 ∷ [])
+    ∷ (3 ∷ 14 ∷ 14 ∷ [])
     ∷ (3 ∷ 14 ∷ 14 ∷ [])
     ∷ (2 ∷ 15 ∷ 15 ∷ [])
     ∷ (2 ∷ 15 ∷ 15 ∷ [])
     ∷ (0 ∷ 15 ∷ 15 ∷ [])
     ∷ (0 ∷ 16 ∷ 16 ∷ [])
     ∷ (3 ∷ 16 ∷ 16 ∷ [])
+    ∷ (3 ∷ [])
     ∷ (5 ∷ [])
     ∷ []
 

@@ -5,6 +5,8 @@ use Prim.Native.Nat.{ℕ, _+_, _-_, max}
 use mathlib.Core.Bool.{Bool, not, _&&_, _||_}
 use mathlib.Core.Option.{Option, none, some}
 use Rattle.settings.specs.declared.Settings.{Settings}
+use Rattle.packet.specs.declared.ColPacket.{ColPacket}
+use Rattle.packet.specs.declared.ColPacket.the-variants.{Nocop, Wr, Rd}
 use Rattle.record.specs.declared.Record.{Record}
 use Rattle.record.specs.declared.Record.the-variants.{RowAt, ColAt, DataOf}
 use Rattle.rules.specs.declared.Write.{Write}
@@ -21,6 +23,17 @@ unfoldable pub placedAt : ℕ → Record → Record
 placedAt t (RowAt u p) = RowAt (record { 0 = t }) p
 placedAt t (ColAt u p) = ColAt (record { 0 = t }) p
 placedAt t (DataOf u d) = DataOf (record { 0 = t }) d
+
+-- a COL packet under another mask
+abbrev pub colUnder : ℕ → ColPacket → ColPacket
+colUnder m (Nocop n) = Nocop m
+colUnder m (Wr b c n) = Wr b c m
+colUnder m (Rd b c n) = Rd b c m
+
+unfoldable pub under : ℕ → Record → Record
+under m (RowAt t p) = RowAt t p
+under m (ColAt t p) = ColAt t (colUnder m p)
+under m (DataOf t d) = DataOf t d
 
 -- the instant that a waiting write and a distance ask of the next
 abbrev pub afterWrite : Option Write → ℕ → ℕ

@@ -2,6 +2,7 @@
 use mathlib.Core.Path.{sym, _∙_, ap}
 use native.Mathlib.Omega.{arith}
 use borrow.Author.Tests.{eq-eqb, ne-eqb}
+use Rattle.log.proofs.BadLaws.{bad-of-all}
 use Rattle.checker.specs.Check.{logAnswer, recordsAnswer, ruleAnswer}
 use Rattle.checker.proofs.WalkLaws.{log-via, log-within, log-formed, log-few}
 use borrow.Author.Needs.{needs}
@@ -27,9 +28,10 @@ records-in-requires c κs = sym (c .before .faults .ensures .0) ∙ c .if2 .left
 returns-3 : tie.Need-returns-3
 unfolding logAnswer recordsAnswer
 returns-3 c =
+    let a = c .before .before .before .before .before .before .args in
     let f = c .before .before .before .faults .ensures in
     let g = sym (f .0) ∙ c .before .before .if2 .left in
-    let e = f .1 (c .before .before .if2 .left) in
+    let e = f .1 ∙ bad-of-all (a .s) (a .log .now) g in
     let n = c .before .records-in .ensures in
     rw (eq-eqb _ 0 (c .before .before .before .before .if1 .left), eq-eqb _ _ g, ne-eqb _ _ (λ z. c .if3 .taken (e ∙ z ∙ sym n)), e)
 
@@ -39,7 +41,7 @@ judge-all-requires c κs =
     let f = c .before .before .before .faults .ensures in
     let g = sym (f .0) ∙ c .before .before .if2 .left in
     let n = c .before .records-in .ensures in
-    let e = sym (f .1 (c .before .before .if2 .left)) ∙ c .if3 .left ∙ n in
+    let e = sym (f .1 ∙ bad-of-all (a .s) (a .log .now) g) ∙ c .if3 .left ∙ n in
     rw n (omega (arith, log-few (a .log .now) g), (log-within (a .log .now) g _, log-formed (a .s) (a .log .now) g e))
 
 returns-4 : tie.Need-returns-4
@@ -49,7 +51,7 @@ returns-4 c =
     let f = c .before .before .before .before .faults .ensures in
     let g = sym (f .0) ∙ c .before .before .before .if2 .left in
     let n = c .before .before .records-in .ensures in
-    let e = sym (f .1 (c .before .before .before .if2 .left)) ∙ c .before .if3 .left ∙ n in
+    let e = sym (f .1 ∙ bad-of-all (a .s) (a .log .now) g) ∙ c .before .if3 .left ∙ n in
     rw (eq-eqb _ 0 (c .before .before .before .before .before .if1 .left), eq-eqb _ _ g, eq-eqb _ _ e) (rw n at (c .judge-all .ensures) ∙ ap (ruleAnswer (a .s)) (log-via (a .s) (a .log .now) g))
 
 pub check-log-spec : {M : Type 1} → statement M

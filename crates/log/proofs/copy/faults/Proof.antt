@@ -1,8 +1,7 @@
--- `faults` meets its contract: the blocks before block k are right in every turn, and where all are, the first bad record of theirs is known.
+-- `faults` meets its contract: the blocks before block k are right in every turn, and the first bad record of theirs is known.
 use Prim.Native.Nat.{ℕ, _+_, _-_, _<_, _≤_}
 use mathlib.Core.Path.{_≡_, refl, sym, _∙_}
-use mathlib.Core.Bool.{Bool, true}
-use mathlib.Core.List.{List}
+use mathlib.Core.Bool.{true}
 use native.Mathlib.Omega.{arith}
 use lib.Dec.{eqb}
 use borrow.Author.Count.{below-more}
@@ -10,26 +9,23 @@ use borrow.Author.Tests.{not-true, not-false}
 use Rattle.num.specs.Search.{firstFalse}
 use Rattle.num.proofs.SearchLaws.{first-at, first-none}
 use Rattle.record.specs.Record.{firstBad}
-use Rattle.blocks.specs.Block.{blockRight, blocksIn, blockAt, firstBadBlock, listUpTo, listOf}
-use Rattle.blocks.proofs.OneBlock.{Right, right-of}
+use Rattle.blocks.specs.Block.{blocksIn, blockAt, firstBadBlock, listUpTo}
+use Rattle.blocks.proofs.BlockLaws.{rightAt}
+use Rattle.blocks.proofs.OneBlock.{right-of}
 use Rattle.log.proofs.BadLaws.{bad-next}
 use borrow.Author.Needs.{needs}
 use Rattle.log.proofs.copy.faults.Statement.{statement}
 use Rattle.log.proofs.copy.faults.Tie as tie
 
--- whether block k of a log is right there
-abbrev rightAt : List ℕ → ℕ → Bool
-rightAt log k = blockRight k (eqb (k + 1) (blocksIn log)) (blockAt log k)
-
 abbrev Inv-loop : tie.InvT-loop
-Inv-loop s log n bad₀ k₀ bad k = (k ≤ n) × ((i : ℕ) → i < k → rightAt log i ≡ true) × (firstBadBlock log ≡ blocksIn log → bad ≡ firstBad s (listUpTo log k))
+Inv-loop s log n bad₀ k₀ bad k = (k ≤ n) × ((i : ℕ) → i < k → rightAt log i ≡ true) × (bad ≡ firstBad s (listUpTo log k))
 
 abbrev μ-loop : tie.MeasureT-loop
 μ-loop s log n bad₀ k₀ bad k = n - k
 
 loop-holds : tie.Need-loop-holds Inv-loop μ-loop
 unfolding firstBad firstFalse listUpTo
-loop-holds c = (search needs, λ i h. absurd (omega arith), λ e. refl)
+loop-holds c = (search needs, λ i h. absurd (omega arith), refl)
 
 right-at-requires : tie.Need-right-at-requires Inv-loop μ-loop
 right-at-requires c κs = search needs
@@ -38,10 +34,9 @@ returns : tie.Need-returns Inv-loop μ-loop
 unfolding firstBadBlock
 returns c =
     let l = c .before .before .before in
-    let log = l .before .before .args .log .now in (
-      sym (first-at (rightAt log) (blocksIn log) (l .loop .k) (l .loop .inv .1) (omega arith) (sym (c .before .right-at .ensures) ∙ not-true _ (c .if1 .taken))),
-      λ e. absurd (omega arith),
-    )
+    let log = l .before .before .args .log .now in
+    let bad = first-at (rightAt log) (blocksIn log) (l .loop .k) (l .loop .inv .1) (omega arith) (sym (c .before .right-at .ensures) ∙ not-true _ (c .if1 .taken)) in
+    (sym bad, rw bad (l .loop .inv .2))
 
 bad-up-to-requires : tie.Need-bad-up-to-requires Inv-loop μ-loop
 bad-up-to-requires c κs =
@@ -64,16 +59,16 @@ loop-again c =
     let k = l .loop .k in (
       search needs,
       below-more _ _ (l .loop .inv .1) (sym (c .before .before .right-at .ensures) ∙ not-false _ (c .before .if1 .left)),
-      λ e. rw (c .bad-up-to .ensures, l .loop .inv .2 e) (sym (bad-next (a .s) (a .log .now) e k (omega arith))),
+      rw (c .bad-up-to .ensures, l .loop .inv .2) (sym (bad-next (a .s) (a .log .now) k (l .loop .inv .1) (omega arith))),
     )
 
 returns-2 : tie.Need-returns-2 Inv-loop μ-loop
-unfolding firstBadBlock listOf
+unfolding firstBadBlock
 returns-2 c =
     let log = c .before .before .before .args .log .now in
     let e : c .before .loop .k ≡ blocksIn log = omega arith in
     let good = first-none (rightAt log) (blocksIn log) (rw e at (c .before .loop .inv .1)) in
-    (sym good, λ q. rw e at (c .before .loop .inv .2 good))
+    (omega (arith, good), rw (good, ← e) (c .before .loop .inv .2))
 
 pub faults-spec : {M : Type 1} → statement M
 faults-spec =
