@@ -1,0 +1,2 @@
+pub mod BankLaws
+pub mod AfterLaws
