@@ -21,7 +21,7 @@ use Rattle.spec_state.specs.Valid.{channelValid}
 use Rattle.spec_state.specs.ChannelBytes.{instantBytes, channelBytes, channelIn, zeroPart, channelSpare}
 use Rattle.spec_state.proofs.PlaneLaws.{part-split, part-both}
 use Rattle.spec_state.proofs.Lengths.{channel-length, channel-bytes}
-use Rattle.spec_state.proofs.RoundTrip.{instant-back, zero-back, instant-in, zero-in, channel-decode-encode, channel-encode-decode}
+use Rattle.spec_state.proofs.RoundTrip.{instant-back, zero-back, instant-in, zero-in, Kept, channel-back, valid-kept, channel-encode-decode}
 use Rattle.spec_plan.specs.declared.PlannerState.{PlannerState}
 use Rattle.spec_plan.specs.Planner.{plannerValid}
 use Rattle.spec_plan.specs.PlannerBytes.{plannerLength, plannerBytes, plannerIn, plannerRight}
@@ -61,33 +61,48 @@ parts p =
     let p4 = part-split b 760 2 6 _ _ (length-bytes 2 (p .mask)) (p3 .1) in
     record { channel = p0 .0; now = p1 .0; refresh = p2 .0; after-refresh = p3 .0; mask = p4 .0; after-mask = p4 .1 }
 
+-- the state that the bytes say, where each number fits them
+module _ (cx : Context) (v : valid (cx .settings) ≡ true) (p : PlannerState) (k : Kept cx (p .channel)) (t : isInstant (p .now .0) ≡ true) (f : p .refresh < 2 ^ 16) (m : p .mask < 2 ^ 16) where
+  channel-said : (channelIn (plannerBytes p) ≡ p .channel) × (channelSpare (plannerBytes p) ≡ true)
+  channel-said = channel-back cx (p .channel) (plannerBytes p) v k (rw planner-length (omega arith)) (parts p .channel)
+
+  pub planner-back : plannerIn (plannerBytes p) ≡ p
+  unfolding plannerIn
+  planner-back =
+      let q : Parts (plannerBytes p) p = parts p in
+      rw (
+        channel-said .0,
+        instant-back (plannerBytes p) 752 (p .now) (q .now) (rw t (or-true (eqb (p .now .0) 0))),
+        q .refresh,
+        number-bytes 2 (p .refresh) f,
+        q .mask,
+        number-bytes 2 (p .mask) m,
+      )
+
 module _ (cx : Context) (v : valid (cx .settings) ≡ true) (p : PlannerState) (k : plannerValid cx p ≡ true) where
-  channel-back : (channelIn (plannerBytes p) ≡ p .channel) × (channelSpare (plannerBytes p) ≡ true)
+  abbrev tested : Tested cx p
+  tested = valid-tested cx p k
+
+  kept : Kept cx (p .channel)
   unfolding plannerValid
-  channel-back =
-      channel-decode-encode cx (p .channel) (plannerBytes p) v (and-left (channelValid cx (p .channel)) _ k) (rw planner-length (omega arith)) (parts p .channel)
+  kept = valid-kept cx (p .channel) (and-left (channelValid cx (p .channel)) _ k)
+
+  refresh-fits : p .refresh < 2 ^ 16
+  unfolding bankCount
+  refresh-fits = omega (arith, ltb-true (p .refresh) 32 (tested .refresh-in))
+
+  mask-fits : p .mask < 2 ^ 16
+  mask-fits = ltb-true (p .mask) 0x10000 (tested .mask-in)
 
   pub planner-decode-encode : plannerIn (plannerBytes p) ≡ p
-  unfolding plannerIn bankCount
-  planner-decode-encode =
-      let t : Tested cx p = valid-tested cx p k in
-      let q : Parts (plannerBytes p) p = parts p in
-      let refresh : p .refresh < 256 ^ 2 = omega (arith, ltb-true (p .refresh) 32 (t .refresh-in)) in
-      let mask : p .mask < 256 ^ 2 = omega (arith, ltb-true (p .mask) 0x10000 (t .mask-in)) in
-      rw (
-        channel-back .0,
-        instant-back (plannerBytes p) 752 (p .now) (q .now) (rw (t .now-in) (or-true (eqb (p .now .0) 0))),
-        q .refresh,
-        number-bytes 2 (p .refresh) refresh,
-        q .mask,
-        number-bytes 2 (p .mask) mask,
-      )
+  planner-decode-encode = planner-back cx v p kept (tested .now-in) refresh-fits mask-fits
 
   pub planner-right : plannerRight cx (plannerBytes p) ≡ true
   unfolding plannerRight plannerLength
   planner-right =
       let q : Parts (plannerBytes p) p = parts p in
-      rw (planner-length p, channel-back .1, zero-back (plannerBytes p) 758 2 (q .after-refresh), zero-back (plannerBytes p) 762 6 (q .after-mask), planner-decode-encode, k)
+      let spare = channel-said cx v p kept (tested .now-in) refresh-fits mask-fits .1 in
+      rw (planner-length p, spare, zero-back (plannerBytes p) 758 2 (q .after-refresh), zero-back (plannerBytes p) 762 6 (q .after-mask), planner-decode-encode, k)
 
 -- ---- read, then written
 

@@ -232,18 +232,31 @@ buffer-back cx b (One w) due l m v z h =
     let one = write-back cx b w l m (and-left (writeValid cx w) _ v) (p .0) in
     (rw (q .0, one .0), q .1, rw (z, q .0, q .2, q .3, one .1, zero-back b 744 8 (p .1)))
 
-pub channel-decode-encode : (cx : Context) (ch : Channel) (b : List ℕ) → valid (cx .settings) ≡ true → channelValid cx ch ≡ true → 752 ≤ length b
+-- what a state must be for that: instants and open rows in range, and a waiting write that is one
+pub record Kept (cx : Context) (ch : Channel) : Type 0 where
+  pub size : length (ch .banks) ≡ bankCount
+  pub stamped : Stamped ch
+  pub rows-in : (x : ℕ) → x < bankCount → bankValid cx (stateOf ch x) ≡ true
+  pub write : allWrites (writeValid cx) (waitingOf (ch .buffer)) ≡ true
+
+pub channel-back : (cx : Context) (ch : Channel) (b : List ℕ) → valid (cx .settings) ≡ true → Kept cx ch → 752 ≤ length b
     → part b 0 752 ≡ channelBytes ch → (channelIn b ≡ ch) × (channelSpare b ≡ true)
 unfolding channelIn bankCount
-channel-decode-encode cx ch b v c n h =
+channel-back cx ch b v k n h =
     let m = bounds (cx .settings) v in
-    let k : Sound cx ch = valid-sound cx ch c in
     let p : Parts b ch = parts b ch h in
     let banks : tracksIn b 32 ≡ ch .banks =
     sym (tracks-are b (ch .banks) 32 (k .size) (λ x l. sym (track-back cx b ch x p l (m .rows-most) (k .stamped .banks x l) (k .rows-in x l)))) in
     let q = lasts-back b ch (k .stamped) (p .lasts) in
     let w = buffer-back cx b (ch .buffer) (ch .due) n (m .columns-most) (k .write) (q .1) (p .buffer) in
     (rw (banks, q .0, w .0, w .1), w .2)
+
+pub valid-kept : (cx : Context) (ch : Channel) → channelValid cx ch ≡ true → Kept cx ch
+valid-kept cx ch c = let k : Sound cx ch = valid-sound cx ch c in record { size = k .size; stamped = k .stamped; rows-in = k .rows-in; write = k .write }
+
+pub channel-decode-encode : (cx : Context) (ch : Channel) (b : List ℕ) → valid (cx .settings) ≡ true → channelValid cx ch ≡ true → 752 ≤ length b
+    → part b 0 752 ≡ channelBytes ch → (channelIn b ≡ ch) × (channelSpare b ≡ true)
+channel-decode-encode cx ch b v c = channel-back cx ch b v (valid-kept cx ch c)
 
 -- ---- read, then written
 

@@ -1,0 +1,18 @@
+-- `plan_in_place::rows::close` meets its contract.
+use borrow.Author.Needs.{needs}
+use Rattle.plan_in_place.proofs.rows.close.Statement.{statement}
+use Rattle.plan_in_place.proofs.rows.close.Tie as tie
+
+returns : tie.Need-returns
+returns c = (rw (c .before .before .before .before .before .before .before .before .close-at .ensures) at (c .before .before .put-close .ensures), rw (c .before .before .before .before .before .before .before .before .close-at .ensures) at (c .before .before .before .before .before .before .put-record .ensures))
+
+pub close-spec : {M : Type 1} → statement M
+close-spec =
+    tie.close
+    (tie.spec
+    (λ c κs. search needs)
+    (λ c κs. search needs)
+    (λ c κs. search needs)
+    (λ c. search needs)
+    (λ c. search needs)
+    returns)

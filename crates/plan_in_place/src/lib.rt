@@ -1,0 +1,6 @@
+// The planner on its lent bytes, for states in which no packet of a request can be late and rooms for the most records: one function
+// for each command, one for each step of the plan's definition.
+mod cols;
+mod fields;
+mod rows;
+mod words;
