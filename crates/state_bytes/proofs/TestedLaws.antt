@@ -1,0 +1,357 @@
+-- What is tested of the bytes of a state is what is asked of the bytes and of the state that they say.
+-- Assumes nothing.
+use Prim.Native.Nat.{ℕ, zero, suc, _+_, _*_, _-_, _/_, _%_, _<_, _≤_}
+use mathlib.Core.Path.{_≡_, refl, sym, ap, ap₂, _∙_}
+use mathlib.Core.Bool.{Bool, true, false, not, _&&_, _||_, cond, and-assoc, and-comm, and-true, and-false, or-false, or-true, or-self, or-comm}
+use mathlib.Core.List.{List}
+use native.Mathlib.Omega.{arith}
+use borrow.Author.Tests.{eqb-true, eqb-false, eq-eqb, ne-eqb, le-leb, lt-leb, ltb-true}
+use lib.Dec.{eqb, leb, ltb}
+use lib.ListN.{length, getD}
+use Rattle.num.specs.Bytes.{number, part, Bytes}
+use Rattle.num.specs.Search.{allUpTo}
+use Rattle.num.proofs.SearchLaws.{all-at, all-intro}
+use Rattle.num.proofs.PartLaws.{number-fits}
+use Rattle.settings.specs.declared.Settings.{Settings}
+use Rattle.spec_rules.specs.declared.Bank.{Bank}
+use Rattle.spec_rules.specs.Neighbour.{bankCount, Context, contextOf}
+use Rattle.spec_rules.specs.History.{isClosed, isOpen, anyWrite, allWrites}
+use Rattle.spec_rules.specs.Channel.{trackOf, stateOf, waitingOf}
+use Rattle.spec_rules.proofs.Bools.{iff-eq, not-both, and-left, and-right, all-ext, all-and}
+use Rattle.spec_rules.proofs.NeighbourLaws.{split-neighbours}
+use Rattle.spec_state.specs.Valid.{bankValid, trackValid, writeValid, lastsValid, apart, channelValid}
+use Rattle.spec_state.specs.ChannelBytes.{bankIn, trackIn, tracksIn, lastsIn, writeIn, bufferIn, channelIn, zeroPart, channelSpare}
+use Rattle.spec_state.proofs.PlaneLaws.{length-tracks, tracks-at}
+use Rattle.spec_plan.specs.Planner.{notRefresh}
+use Rattle.chan_view.specs.form.Beside.{lowOf}
+use Rattle.chan_view.proofs.NearLaws.{Beside, own, low, high, Below, no-low, one-low, Above, no-high, one-high, below, above, near-beside, near-low, or-right}
+use Rattle.state_bytes.specs.form.Stored.{latest}
+use Rattle.state_bytes.specs.form.Tested.{allStored, mostTag, tagsRight, writeRight, bufferRight, channelTested}
+use Rattle.state_bytes.proofs.NumberLaws.{stamp-stored, instant-stored, tag-valid, tag-planned, tag-closed, tag-open, count-parts, count-is}
+
+-- ---- tests joined
+
+pub and-shift : (a b c : Bool) → a && (b && c) ≡ b && (a && c)
+and-shift true b c = refl
+and-shift false b c = sym (and-false b)
+
+up-to-one : (x : ℕ) → leb x 1 ≡ eqb x 0 || eqb x 1
+up-to-one x = go (eqb x 0) refl (eqb x 1) refl
+  where
+    go : (p : Bool) → eqb x 0 ≡ p → (q : Bool) → eqb x 1 ≡ q → leb x 1 ≡ p || q
+    go true e q f = le-leb x 1 (omega (arith, eqb-true x 0 e))
+    go false e true f = le-leb x 1 (omega (arith, eqb-true x 1 f))
+    go false e false f = lt-leb x 1 (omega (arith, eqb-false x 0 e, eqb-false x 1 f))
+
+not-two : (x : ℕ) → eqb x 0 && eqb x 1 ≡ false
+not-two x = go (eqb x 0) refl
+  where
+    go : (p : Bool) → eqb x 0 ≡ p → p && eqb x 1 ≡ false
+    go true e = ne-eqb x 1 (λ z. omega (arith, eqb-true x 0 e))
+    go false e = refl
+
+may-below : (may : Bool) → cond may 1 0 < 2
+may-below true = omega arith
+may-below false = omega arith
+
+may-is : (may : Bool) (d : ℕ) → eqb d (cond may 1 0) ≡ cond may (eqb d 1) (eqb d 0)
+may-is true d = refl
+may-is false d = refl
+
+-- the buffer's tests, by the number of writes (none, one) and by whether data are due (not, due)
+by-counts : (none one not-due due may z none-zero one-zero right : Bool) → none && one ≡ false → not-due && due ≡ false
+    → ((none && (not-due && z)) && none-zero) || (((one && (not-due && z)) || (one && (cond may due not-due && z))) && (one-zero && right))
+    ≡ (((none || one) && ((not-due || due) && z)) && (cond none none-zero one-zero && cond none (not due) right)) && (may || not due)
+by-counts true true n d may z a b r e f = not-both true refl e
+by-counts true false true true may z a b r e f = not-both true refl f
+by-counts true false true false may z a b r e f = rw (and-true a, or-true may, or-false (z && a), and-true (z && a))
+by-counts true false false true may z a b r e f = rw (and-false a, and-false z)
+by-counts true false false false may z a b r e f = refl
+by-counts false true true true may z a b r e f = not-both true refl f
+by-counts false true true false true z a b r e f = rw (or-false z, and-true (z && (b && r)))
+by-counts false true true false false z a b r e f = rw (or-self z, and-true (z && (b && r)))
+by-counts false true false true true z a b r e f = sym (and-true (z && (b && r)))
+by-counts false true false true false z a b r e f = sym (and-false (z && (b && r)))
+by-counts false true false false true z a b r e f = refl
+by-counts false true false false false z a b r e f = refl
+by-counts false false n d may z a b r e f = refl
+
+-- ---- neighbours: each bank with the one below it
+
+module _ (s : Settings) (state : ℕ → Bank) where
+  abbrev pair : ℕ → ℕ → Bool
+  pair x y = isClosed (state x) || isClosed (state y)
+
+  abbrev lowRight : ℕ → Bool
+  lowRight x = eqb (lowOf s x) 32 || pair (lowOf s x) x
+
+  -- the neighbour below a bank is the bank before it
+  before-is : (x : ℕ) → eqb (lowOf s x) 32 ≡ false → lowOf s x + 1 ≡ x
+  before-is x e = go (below s x)
+    where
+      go : Below s x → lowOf s x + 1 ≡ x
+      go (no-low p q) = absurd (eqb-false (lowOf s x) 32 e p)
+      go (one-low p q) = p
+
+  low-pair : (x y : ℕ) → x < 32 → y < 32 → y ≡ lowOf s x → lowRight x ≡ true → pair y x ≡ true
+  low-pair x y lx ly e h = rw e (rw (ne-eqb (lowOf s x) 32 (λ z. omega arith)) at h)
+
+  pair-of-lows : (x y : ℕ) → x < 32 → y < 32 → contextOf s .nbr x y ≡ true → lowRight x ≡ true → lowRight y ≡ true → pair x y ≡ true
+  pair-of-lows x y lx ly n hx hy = go (near-beside s x y (or-right (eqb y x) _ n)) (near-beside s y x (or-right (eqb x y) _ (split-neighbours s .symmetric y x ∙ n))) (above s x) (above s y)
+    where
+      same : y ≡ x → pair x y ≡ true
+      same e = not-both (contextOf s .nbr x y) n (rw e (split-neighbours s .irreflexive x))
+
+      go : Beside s x y → Beside s y x → Above s x → Above s y → pair x y ≡ true
+      go (own e) q u v = same e
+      go (low e) q u v = or-comm (isClosed (state x)) (isClosed (state y)) ∙ low-pair x y lx ly e hx
+      go (high e) (own f) u v = same (sym f)
+      go (high e) (low f) u v = low-pair y x ly lx f hy
+      go (high e) (high f) (no-high p _) v = absurd (omega arith)
+      go (high e) (high f) (one-high p _) (no-high q _) = absurd (omega arith)
+      go (high e) (high f) (one-high p _) (one-high q _) = absurd (omega arith)
+
+  low-of-pairs : (x : ℕ) → x < 32 → ((y : ℕ) → y < 32 → not (contextOf s .nbr x y) || pair x y ≡ true) → lowRight x ≡ true
+  low-of-pairs x l h = go (eqb (lowOf s x) 32) refl
+    where
+      go : (q : Bool) → eqb (lowOf s x) 32 ≡ q → q || pair (lowOf s x) x ≡ true
+      go true e = refl
+      go false e =
+          let p = before-is x e in
+          let n : contextOf s .nbr x (lowOf s x) ≡ true = rw (ne-eqb (lowOf s x) x (λ z. omega arith)) at (near-low s x (omega arith)) in
+          or-comm (isClosed (state (lowOf s x))) (isClosed (state x)) ∙ (rw n at (h (lowOf s x) (omega arith)))
+
+  pub lows-apart : apart (contextOf s) state ≡ allUpTo lowRight 32
+  unfolding apart bankCount
+  lows-apart =
+      iff-eq _ _
+      (λ h. all-intro lowRight 32 (λ x l. low-of-pairs x l (λ y m. all-at _ 32 y (all-at _ 32 x h l) m)))
+      (λ h. all-intro _ 32 (λ x l. all-intro _ 32 (λ y m. go x y l m (contextOf s .nbr x y) refl (all-at lowRight 32 x h l) (all-at lowRight 32 y h m))))
+    where
+      go : (x y : ℕ) → x < 32 → y < 32 → (q : Bool) → contextOf s .nbr x y ≡ q → lowRight x ≡ true → lowRight y ≡ true → not q || pair x y ≡ true
+      go x y l m true n hx hy = pair-of-lows x y l m n hx hy
+      go x y l m false n hx hy = refl
+
+-- ---- the planes
+
+-- five tests at each of 32 indices
+abbrev fives : (ℕ → Bool) → ℕ → Bool
+fives f x = f x && (f (32 + x) && (f (64 + x) && (f (96 + x) && f (128 + x))))
+
+five-at : (f : ℕ → Bool) (i : ℕ) → i < 160 → fives f (i % 32) ≡ true → f i ≡ true
+five-at f i l h = go (i / 32) refl
+  where
+    t1 : f (32 + i % 32) && (f (64 + i % 32) && (f (96 + i % 32) && f (128 + i % 32))) ≡ true
+    t1 = and-right (f (i % 32)) _ h
+
+    t2 : f (64 + i % 32) && (f (96 + i % 32) && f (128 + i % 32)) ≡ true
+    t2 = and-right (f (32 + i % 32)) _ t1
+
+    t3 : f (96 + i % 32) && f (128 + i % 32) ≡ true
+    t3 = and-right (f (64 + i % 32)) _ t2
+
+    go : (k : ℕ) → i / 32 ≡ k → f i ≡ true
+    go zero e = let q : i ≡ i % 32 = omega arith in ap f q ∙ and-left (f (i % 32)) _ h
+    go (suc zero) e = let q : i ≡ 32 + i % 32 = omega arith in ap f q ∙ and-left (f (32 + i % 32)) _ t1
+    go (suc (suc zero)) e = let q : i ≡ 64 + i % 32 = omega arith in ap f q ∙ and-left (f (64 + i % 32)) _ t2
+    go (suc (suc (suc zero))) e = let q : i ≡ 96 + i % 32 = omega arith in ap f q ∙ and-left (f (96 + i % 32)) _ t3
+    go (suc (suc (suc (suc k)))) e = let q : i ≡ 128 + i % 32 = omega arith in ap f q ∙ and-right (f (96 + i % 32)) _ t3
+
+planes-join : (f : ℕ → Bool) → allUpTo f 160 ≡ allUpTo (fives f) 32
+planes-join f =
+    iff-eq _ _
+    (λ h. all-intro (fives f) 32 (λ x l. rw (all-at f 160 x h (omega arith), all-at f 160 (32 + x) h (omega arith), all-at f 160 (64 + x) h (omega arith), all-at f 160 (96 + x) h (omega arith), all-at f 160 (128 + x) h (omega arith))))
+    (λ h. all-intro f 160 (λ i l. five-at f i l (all-at (fives f) 32 (i % 32) h (omega arith))))
+
+-- ---- the banks
+
+module _ (s : Settings) (b : List ℕ) where
+  abbrev cx : Context
+  cx = contextOf s
+
+  abbrev tagIn : ℕ → ℕ
+  tagIn x = number (part b (640 + 2 * x) 2)
+
+  state-at : (x : ℕ) → x < 32 → stateOf (channelIn b) x ≡ bankIn (tagIn x)
+  unfolding channelIn bankCount trackIn
+  state-at x l = ap (λ t. t .bank) (tracks-at b 32 x l)
+
+  -- a bank's instants, and its state
+  track-tested : (x : ℕ) → x < 32 → trackValid cx (trackOf (channelIn b) x)
+      ≡ bankValid cx (bankIn (tagIn x)) && fives (λ k. leb (number (part b (0 + 4 * k) 4)) latest) x
+  unfolding channelIn bankCount trackIn trackValid
+  track-tested x l =
+      let opened : 0 + 4 * x ≡ 4 * x = omega arith in
+      let act : 0 + 4 * (32 + x) ≡ 128 + 4 * x = omega arith in
+      let pre : 0 + 4 * (64 + x) ≡ 256 + 4 * x = omega arith in
+      let rd : 0 + 4 * (96 + x) ≡ 384 + 4 * x = omega arith in
+      let retire : 0 + 4 * (128 + x) ≡ 512 + 4 * x = omega arith in
+      rw (
+        opened,
+        act,
+        pre,
+        rd,
+        retire,
+        tracks-at b 32 x l,
+        stamp-stored (number (part b (4 * x) 4)),
+        stamp-stored (number (part b (128 + 4 * x) 4)),
+        stamp-stored (number (part b (256 + 4 * x) 4)),
+        stamp-stored (number (part b (384 + 4 * x) 4)),
+        stamp-stored (number (part b (512 + 4 * x) 4)),
+      )
+
+  abbrev pub rows-in : Bool
+  rows-in = allUpTo (λ x. bankValid cx (bankIn (tagIn x))) 32
+
+  tracks-tested : allUpTo (λ x. trackValid cx (trackOf (channelIn b) x)) 32 ≡ rows-in && allStored b 0 160
+  tracks-tested =
+      let f : ℕ → Bool = λ k. leb (number (part b (0 + 4 * k) 4)) latest in
+      all-ext _ _ 32 track-tested ∙ all-and (λ x. bankValid cx (bankIn (tagIn x))) (fives f) 32 ∙ ap (λ t. rows-in && t) (sym (planes-join f))
+
+  lasts-tested : lastsValid (channelIn b) ≡ allStored b 704 5
+  unfolding channelIn lastsIn lastsValid allUpTo
+  lasts-tested =
+      rw (
+        stamp-stored (number (part b 704 4)),
+        stamp-stored (number (part b 708 4)),
+        stamp-stored (number (part b 712 4)),
+        stamp-stored (number (part b 716 4)),
+        stamp-stored (number (part b 720 4)),
+      )
+      (simp and-assoc)
+
+  -- the bank before bank x, by its tag
+  abbrev besideRight : ℕ → Bool
+  besideRight x = (eqb (lowOf s x) 32 || eqb (number (part b (638 + 2 * x) 2)) 0) || eqb (tagIn x) 0
+
+  beside-at : (x : ℕ) → x < 32 → lowRight s (stateOf (channelIn b)) x ≡ besideRight x
+  beside-at x l = go (eqb (lowOf s x) 32) refl
+    where
+      go : (q : Bool) → eqb (lowOf s x) 32 ≡ q → q || pair s (stateOf (channelIn b)) (lowOf s x) x ≡ (q || eqb (number (part b (638 + 2 * x) 2)) 0) || eqb (tagIn x) 0
+      go true e = refl
+      go false e =
+          let p = before-is s (stateOf (channelIn b)) x e in
+          let n : 640 + 2 * lowOf s x ≡ 638 + 2 * x = omega arith in
+          rw (state-at (lowOf s x) (omega arith), state-at x l, tag-closed (tagIn (lowOf s x)), tag-closed (tagIn x), n)
+
+  apart-tested : apart cx (stateOf (channelIn b)) ≡ allUpTo besideRight 32
+  apart-tested = lows-apart s (stateOf (channelIn b)) ∙ all-ext _ _ 32 beside-at
+
+  -- the tags, where the test of a bank's own tag is another
+  tags-as : (also : ℕ) (test : ℕ → Bool) → ((x : ℕ) → x < 32 → leb (tagIn x) (mostTag (s .rows)) || eqb (tagIn x) also ≡ test x)
+      → tagsRight s also b ≡ allUpTo test 32 && apart cx (stateOf (channelIn b))
+  tags-as also test h =
+      all-and (λ x. leb (tagIn x) (mostTag (s .rows)) || eqb (tagIn x) also) besideRight 32
+      ∙ ap₂ _&&_ (all-ext _ test 32 h) (sym apart-tested)
+
+  abbrev pub none-refreshed : Bool
+  none-refreshed = allUpTo (λ x. notRefresh (stateOf (channelIn b) x)) 32
+
+  module _ (w : Bytes b) (l : 752 ≤ length b) where
+    tag-fits : (x : ℕ) → x < 32 → tagIn x < 0x10000
+    tag-fits x m = number-fits b (640 + 2 * x) 2 w (omega arith)
+
+    pub model-tags : tagsRight s 0xFFFF b ≡ (rows-in && true) && apart cx (stateOf (channelIn b))
+    unfolding contextOf
+    model-tags =
+        tags-as 0xFFFF (λ x. bankValid cx (bankIn (tagIn x))) (λ x m. tag-valid cx (tagIn x) (tag-fits x m))
+        ∙ ap (λ t. t && apart cx (stateOf (channelIn b))) (sym (and-true rows-in))
+
+    pub planner-tags : tagsRight s 0 b ≡ (rows-in && none-refreshed) && apart cx (stateOf (channelIn b))
+    unfolding contextOf
+    planner-tags =
+        tags-as 0 (λ x. bankValid cx (bankIn (tagIn x)) && notRefresh (stateOf (channelIn b) x))
+        (λ x m. tag-planned cx (tagIn x) (tag-fits x m) ∙ ap (λ k. bankValid cx (bankIn (tagIn x)) && notRefresh k) (sym (state-at x m)))
+        ∙ ap (λ t. t && apart cx (stateOf (channelIn b))) (all-and (λ x. bankValid cx (bankIn (tagIn x))) (λ x. notRefresh (stateOf (channelIn b) x)) 32)
+
+  -- ---- the buffer
+
+  -- a waiting write: its fields, and its bank
+  abbrev write-valid : Bool
+  write-valid = writeValid cx (writeIn b 736)
+
+  abbrev write-open : Bool
+  write-open = isOpen (stateOf (channelIn b) (getD b 736 0))
+
+  write-tested : writeRight s b ≡ zeroPart b 738 2 && (write-valid && write-open)
+  unfolding writeRight writeValid bankCount contextOf
+  write-tested = go (ltb (getD b 736 0) 32) refl
+    where
+      at : ℕ
+      at = number (part b 740 4)
+
+      go : (q : Bool) → ltb (getD b 736 0) 32 ≡ q → writeRight s b ≡ zeroPart b 738 2 && (write-valid && write-open)
+      go true e =
+          let tag : ℕ = tagIn (getD b 736 0) in
+          rw (e, instant-stored at, state-at (getD b 736 0) (ltb-true _ 32 e), tag-open tag)
+          (shuffle (ltb (getD b 737 0) (s .columns)) (zeroPart b 738 2) (not (eqb tag 0)) (not (eqb tag 0xFFFF)) (not (eqb at 0)) (leb at latest))
+        where
+          shuffle : (c z o r a l : Bool) → ((((c && z) && o) && r) && a) && l ≡ z && ((c && (a && l)) && (o && r))
+          shuffle c z o r a l = simp (and-assoc, and-comm, and-shift)
+      go false e = rw e (sym (and-false (zeroPart b 738 2)))
+
+  abbrev waits-valid : Bool
+  waits-valid = allWrites (writeValid cx) (waitingOf (bufferIn b))
+
+  abbrev waits-open : Bool
+  waits-open = allWrites (λ w. isOpen (stateOf (channelIn b) (w .bank))) (waitingOf (bufferIn b))
+
+  abbrev due-right : Bool
+  due-right = not (eqb (getD b 729 0) 1) || anyWrite (λ w. true) (waitingOf (bufferIn b))
+
+  -- by the number of writes that wait
+  waits-as : (q : Bool) → eqb (getD b 728 0) 0 ≡ q
+      → waits-valid && (waits-open && due-right) ≡ cond q (not (eqb (getD b 729 0) 1)) (write-valid && write-open)
+  unfolding bufferIn waitingOf
+  waits-as true e = rw e (or-false (not (eqb (getD b 729 0) 1)))
+  waits-as false e = rw (e, or-true (not (eqb (getD b 729 0) 1))) (simp and-true)
+
+  module _ (w : Bytes b) (l : 752 ≤ length b) where
+    -- where the count 257 may be, or not
+    held-tested : (may : Bool)
+        → (eqb (number (part b 728 8)) 0 && zeroPart b 736 8) || ((eqb (number (part b 728 8)) 1 || eqb (number (part b 728 8)) (1 + 256 * cond may 1 0)) && writeRight s b)
+        ≡ ((leb (getD b 728 0) 1 && (leb (getD b 729 0) 1 && zeroPart b 730 6)) && (cond (eqb (getD b 728 0) 0) (zeroPart b 736 8) (zeroPart b 738 2) && (waits-valid && (waits-open && due-right))))
+        && (may || not (eqb (getD b 729 0) 1))
+    held-tested may =
+        let n : ℕ = getD b 728 0 in
+        let d : ℕ = getD b 729 0 in
+        let z : ℕ = number (part b 730 6) in
+        let is : (m e : ℕ) → m < 2 → e < 2 → eqb (number (part b 728 8)) (m + 256 * e) ≡ eqb n m && (eqb d e && eqb z 0) =
+        λ m e lm le. rw (count-parts b l) (count-is n d z m e (w 728 (omega arith)) (omega arith) le (w 729 (omega arith))) in
+        rw (
+          is 0 0 (omega arith) (omega arith),
+          is 1 0 (omega arith) (omega arith),
+          is 1 (cond may 1 0) (omega arith) (may-below may),
+          may-is may d,
+          up-to-one n,
+          up-to-one d,
+          waits-as (eqb n 0) refl,
+          write-tested,
+        )
+        (by-counts (eqb n 0) (eqb n 1) (eqb d 0) (eqb d 1) may (eqb z 0) (zeroPart b 736 8) (zeroPart b 738 2) (write-valid && write-open) (not-two n) (not-two d))
+
+-- ---- the channel
+
+-- with what a planner asks besides, or a model
+all-parts : (P L R A N C W O D z u E F : Bool)
+    → ((P && L) && ((R && E) && A)) && ((((N && (C && (W && (O && D)))) && F) && z) && u)
+    ≡ ((z && (N && (C && u))) && (((R && P) && (L && W)) && (A && (O && D)))) && (E && F)
+all-parts P L R A N C W O D z u E F = simp (and-assoc, and-comm, and-shift)
+
+module _ (s : Settings) (b : List ℕ) where
+  valid-parts : channelValid (contextOf s) (channelIn b)
+      ≡ ((rows-in s b && allStored b 0 160) && (allStored b 704 5 && waits-valid s b)) && (apart (contextOf s) (stateOf (channelIn b)) && (waits-open s b && due-right s b))
+  unfolding channelValid bankCount channelIn
+  valid-parts =
+      let n : eqb (length (tracksIn b 32)) 32 ≡ true = eq-eqb _ 32 (length-tracks b 32) in
+      ap₂ (λ p q. p && (apart (contextOf s) (stateOf (channelIn b)) && q)) (ap₂ _&&_ n (ap₂ _&&_ (tracks-tested s b) (ap (λ q. q && waits-valid s b) (lasts-tested s b)))) refl
+
+  -- where the count 257 may be or not, and the test of tags asks more
+  pub channel-as : (may : Bool) (also : ℕ) (more : Bool) → Bytes b → 752 ≤ length b → tagsRight s also b ≡ (rows-in s b && more) && apart (contextOf s) (stateOf (channelIn b))
+      → channelTested s also (1 + 256 * cond may 1 0) b ≡ (channelSpare b && channelValid (contextOf s) (channelIn b)) && (more && (may || not (eqb (getD b 729 0) 1)))
+  unfolding channelTested bufferRight channelSpare
+  channel-as may also more w l h =
+      rw (h, held-tested s b w l may, valid-parts)
+      (all-parts (allStored b 0 160) (allStored b 704 5) (rows-in s b) (apart (contextOf s) (stateOf (channelIn b)))
+      (leb (getD b 728 0) 1 && (leb (getD b 729 0) 1 && zeroPart b 730 6)) (cond (eqb (getD b 728 0) 0) (zeroPart b 736 8) (zeroPart b 738 2))
+      (waits-valid s b) (waits-open s b) (due-right s b) (zeroPart b 724 4) (zeroPart b 744 8) more (may || not (eqb (getD b 729 0) 1)))

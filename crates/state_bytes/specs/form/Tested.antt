@@ -1,0 +1,63 @@
+-- What the code tests of the bytes of a state: stored instants, the tags of the banks, the buffer. The laws in proofs/ say that these
+-- are the tests of the state that the bytes say.
+-- Assumes nothing.
+use Prim.Native.Nat.{ℕ, _+_, _*_}
+use mathlib.Core.Bool.{Bool, not, _&&_, _||_, cond}
+use mathlib.Core.List.{List}
+use lib.Dec.{eqb, leb, ltb}
+use lib.ListN.{getD}
+use Rattle.num.specs.Bytes.{number, part}
+use Rattle.num.specs.Search.{allUpTo}
+use Rattle.settings.specs.declared.Settings.{Settings}
+use Rattle.spec_state.specs.ChannelBytes.{zeroPart}
+use Rattle.chan_view.specs.form.Beside.{lowOf, slotOf}
+use Rattle.state_bytes.specs.form.Stored.{latest}
+
+-- ---- stored instants
+
+-- n stored instants from a place on
+abbrev pub allStored : List ℕ → ℕ → ℕ → Bool
+allStored b at n = allUpTo (λ k. leb (number (part b (at + 4 * k) 4)) latest) n
+
+-- ---- tags
+
+-- the highest tag of an open bank: rows, and not the tag of a refresh
+abbrev pub mostTag : ℕ → ℕ
+mostTag rows = cond (ltb rows 0xFFFF) rows 0xFFFE
+
+-- what is tested of the tag of bank x and of the one before it; a planner allows no other tag (also is 0), a model that of a refresh
+abbrev pub tagRight : Settings → ℕ → ℕ → ℕ → ℕ → ℕ → Bool
+tagRight s most also x below tag = (leb tag most || eqb tag also) && ((eqb (lowOf s x) 32 || eqb below 0) || eqb tag 0)
+
+abbrev pub tagsRight : Settings → ℕ → List ℕ → Bool
+tagsRight s also b = allUpTo (λ x. tagRight s (mostTag (s .rows)) also x (number (part b (638 + 2 * x) 2)) (number (part b (640 + 2 * x) 2))) 32
+
+-- ---- the buffer
+
+-- a waiting write and the tag of its bank
+unfoldable pub writeRight : Settings → List ℕ → Bool
+writeRight s b =
+    let tag : ℕ = number (part b (640 + 2 * slotOf (getD b 736 0)) 2) in
+    let at : ℕ = number (part b 740 4) in
+    (((((ltb (getD b 736 0) 32 && ltb (getD b 737 0) (s .columns)) && zeroPart b 738 2) && not (eqb tag 0)) && not (eqb tag 0xFFFF)) && not (eqb at 0))
+    && leb at latest
+
+-- in eight bytes: no write waits, or one, whose data are not due (1) or may be due (257; a planner allows 1 alone)
+unfoldable pub bufferRight : Settings → ℕ → List ℕ → Bool
+bufferRight s due b =
+    let count : ℕ = number (part b 728 8) in
+    (((eqb count 0 && zeroPart b 736 8) || ((eqb count 1 || eqb count due) && writeRight s b)) && zeroPart b 724 4) && zeroPart b 744 8
+
+-- ---- the channel
+
+unfoldable pub channelTested : Settings → ℕ → ℕ → List ℕ → Bool
+channelTested s also due b = ((allStored b 0 160 && allStored b 704 5) && tagsRight s also b) && bufferRight s due b
+
+-- ---- the fields after the channel's
+
+abbrev pub plannerFields : List ℕ → Bool
+plannerFields b =
+    ((not (eqb (number (part b 752 4)) 0) && leb (number (part b 752 4)) latest) && ltb (number (part b 756 4)) 32) && ltb (number (part b 760 8)) 0x10000
+
+abbrev pub modelFields : Settings → List ℕ → Bool
+modelFields s b = ((ltb (number (part b 752 8)) 0x10000 && ltb (number (part b 752 8)) (s .rows)) && zeroPart b 776 8) && zeroPart b 784 8

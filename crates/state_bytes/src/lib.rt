@@ -1,0 +1,5 @@
+// The states of planners and models as bytes: which bytes are refused, and the states that the others say.
+pub mod models;
+pub mod planners;
+pub mod reads;
+mod tested;

@@ -1,0 +1,42 @@
+// A model's 792 bytes.
+ghost use mathlib.Core.Path.{_≡_};
+ghost use lib.ListN.{length};
+ghost use Rattle.spec_rules.specs.Neighbour.{contextOf};
+ghost use Rattle.spec_model.specs.ModelBytes.{modelIn, modelRight};
+use crate::tested::channel_right;
+use record::Dualoct;
+use settings::Settings;
+
+// Whether refusal 1 has nothing against a model's bytes.
+pub fn model_right(s: Settings, b: &[u8]) -> bool
+    ensures { λ r. ⌜ r ≡ modelRight (contextOf s) (now (b .entry)) ⌝ }
+{
+    if b.len() != 792 {
+        return false;
+    }
+    let refr = num::u64_at(b, 752);
+    let fields = (refr < 65536)
+        & (refr < num::wide32(s.rows))
+        & (num::u64_at(b, 776) == 0)
+        & (num::u64_at(b, 784) == 0);
+    fields & channel_right(s, 65535, 257, b)
+}
+
+// The model's REFR.
+pub fn refr_at(b: &[u8]) -> u32
+    requires { ⌜ length (now b) ≡ 792 ⌝ }
+    ensures { λ r. ⌜ r ≡ modelIn (now (b .entry)) .refr ⌝ }
+{
+    num::u16_at(b, 752)
+}
+
+// The data of the waiting write.
+pub fn data_at(b: &[u8]) -> Dualoct
+    requires { ⌜ length (now b) ≡ 792 ⌝ }
+    ensures { λ r. ⌜ r ≡ modelIn (now (b .entry)) .bytes ⌝ }
+{
+    Dualoct {
+        dqa: num::u64_at(b, 760),
+        dqb: num::u64_at(b, 768),
+    }
+}

@@ -1,0 +1,123 @@
+// What is tested of the channel's bytes. No loop ends early, and stored instants are or-ed: what is at most a bound all together is so
+// one by one. One instruction then takes several numbers.
+ghost use mathlib.Core.Path.{_≡_};
+ghost use mathlib.Core.Bool.{_&&_};
+ghost use Prim.Native.Nat.{ℕ, _+_, _*_, _≤_, _<_};
+ghost use lib.ListN.{length};
+ghost use Rattle.num.specs.Bytes.{number, part};
+ghost use Rattle.state_bytes.specs.form.Tested.{allStored, mostTag, tagRight, tagsRight, writeRight, bufferRight, channelTested};
+use chan_view::banks::slot_of;
+use chan_view::neighbours::low_of;
+use settings::Settings;
+
+// The last stored instant: 1,000,000,000 less 3.
+pub(crate) const LATEST: u32 = 999999997;
+
+// The n stored instants from a place on, or-ed: none of them is above that.
+fn tops(b: &[u8], at: usize, n: usize) -> u32
+    requires { ⌜ at + 4 * n ≤ length (now b) ⌝ }
+    ensures { λ r. ⌜ ((k : ℕ) → k < n → number (part (now (b .entry)) (at + 4 * k) 4) ≤ r) ⌝ }
+{
+    let mut top: u32 = 0;
+    let mut i = 0;
+    while i < n {
+        top = top | num::u32_at(b, at + 4 * i);
+        i += 1;
+    }
+    top
+}
+
+// Whether each of the n stored instants from a place on is in range.
+fn all_stored(b: &[u8], at: usize, n: usize) -> bool
+    requires { ⌜ at + 4 * n ≤ length (now b) ⌝ }
+    ensures { λ r. ⌜ r ≡ allStored (now (b .entry)) at n ⌝ }
+{
+    let mut right = true;
+    let mut i = 0;
+    while i < n {
+        right = right & (num::u32_at(b, at + 4 * i) <= LATEST);
+        i += 1;
+    }
+    right
+}
+
+// The five planes of instants, and the last instants of the channel.
+fn instants_right(b: &[u8]) -> bool
+    requires { ⌜ 752 ≤ length (now b) ⌝ }
+    ensures { λ r. ⌜ r ≡ (allStored (now (b .entry)) 0 160 && allStored (now (b .entry)) 704 5) ⌝ }
+{
+    if (tops(b, 0, 160) | tops(b, 704, 5)) <= LATEST {
+        return true;
+    }
+    all_stored(b, 0, 160) & all_stored(b, 704, 5)
+}
+
+// A bank's tag.
+fn tag_at(b: &[u8], at: usize) -> u16
+    requires { ⌜ at + 2 ≤ length (now b) ⌝ }
+    ensures { λ r. ⌜ r ≡ number (part (now (b .entry)) at 2) ⌝ }
+{
+    (b[at] as u16) + 256 * (b[at + 1] as u16)
+}
+
+// The highest tag of an open bank.
+fn most_tag(rows: u32) -> u16
+    ensures { λ r. ⌜ r ≡ mostTag rows ⌝ }
+{
+    if rows < 65535 { rows as u16 } else { 65534 }
+}
+
+// Whether a tag is at most the highest or the other one that is allowed, and bank x or its neighbour below is closed.
+fn tag_right(s: Settings, most: u16, also: u16, x: u32, below: u16, tag: u16) -> bool
+    ensures { λ r. ⌜ r ≡ tagRight s most also x below tag ⌝ }
+{
+    ((tag <= most) | (tag == also)) & ((low_of(s, x) == 32) | (below == 0) | (tag == 0))
+}
+
+fn tags_right(s: Settings, also: u16, b: &[u8]) -> bool
+    requires { ⌜ 752 ≤ length (now b) ⌝ }
+    ensures { λ r. ⌜ r ≡ tagsRight s also (now (b .entry)) ⌝ }
+{
+    let most = most_tag(s.rows);
+    let mut right = true;
+    let mut x: u32 = 0;
+    while x < 32 {
+        let i = x as usize;
+        let below = tag_at(b, 638 + 2 * i);
+        let tag = tag_at(b, 640 + 2 * i);
+        right = right & tag_right(s, most, also, x, below, tag);
+        x += 1;
+    }
+    right
+}
+
+// Whether the fields of a waiting write are in range and its bank is open by ACT.
+fn write_right(s: Settings, b: &[u8]) -> bool
+    requires { ⌜ 752 ≤ length (now b) ⌝ }
+    ensures { λ r. ⌜ r ≡ writeRight s (now (b .entry)) ⌝ }
+{
+    let bank = num::wide(b[736]);
+    let tag = num::u16_at(b, 640 + 2 * slot_of(bank));
+    let at = num::u32_at(b, 740);
+    let fields = (bank < 32) & (num::wide(b[737]) < s.columns) & (num::u16_at(b, 738) == 0);
+    fields & (tag != 0) & (tag != 65535) & (at != 0) & (at <= LATEST)
+}
+
+// The buffer: no write waits, or one, with one of two counts; the bytes that no field uses are 0.
+fn buffer_right(s: Settings, due: u64, b: &[u8]) -> bool
+    requires { ⌜ 752 ≤ length (now b) ⌝ }
+    ensures { λ r. ⌜ r ≡ bufferRight s due (now (b .entry)) ⌝ }
+{
+    let count = num::u64_at(b, 728);
+    let none = (count == 0) & (num::u64_at(b, 736) == 0);
+    let one = ((count == 1) | (count == due)) & write_right(s, b);
+    (none | one) & (num::u32_at(b, 724) == 0) & (num::u64_at(b, 744) == 0)
+}
+
+// Whether the channel's bytes are not refused, where the tag `also` and the count `due` are allowed too.
+pub(crate) fn channel_right(s: Settings, also: u16, due: u64, b: &[u8]) -> bool
+    requires { ⌜ 752 ≤ length (now b) ⌝ }
+    ensures { λ r. ⌜ r ≡ channelTested s also due (now (b .entry)) ⌝ }
+{
+    instants_right(b) & tags_right(s, also, b) & buffer_right(s, due, b)
+}
