@@ -1,10 +1,10 @@
 -- The state after a record, part by part: banks, last instants, write buffer, and whether data are due.
 -- Assumes nothing.
 use Prim.Native.Nat.{ℕ}
-use mathlib.Core.Path.{_≡_, refl, ap, _∙_, sym}
-use mathlib.Core.Bool.{Bool, true, false, _&&_, cond, and-false}
+use mathlib.Core.Path.{_≡_, refl, ap, _∙_}
+use mathlib.Core.Bool.{Bool, true, false, and-false}
 use mathlib.Core.List.{List}
-use mathlib.Core.Option.{Option, none, some}
+use mathlib.Core.Option.{Option}
 use native.Mathlib.Omega.{arith}
 use lib.ListN.{length}
 use Rattle.settings.specs.declared.Settings.{Settings}
@@ -22,13 +22,13 @@ use Rattle.spec_rules.specs.declared.Write.{Write}
 use Rattle.spec_rules.specs.declared.Buffer.{Buffer}
 use Rattle.spec_rules.specs.declared.Buffer.the-variants.{Empty, One}
 use Rattle.spec_rules.specs.declared.Channel.{Channel}
-use Rattle.chan_view.specs.declared.View.{View}
-use Rattle.chan_view.specs.declared.Seen.the-variants.{Packet, Data}
-use Rattle.chan_view.specs.declared.Held.{Held}
 use Rattle.spec_rules.specs.Neighbour.{contextOf}
 use Rattle.spec_rules.specs.Packets.{traits, rowTraits, colTraits, instant}
 use Rattle.spec_rules.specs.History.{first, rest, onlyWrite, loads}
-use Rattle.spec_rules.specs.Channel.{waitingOf, bufferOf, imap, trackRetired, afterPacket, afterRetire, afterData, leavingOf, after}
+use Rattle.spec_rules.specs.Channel.{waitingOf, bufferOf, afterPacket, afterRetire, afterData, after}
+use Rattle.chan_view.specs.declared.View.{View}
+use Rattle.chan_view.specs.declared.Seen.the-variants.{Packet, Data}
+use Rattle.chan_view.specs.declared.Held.{Held}
 use Rattle.chan_view.specs.form.Beside.{lowOf, highOf}
 use Rattle.chan_view.specs.form.View.{rowView, colView, seenOf, heldOf, leaves}
 use Rattle.chan_view.proofs.ViewLaws.{col-shows, leaving-is}

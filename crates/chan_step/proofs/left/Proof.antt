@@ -1,8 +1,7 @@
 -- `chan_step::left` meets its contract: one write waits at most.
-use mathlib.Core.Path.{_≡_, sym}
+use mathlib.Core.Path.{sym}
 use Rattle.chan_step.specs.form.Lasts.{leftBuffer}
 use Rattle.chan_step.proofs.AfterLaws.{left-all, buffer-same}
-use borrow.Author.Needs.{needs}
 use Rattle.chan_step.proofs.left.Statement.{statement}
 use Rattle.chan_step.proofs.left.Tie as tie
 

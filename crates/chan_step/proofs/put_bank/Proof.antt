@@ -1,9 +1,9 @@
 -- `chan_step::put_bank` meets its contract: a number that is no bank changes nothing.
 use mathlib.Core.Path.{_≡_, sym}
 use native.Mathlib.Omega.{arith}
+use borrow.Author.Tests.{lt-ltb}
 use lib.ListN.{length}
 use lib.Seq.{set-out}
-use borrow.Author.Tests.{lt-ltb}
 use Rattle.chan_view.proofs.PlaceLaws.{length-of-map}
 use borrow.Author.Needs.{needs}
 use Rattle.chan_step.proofs.put_bank.Statement.{statement}

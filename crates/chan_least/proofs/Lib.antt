@@ -1,0 +1,3 @@
+pub mod LeastLaws
+pub mod QuickLaws
+pub mod PassLaws

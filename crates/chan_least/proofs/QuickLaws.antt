@@ -1,0 +1,196 @@
+-- Where the quick test passes, a record breaks no rule; and it passes just there, where it is asked with what rule 5 asks.
+-- Assumes nothing.
+use Prim.Native.Nat.{ℕ, _+_, _-_}
+use mathlib.Core.Path.{_≡_, refl, ap, _∙_, sym}
+use mathlib.Core.Bool.{Bool, true, false, not, _&&_, _||_, cond, and-true, and-false, and-assoc, and-comm, or-true, or-false}
+use native.Mathlib.Omega.{arith}
+use lib.Dec.{eqb, leb, leb·zero}
+use lib.ListN.{length}
+use Rattle.settings.specs.declared.PacketAt.{PacketAt}
+use Rattle.settings.specs.declared.DataAt.{DataAt}
+use Rattle.settings.specs.declared.Arrival.{Arrival}
+use Rattle.settings.specs.declared.Arrival.the-variants.{Late, At}
+use Rattle.settings.specs.declared.Settings.{Settings}
+use Rattle.settings.specs.Instants.{horizon, arrival, isInstant}
+use Rattle.packet.specs.declared.RowPacket.{RowPacket}
+use Rattle.packet.specs.declared.RowPacket.the-variants.{Act, Prer, Refa, Refp}
+use Rattle.packet.specs.declared.ColPacket.{ColPacket}
+use Rattle.packet.specs.declared.ColPacket.the-variants.{Nocop, Wr, Rd}
+use Rattle.record.specs.declared.Record.{Record}
+use Rattle.record.specs.declared.Record.the-variants.{RowAt, ColAt, DataOf}
+use Rattle.spec_rules.specs.declared.Bank.{Bank}
+use Rattle.spec_rules.specs.declared.LastInstants.{LastInstants}
+use Rattle.spec_rules.specs.declared.Bank.the-variants.{Closed, Open, Refresh}
+use Rattle.spec_rules.specs.declared.Channel.{Channel}
+use Rattle.spec_rules.specs.Neighbour.{contextOf}
+use Rattle.spec_rules.specs.History.{isOpen}
+use Rattle.spec_rules.specs.Checks.{since, judged}
+use Rattle.spec_rules.proofs.Bools.{leb-max}
+use Rattle.spec_rules.proofs.EarliestLaws.{lowest-every}
+use Rattle.chan_view.specs.declared.View.{View}
+use Rattle.chan_view.specs.declared.Held.{Held}
+use Rattle.chan_view.specs.declared.Tracks.{Tracks}
+use Rattle.chan_view.specs.declared.Seen.the-variants.{Packet}
+use Rattle.chan_view.specs.form.Beside.{tracksOf}
+use Rattle.chan_view.specs.form.View.{rowTo, colTo, rowView, colView, seenOf, heldOf}
+use Rattle.chan_step.specs.form.Lasts.{retiresBy}
+use Rattle.chan_judge.specs.form.Tests.{actOver, inTime, pinTests, rowTests, colTests, bufferTests, packetRule}
+use Rattle.chan_judge.proofs.ArrivalLaws.{arrives-in-time}
+use Rattle.chan_judge.proofs.JudgeLaws.{judged-packet}
+use Rattle.chan_least.specs.form.Least.{openBound, closeBound, readBound, writeBound, nocopBound, retireBound, openedNear, preNear, rdNear, retireNear}
+use Rattle.chan_least.specs.form.Quick.{closedNear, loses, opensWell, closesWell, readsWell, writesWell, leavesWell, rowWell, colWell, recordWell}
+use Rattle.chan_least.proofs.LeastLaws.{three-since}
+
+-- ---- data that come in time, and late
+
+module _ (p : PacketAt) (delay : ℕ) (a : Arrival) (e : a ≡ arrival p delay) where
+  pub comes : (u : DataAt) → a ≡ At u → leb (p .0 + delay) horizon ≡ true
+  unfolding inTime
+  comes u q = sym (arrives-in-time p delay) ∙ ap inTime (sym e ∙ q)
+
+  pub is-late : a ≡ Late → leb (p .0 + delay) horizon ≡ false
+  unfolding inTime
+  is-late q = sym (arrives-in-time p delay) ∙ ap inTime (sym e ∙ q)
+
+-- ---- a packet by its tests, command by command
+
+and-left-comm : (a b c : Bool) → a && (b && c) ≡ b && (a && c)
+and-left-comm true b c = refl
+and-left-comm false true c = refl
+and-left-comm false false c = refl
+
+not-not : (a : Bool) → not (not a) ≡ a
+not-not true = refl
+not-not false = refl
+
+-- rule 14
+kept-write : (w n c : Bool) → not (w && n) || c ≡ not (w && (n && not c))
+kept-write false n c = refl
+kept-write true false c = refl
+kept-write true true true = refl
+kept-write true true false = refl
+
+-- i, d: in range, no data due; p, r: what the pins ask; the others in the order of their rules
+open-shuffle : (i p r c a q d : Bool) → (i && p) && (r && (c && (a && (q && (d && true))))) ≡ (i && d) && (c && (p && (r && (a && q))))
+open-shuffle i p r c a q d = simp (and-true, and-assoc, and-comm, and-left-comm)
+
+close-shuffle : (i p r o e x y z d : Bool) → (i && p) && (r && (o && (e && ((x && y) && (z && (d && true)))))) ≡ (i && d) && (z && (p && (r && (o && (e && (x && y))))))
+close-shuffle i p r o e x y z d = simp (and-true, and-assoc, and-comm, and-left-comm)
+
+read-shuffle : (i y p r o a d m : Bool) → (i && (y && p)) && (r && (o && (a && (d && m)))) ≡ (i && d) && (y && (m && (o && (p && (r && a)))))
+read-shuffle i y p r o a d m = simp (and-assoc, and-comm, and-left-comm)
+
+nocop-shuffle : (i p r o a w d m : Bool) → (i && p) && (r && (o && (a && (w && (d && m))))) ≡ (i && d) && ((o && (a && (w && m))) && (p && r))
+nocop-shuffle i p r o a w d m = simp (and-assoc, and-comm, and-left-comm)
+
+write-shuffle : (i y p r b o a c e w d m : Bool)
+    → (i && (y && p)) && (r && ((b && o) && ((a && c) && (e && (w && (d && m)))))) ≡ (i && d) && ((o && (a && (w && m))) && (y && (b && (p && (r && (c && e))))))
+write-shuffle i y p r b o a c e w d m = simp (and-assoc, and-comm, and-left-comm)
+
+-- rules 9, 10, 12 and 16 of what leaves: out = it does, o = its bank is open, m = M is 0
+leaves-part : (out o m : Bool) (act at n : ℕ)
+    → (not out || o) && (leb (cond out act 0) n && ((not out || leb at n) && (m || out))) ≡ cond out (o && (leb at n && leb act n)) m
+leaves-part true o m act at n = rw (or-true m, and-true (leb at n)) (ap (λ (b : Bool). o && b) (and-comm (leb act n) (leb at n)))
+leaves-part false o m act at n = rw (leb·zero n) (or-false m)
+
+module _ (s : Settings) (t : PacketAt) (h : Held) (k : Tracks) (act : ℕ) (l : LastInstants) where
+  -- no rule is found
+  abbrev none-found : View → Bool
+  none-found v = eqb (packetRule s v h k act l) 0
+
+  abbrev kept : ℕ → Bool
+  kept bound = leb bound (t .0)
+
+  abbrev kept-data : ℕ → Bool
+  kept-data delay = leb (t .0 + delay) horizon
+
+  -- in range, and no data due
+  abbrev pub comes-well : Bool
+  comes-well = isInstant (t .0) && not (h .due)
+
+  open-well : (b : ℕ) (state : Bank) (acts : Bool) → none-found (rowTo t b state true acts false) ≡ comes-well && opensWell s t k l act
+  unfolding packetRule pinTests rowTests colTests bufferTests opensWell openBound
+  open-well b state acts =
+      lowest-every 0 _
+      ∙ simp (leb·zero, and-false, three-since, leb-max)
+      (open-shuffle (isInstant (t .0)) (kept (l .packet .0)) (kept (since (l .row .0) 4)) (closedNear k) (kept act) (kept (since (preNear k .0) (s .rp))) (not (h .due)))
+
+  close-well : (b : ℕ) → none-found (rowTo t b Closed false false true) ≡ comes-well && closesWell s t k l b h
+  unfolding packetRule pinTests rowTests colTests bufferTests closesWell closeBound
+  close-well b =
+      lowest-every 0 _
+      ∙ simp (leb·zero, and-false, three-since, leb-max, kept-write)
+      (close-shuffle (isInstant (t .0)) (kept (l .packet .0)) (kept (since (l .row .0) 4)) (kept (since (openedNear k .0) (s .ras))) (kept (since (l .pre .0) (s .pp)))
+      (kept (since (rdNear k .0) (s .rdp))) (kept (since (retireNear k .0) (s .rtp))) (not (loses s b h k)) (not (h .due)))
+
+  read-well : (b c m : ℕ) → none-found (colTo t b c true false false m) ≡ comes-well && readsWell s t k l m
+  unfolding packetRule pinTests rowTests colTests bufferTests readsWell readBound
+  read-well b c m =
+      lowest-every 0 _
+      ∙ simp (leb·zero, and-false, leb-max, or-false, not-not, and-true)
+      (read-shuffle (isInstant (t .0)) (kept-data (s .cac)) (kept (l .packet .0)) (kept (since (l .col .0) (s .cc))) (isOpen (k .own .bank)) (kept (since (k .own .act .0) (s .rcd))) (not (h .due)) (eqb m 0xFFFF))
+
+  -- what leaves, as tests and as one
+  abbrev out : Bool
+  out = h .waits
+
+  abbrev leaves-tests : ℕ → Bool
+  leaves-tests m = (not out || isOpen (k .held .bank)) && (kept (cond out (since (k .held .act .0) (s .rcd)) 0) && ((not out || kept (h .at .0 + s .rtr)) && (eqb m 0xFFFF || out)))
+
+  leaves-are : (m : ℕ) → leaves-tests m ≡ leavesWell s t k h m out
+  unfolding leavesWell retireBound
+  leaves-are m = leaves-part out (isOpen (k .held .bank)) (eqb m 0xFFFF) (since (k .held .act .0) (s .rcd)) (h .at .0 + s .rtr) (t .0) ∙ simp leb-max
+
+  nocop-well : (m : ℕ) → none-found (colTo t 0 0 false false true m) ≡ comes-well && (leavesWell s t k h m out && leb (nocopBound s l) (t .0))
+  unfolding packetRule pinTests rowTests colTests bufferTests nocopBound
+  nocop-well m =
+      lowest-every 0 _
+      ∙ simp (leb·zero, and-false, leb-max, and-true, not-not)
+      (nocop-shuffle (isInstant (t .0)) (kept (l .packet .0)) (kept (since (l .col .0) (s .cc))) (not out || isOpen (k .held .bank)) (kept (cond out (since (k .held .act .0) (s .rcd)) 0))
+      (not out || kept (h .at .0 + s .rtr)) (not (h .due)) (eqb m 0xFFFF || out)
+      ∙ ap (λ (b : Bool). comes-well && (b && (kept (l .packet .0) && kept (since (l .col .0) (s .cc))))) (leaves-are m))
+
+  write-well : (b c m : ℕ) → none-found (colTo t b c false true true m) ≡ comes-well && (leavesWell s t k h m out && writesWell s t k l)
+  unfolding packetRule pinTests rowTests colTests bufferTests writesWell writeBound
+  write-well b c m =
+      lowest-every 0 _
+      ∙ simp (leb·zero, and-false, leb-max, and-true, not-not)
+      (write-shuffle (isInstant (t .0)) (kept-data (s .cwd)) (kept (l .packet .0)) (kept (since (l .col .0) (s .cc))) (isOpen (k .own .bank)) (not out || isOpen (k .held .bank))
+      (kept (cond out (since (k .held .act .0) (s .rcd)) 0)) (kept (since (k .own .act .0) (s .rcd - s .rtr))) (kept (since (l .rd .0) (s .cc + s .cac - s .cwd)))
+      (not out || kept (h .at .0 + s .rtr)) (not (h .due)) (eqb m 0xFFFF || out)
+      ∙ ap (λ (b : Bool). comes-well && (b && (kept-data (s .cwd) && (isOpen (k .own .bank) && (kept (l .packet .0)
+      && (kept (since (l .col .0) (s .cc)) && (kept (since (k .own .act .0) (s .rcd - s .rtr)) && kept (since (l .rd .0) (s .cc + s .cac - s .cwd))))))))) (leaves-are m))
+
+-- ---- a record, in a state
+
+module _ (s : Settings) (ch : Channel) (e : length (ch .banks) ≡ 32) where
+  abbrev buffered : Held
+  buffered = heldOf (ch .buffer) (ch .due)
+
+  -- by the tracks of a bank and its neighbours, and what rule 5 asks
+  abbrev wellAt : Record → ℕ → Bool
+  wellAt r b = recordWell s r buffered (tracksOf s (ch .banks) b (buffered .bank)) (ch .lasts) (actOver s (ch .banks) b)
+
+  judged-none : (r : Record) (v : View) → seenOf r ≡ Packet v
+      → eqb (judged (contextOf s) ch r) 0 ≡ eqb (packetRule s v buffered (tracksOf s (ch .banks) (v .bank) (buffered .bank)) (actOver s (ch .banks) (v .bank)) (ch .lasts)) 0
+  judged-none r v q = ap (λ (n : ℕ). eqb n 0) (sym (judged-packet s ch r e v q))
+
+  row-well : (t : PacketAt) (p : RowPacket) → eqb (judged (contextOf s) ch (RowAt t p)) 0 ≡ wellAt (RowAt t p) (rowView t p .bank)
+  unfolding seenOf rowView recordWell rowWell
+  row-well t (Act b row) = judged-none (RowAt t (Act b row)) _ refl ∙ open-well s t buffered _ _ (ch .lasts) b (Open row) true
+  row-well t (Prer b) = judged-none (RowAt t (Prer b)) _ refl ∙ close-well s t buffered _ _ (ch .lasts) b
+  row-well t (Refa b) = judged-none (RowAt t (Refa b)) _ refl ∙ open-well s t buffered _ _ (ch .lasts) b Refresh false
+  row-well t (Refp b) = judged-none (RowAt t (Refp b)) _ refl ∙ close-well s t buffered _ _ (ch .lasts) b
+
+  col-well : (t : PacketAt) (p : ColPacket) → eqb (judged (contextOf s) ch (ColAt t p)) 0 ≡ wellAt (ColAt t p) (colView t p .bank)
+  unfolding seenOf colView recordWell colWell retiresBy
+  col-well t (Nocop m) = rw (and-true (buffered .waits)) (judged-none (ColAt t (Nocop m)) _ refl ∙ nocop-well s t buffered _ _ (ch .lasts) m)
+  col-well t (Wr b c m) = rw (and-true (buffered .waits)) (judged-none (ColAt t (Wr b c m)) _ refl ∙ write-well s t buffered _ _ (ch .lasts) b c m)
+  col-well t (Rd b c m) = judged-none (ColAt t (Rd b c m)) _ refl ∙ read-well s t buffered _ _ (ch .lasts) b c m
+
+  -- exactly where a record breaks no rule
+  pub packet-well : (r : Record) (v : View) → seenOf r ≡ Packet v → eqb (judged (contextOf s) ch r) 0 ≡ wellAt r (v .bank)
+  unfolding seenOf
+  packet-well (RowAt t p) v q = let z : rowView t p ≡ v = cc in rw z at (row-well t p)
+  packet-well (ColAt t p) v q = let z : colView t p ≡ v = cc in rw z at (col-well t p)
+  packet-well (DataOf t d) v q = absurd (let z : _≡_ {A = ℕ} 0 1 = cc in omega arith)

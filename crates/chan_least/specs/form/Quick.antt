@@ -1,0 +1,74 @@
+-- Whether a record breaks no rule, by command: it fits, its instant is not before its least instant, its data are in time, and what
+-- leaves is right. The laws in proofs/ say so.
+-- Assumes nothing.
+use Prim.Native.Nat.{ℕ, _+_, max}
+use mathlib.Core.Bool.{Bool, not, _&&_, cond}
+use lib.Dec.{eqb, leb}
+use Rattle.settings.specs.declared.Settings.{Settings}
+use Rattle.settings.specs.declared.PacketAt.{PacketAt}
+use Rattle.settings.specs.Instants.{horizon, isInstant}
+use Rattle.packet.specs.declared.RowPacket.{RowPacket}
+use Rattle.packet.specs.declared.RowPacket.the-variants.{Act, Prer, Refa, Refp}
+use Rattle.packet.specs.declared.ColPacket.{ColPacket}
+use Rattle.packet.specs.declared.ColPacket.the-variants.{Nocop, Wr, Rd}
+use Rattle.record.specs.declared.Record.{Record}
+use Rattle.record.specs.declared.Record.the-variants.{RowAt, ColAt, DataOf}
+use Rattle.spec_rules.specs.declared.LastInstants.{LastInstants}
+use Rattle.spec_rules.specs.Neighbour.{contextOf, near}
+use Rattle.spec_rules.specs.History.{isClosed, isOpen}
+use Rattle.spec_rules.specs.Checks.{since}
+use Rattle.chan_view.specs.declared.Held.{Held}
+use Rattle.chan_view.specs.declared.Tracks.{Tracks}
+use Rattle.chan_view.specs.form.View.{seenOf}
+use Rattle.chan_step.specs.form.Lasts.{retiresBy}
+use Rattle.chan_judge.specs.form.Tests.{dataRule}
+use Rattle.chan_least.specs.form.Least.{openBound, closeBound, readBound, writeBound, nocopBound, retireBound, openedNear, preNear, rdNear, retireNear}
+
+-- what rule 5 asks at most where no bank was opened after newest: just what it asks, where tRR is not above tRC and newest is the
+-- latest of all
+abbrev pub actBy : Settings → Tracks → PacketAt → ℕ
+actBy s k newest = max (since (newest .0) (s .rr)) (since (openedNear k .0) (s .rc))
+
+abbrev pub closedNear : Tracks → Bool
+closedNear k = isClosed (k .own .bank) && (isClosed (k .low .bank) && isClosed (k .high .bank))
+
+-- rule 14: a PRER or REFP to bank b loses the waiting write
+abbrev pub loses : Settings → ℕ → Held → Tracks → Bool
+loses s b h k = h .waits && (near (contextOf s) b (h .bank) && not (isClosed (k .held .bank)))
+
+module _ (s : Settings) (t : PacketAt) (k : Tracks) (l : LastInstants) where
+  -- ACT and REFA; act is what rule 5 asks
+  unfoldable pub opensWell : ℕ → Bool
+  opensWell act = closedNear k && leb (openBound s l act (preNear k)) (t .0)
+
+  -- PRER and REFP
+  unfoldable pub closesWell : ℕ → Held → Bool
+  closesWell b h = not (loses s b h k) && leb (closeBound s l (openedNear k) (rdNear k) (retireNear k)) (t .0)
+
+  -- RD, which retires nothing, with this mask
+  unfoldable pub readsWell : ℕ → Bool
+  readsWell m = leb (t .0 + s .cac) horizon && (eqb m 0xFFFF && (isOpen (k .own .bank) && leb (readBound s l (k .own .act)) (t .0)))
+
+  -- WR, but for what it retires
+  unfoldable pub writesWell : Bool
+  writesWell = leb (t .0 + s .cwd) horizon && (isOpen (k .own .bank) && leb (writeBound s l (k .own .act)) (t .0))
+
+-- what a COL packet with this mask retires, if it does
+unfoldable pub leavesWell : Settings → PacketAt → Tracks → Held → ℕ → Bool → Bool
+leavesWell s t k h m out = cond out (isOpen (k .held .bank) && leb (retireBound s (h .at) (k .held .act)) (t .0)) (eqb m 0xFFFF)
+
+unfoldable pub rowWell : Settings → PacketAt → RowPacket → Held → Tracks → LastInstants → ℕ → Bool
+rowWell s t (Act b row) h k l act = opensWell s t k l act
+rowWell s t (Prer b) h k l act = closesWell s t k l b h
+rowWell s t (Refa b) h k l act = opensWell s t k l act
+rowWell s t (Refp b) h k l act = closesWell s t k l b h
+
+unfoldable pub colWell : Settings → PacketAt → ColPacket → Held → Tracks → LastInstants → Bool → Bool
+colWell s t (Nocop m) h k l out = leavesWell s t k h m out && leb (nocopBound s l) (t .0)
+colWell s t (Wr b c m) h k l out = leavesWell s t k h m out && writesWell s t k l
+colWell s t (Rd b c m) h k l out = readsWell s t k l m
+
+unfoldable pub recordWell : Settings → Record → Held → Tracks → LastInstants → ℕ → Bool
+recordWell s (RowAt t p) h k l act = (isInstant (t .0) && not (h .due)) && rowWell s t p h k l act
+recordWell s (ColAt t p) h k l act = (isInstant (t .0) && not (h .due)) && colWell s t p h k l (retiresBy s h (seenOf (ColAt t p)))
+recordWell s (DataOf t d) h k l act = eqb (dataRule s h t) 0

@@ -1,0 +1,166 @@
+// The quick way through a record that breaks no rule, without a walk over all banks. What fails here is judged rule by rule.
+ghost use mathlib.Core.Path.{_≡_};
+ghost use Rattle.chan_least.specs.form.Quick.{actBy, closedNear, loses, opensWell, closesWell, readsWell, writesWell, leavesWell, rowWell, colWell, recordWell};
+use crate::bounds::close_bound;
+use crate::bounds::latest_of;
+use crate::bounds::nocop_bound;
+use crate::bounds::open_bound;
+use crate::bounds::read_bound;
+use crate::bounds::retire_bound;
+use crate::bounds::write_bound;
+use chan_judge::data_rule;
+use chan_judge::tests::in_range;
+use chan_step::retires;
+use chan_view::Held;
+use chan_view::Tracks;
+use chan_view::banks::is_closed;
+use chan_view::banks::is_open;
+use chan_view::bounds::after_gap;
+use chan_view::bounds::later;
+use chan_view::neighbours::is_near;
+use instants::read_arrival;
+use instants::write_arrival;
+use packet::ColPacket;
+use packet::RowPacket;
+use record::Record;
+use settings::Arrival;
+use settings::PacketAt;
+use settings::Settings;
+use spec_rules::LastInstants;
+
+// What rule 5 asks at most, where no bank was opened after newest.
+fn act_by(s: Settings, k: Tracks, newest: PacketAt) -> u64
+    ensures { λ r. ⌜ r ≡ actBy s k newest ⌝ }
+{
+    let near = latest_of(k.own.opened, k.low.opened, k.high.opened);
+    later(after_gap(newest, s.rr), after_gap(near, s.rc))
+}
+
+fn closed_near(k: Tracks) -> bool
+    ensures { λ r. ⌜ r ≡ closedNear k ⌝ }
+{
+    let own = k.own;
+    let low = k.low;
+    let high = k.high;
+    is_closed(own) & (is_closed(low) & is_closed(high))
+}
+
+// Whether a PRER or REFP to bank b loses the waiting write.
+fn loses(s: Settings, b: u32, h: Held, k: Tracks) -> bool
+    ensures { λ r. ⌜ r ≡ loses s b h k ⌝ }
+{
+    let held = k.held;
+    h.waits & (is_near(s, b, h.bank) & !is_closed(held))
+}
+
+// ACT and REFA; act is what rule 5 asks.
+fn opens_well(s: Settings, at: PacketAt, k: Tracks, l: LastInstants, act: u64) -> bool
+    ensures { λ r. ⌜ r ≡ opensWell s at k l act ⌝ }
+{
+    let bound = open_bound(s, l, act, latest_of(k.own.pre, k.low.pre, k.high.pre));
+    closed_near(k) & (bound <= num::wide32(at.0))
+}
+
+// PRER and REFP to bank b.
+fn closes_well(s: Settings, at: PacketAt, k: Tracks, l: LastInstants, b: u32, h: Held) -> bool
+    ensures { λ r. ⌜ r ≡ closesWell s at k l b h ⌝ }
+{
+    let opened = latest_of(k.own.opened, k.low.opened, k.high.opened);
+    let rd = latest_of(k.own.rd, k.low.rd, k.high.rd);
+    let retire = latest_of(k.own.retire, k.low.retire, k.high.retire);
+    !loses(s, b, h, k) & (close_bound(s, l, opened, rd, retire) <= num::wide32(at.0))
+}
+
+// RD with this mask.
+fn reads_well(s: Settings, at: PacketAt, k: Tracks, l: LastInstants, mask: u32) -> bool
+    ensures { λ r. ⌜ r ≡ readsWell s at k l mask ⌝ }
+{
+    let own = k.own;
+    match read_arrival(s, at) {
+        Arrival::At(_) => (mask == 0xFFFF)
+            & (is_open(own) & (read_bound(s, l, own.act) <= num::wide32(at.0))),
+        Arrival::Late => false,
+    }
+}
+
+// WR, but for what it retires.
+fn writes_well(s: Settings, at: PacketAt, k: Tracks, l: LastInstants) -> bool
+    ensures { λ r. ⌜ r ≡ writesWell s at k l ⌝ }
+{
+    let own = k.own;
+    match write_arrival(s, at) {
+        Arrival::At(_) => is_open(own) & (write_bound(s, l, own.act) <= num::wide32(at.0)),
+        Arrival::Late => false,
+    }
+}
+
+// What a COL packet with this mask retires, if it does.
+fn leaves_well(s: Settings, at: PacketAt, k: Tracks, h: Held, mask: u32, out: bool) -> bool
+    ensures { λ r. ⌜ r ≡ leavesWell s at k h mask out ⌝ }
+{
+    if out {
+        let held = k.held;
+        return is_open(held) & (retire_bound(s, h.at, held.act) <= num::wide32(at.0));
+    }
+    mask == 0xFFFF
+}
+
+fn row_well(
+    s: Settings,
+    at: PacketAt,
+    p: RowPacket,
+    h: Held,
+    k: Tracks,
+    l: LastInstants,
+    newest: PacketAt,
+) -> bool
+    ensures { λ r. ⌜ r ≡ rowWell s at p h k l (actBy s k newest) ⌝ }
+{
+    match p {
+        RowPacket::Act { bank: _, row: _ } => opens_well(s, at, k, l, act_by(s, k, newest)),
+        RowPacket::Prer { bank } => closes_well(s, at, k, l, bank, h),
+        RowPacket::Refa { bank: _ } => opens_well(s, at, k, l, act_by(s, k, newest)),
+        RowPacket::Refp { bank } => closes_well(s, at, k, l, bank, h),
+    }
+}
+
+// out says whether the packet retires the waiting write.
+fn col_well(
+    s: Settings,
+    at: PacketAt,
+    p: ColPacket,
+    h: Held,
+    k: Tracks,
+    l: LastInstants,
+    out: bool,
+) -> bool
+    ensures { λ r. ⌜ r ≡ colWell s at p h k l out ⌝ }
+{
+    match p {
+        ColPacket::Nocop { mask } => leaves_well(s, at, k, h, mask, out)
+            & (nocop_bound(s, l) <= num::wide32(at.0)),
+        ColPacket::Wr {
+            bank: _,
+            column: _,
+            mask,
+        } => leaves_well(s, at, k, h, mask, out) & writes_well(s, at, k, l),
+        ColPacket::Rd {
+            bank: _,
+            column: _,
+            mask,
+        } => reads_well(s, at, k, l, mask),
+    }
+}
+
+// Whether a record breaks no rule. The tracks low and high are the bank's own where it has no such neighbour; newest is not before
+// any ACT or REFA.
+pub fn passes(s: Settings, r: Record, h: Held, k: Tracks, l: LastInstants, newest: PacketAt) -> bool
+    ensures { λ p. ⌜ p ≡ recordWell s r h k l (actBy s k newest) ⌝ }
+{
+    match r {
+        Record::RowAt(t, p) => (in_range(t.0) & !h.due) & row_well(s, t, p, h, k, l, newest),
+        Record::ColAt(t, p) => (in_range(t.0) & !h.due)
+            & col_well(s, t, p, h, k, l, retires(s, h, r)),
+        Record::DataOf(t, _) => data_rule(s, h, t) == 0,
+    }
+}
