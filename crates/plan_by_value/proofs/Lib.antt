@@ -1,0 +1,6 @@
+pub mod AnswerLaws
+pub mod DrawLaws
+pub mod StepLaws
+pub mod CarryLaws
+pub mod RangeLaws
+pub mod RoomLaws

@@ -1,0 +1,18 @@
+-- `plan_by_value::ranges::writes_valid` meets its contract: by the write that waits, if one does.
+use mathlib.Core.Path.{sym, _∙_}
+use mathlib.Core.Bool.{and-true}
+use Rattle.spec_rules.specs.Channel.{waitingOf}
+use borrow.Author.Needs.{needs}
+use Rattle.plan_by_value.proofs.ranges.writes_valid.Statement.{statement}
+use Rattle.plan_by_value.proofs.ranges.writes_valid.Tie as tie
+
+returns : tie.Need-returns
+unfolding waitingOf
+returns c = rw (c .enum-told .given .1)
+
+returns-2 : tie.Need-returns-2
+unfolding waitingOf
+returns-2 c = rw (c .before .before .b .given .1) (c .write-valid .ensures ∙ sym (and-true _))
+
+pub writes-valid-spec : {M : Type 1} → statement M
+writes-valid-spec = tie.close (tie.spec (λ c. search needs) (λ c. search needs) (λ c κs. search needs) returns returns-2)

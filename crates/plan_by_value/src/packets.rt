@@ -1,0 +1,111 @@
+// The packets that the steps send: their data's delay, and their place.
+ghost use mathlib.Core.Path.{_≡_};
+ghost use mathlib.Core.Bool.{not};
+ghost use Prim.Native.Nat.{_+_};
+ghost use lib.Dec.{leb};
+ghost use Rattle.settings.specs.Instants.{horizon};
+ghost use Rattle.spec_rules.specs.Neighbour.{contextOf};
+ghost use Rattle.spec_rules.specs.Rules.{dataDelay, colDelay};
+ghost use Rattle.spec_rules.specs.Earliest.{placedAt, colUnder, under};
+ghost use Rattle.plan_by_value.specs.form.Drawn.{packetOf, placedBy, clip};
+use crate::Command;
+use crate::asks::carried;
+use packet::ColPacket;
+use record::Record;
+use settings::PacketAt;
+use settings::Settings;
+use spec_plan::PlannerState;
+
+// A packet at an instant.
+pub(crate) fn record_at(at: PacketAt, c: Command) -> Record
+    ensures { λ q. ⌜ q ≡ placedAt (at .0) (packetOf c) ⌝ }
+{
+    match c {
+        Command::Row(p) => Record::RowAt(at, p),
+        Command::Col(p) => Record::ColAt(at, p),
+    }
+}
+
+fn col_under(mask: u32, p: ColPacket) -> ColPacket
+    ensures { λ q. ⌜ q ≡ colUnder mask p ⌝ }
+{
+    match p {
+        ColPacket::Nocop { mask: _ } => ColPacket::Nocop { mask },
+        ColPacket::Wr {
+            bank,
+            column,
+            mask: _,
+        } => ColPacket::Wr { bank, column, mask },
+        ColPacket::Rd {
+            bank,
+            column,
+            mask: _,
+        } => ColPacket::Rd { bank, column, mask },
+    }
+}
+
+// A packet under a mask, where it can have one.
+fn under_mask(mask: u32, c: Command) -> Command
+    ensures { λ q. ⌜ packetOf q ≡ under mask (packetOf c) ⌝ }
+{
+    match c {
+        Command::Row(p) => Command::Row(p),
+        Command::Col(p) => Command::Col(col_under(mask, p)),
+    }
+}
+
+// A packet in its place, under the mask of the write that it retires there.
+pub(crate) fn placed_in(s: Settings, p: PlannerState, at: PacketAt, c: Command) -> Record
+    ensures { λ q. ⌜ q ≡ placedBy s p (at .0) (packetOf c) ⌝ }
+{
+    let mask = carried(s, p, record_at(at, c));
+    record_at(at, under_mask(mask, c))
+}
+
+fn col_delay(s: Settings, p: ColPacket) -> u32
+    ensures { λ r. ⌜ r ≡ colDelay (contextOf s) p ⌝ }
+{
+    match p {
+        ColPacket::Nocop { mask: _ } => 0,
+        ColPacket::Wr {
+            bank: _,
+            column: _,
+            mask: _,
+        } => s.cwd,
+        ColPacket::Rd {
+            bank: _,
+            column: _,
+            mask: _,
+        } => s.cac,
+    }
+}
+
+// How long after a packet its data come.
+pub(crate) fn data_delay(s: Settings, c: Command) -> u32
+    ensures { λ r. ⌜ r ≡ dataDelay (contextOf s) (packetOf c) ⌝ }
+{
+    match c {
+        Command::Row(_) => 0,
+        Command::Col(p) => col_delay(s, p),
+    }
+}
+
+// Whether an instant that comes a delay after a slot would pass the last one.
+pub(crate) fn is_late(slot: u64, delay: u32) -> bool
+    ensures { λ r. ⌜ r ≡ not (leb (slot + delay) horizon) ⌝ }
+{
+    if 1000000000 < slot {
+        return true;
+    }
+    1000000000 < slot + num::wide32(delay)
+}
+
+// A slot, or the last instant where it would pass that.
+pub(crate) fn clipped(slot: u64) -> PacketAt
+    ensures { λ r. ⌜ r ≡ record { 0 = clip slot } ⌝ }
+{
+    if 1000000000 < slot {
+        return PacketAt(1000000000);
+    }
+    PacketAt(slot as u32)
+}

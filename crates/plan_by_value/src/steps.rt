@@ -1,0 +1,192 @@
+// The steps of the plan's definition (spec_plan/specs/Plan.antt).
+ghost use mathlib.Core.Path.{_≡_};
+ghost use mathlib.Core.Bool.{true};
+ghost use lib.Dec.{leb};
+ghost use Rattle.settings.specs.Instants.{horizon};
+ghost use Rattle.spec_rules.specs.Neighbour.{bankCount, contextOf};
+ghost use Rattle.spec_rules.specs.History.{anyWrite};
+ghost use Rattle.spec_plan.specs.Plan.{Draft as DraftOf, sent, flushed, flushedWhile, closed, closedUpTo, reached, plannedRead, loaded, written, plannedWrite, plannedRefresh, plannedDrain, planned};
+ghost use Rattle.plan_by_value.specs.form.Drawn.{packetOf, writeOf, bankIn, Draws};
+use crate::Banks;
+use crate::Command;
+use crate::Draft;
+use crate::Which;
+use crate::asks::open_on;
+use crate::asks::to_close;
+use crate::asks::waits;
+use crate::drafts::added;
+use crate::drafts::moved;
+use crate::drafts::start;
+use crate::drafts::turned;
+use crate::drafts::waited;
+use crate::packets::clipped;
+use crate::packets::data_delay;
+use crate::packets::is_late;
+use crate::packets::placed_in;
+use crate::packets::record_at;
+use chan_least::least_from;
+use chan_step::after;
+use packet::ColPacket;
+use packet::RowPacket;
+use record::Dualoct;
+use record::Place;
+use record::Record;
+use record::Request;
+use settings::Arrival;
+use settings::PacketAt;
+use settings::Settings;
+use spec_plan::PlannerState;
+
+// A packet sent at its least instant, under the mask of the write that it retires.
+fn sent(s: Settings, c: Command, d: Draft) -> Draft
+    ensures { λ z. ⌜ ((e : DraftOf) → Draws s d e → Draws s z (sent (contextOf s) (packetOf c) e)) ⌝ }
+{
+    let p = d.planner;
+    let ch = p.channel;
+    let slot = least_from(s, ch, record_at(PacketAt(0), c), p.now);
+    let at = clipped(slot);
+    let q = placed_in(s, p, at, c);
+    let next = after(s, ch, q);
+    let planner = PlannerState {
+        channel: next,
+        now: at,
+        ..p
+    };
+    added(d, planner, q, is_late(slot, data_delay(s, c)))
+}
+
+// NOCOP, which retires the waiting write.
+fn flushed(s: Settings, d: Draft) -> Draft
+    ensures { λ z. ⌜ ((e : DraftOf) → Draws s d e → Draws s z (flushed (contextOf s) e)) ⌝ }
+{
+    sent(s, Command::Col(ColPacket::Nocop { mask: 0xFFFF }), d)
+}
+
+// NOCOP while such a write waits; there is one at most.
+fn flushed_while(s: Settings, which: Which, d: Draft) -> Draft
+    ensures { λ z. ⌜ ((e : DraftOf) → Draws s d e → Draws s z (flushedWhile (contextOf s) (anyWrite (writeOf s which)) e)) ⌝ }
+{
+    let p = d.planner;
+    if waits(s, which, p) {
+        return flushed(s, d);
+    }
+    d
+}
+
+// PRER; before one that would lose a buffered write, NOCOP.
+fn closed(s: Settings, x: u32, d: Draft) -> Draft
+    ensures { λ z. ⌜ ((e : DraftOf) → Draws s d e → Draws s z (closed (contextOf s) x e)) ⌝ }
+{
+    let z = flushed_while(s, Which::Beside(x), d);
+    sent(s, Command::Row(RowPacket::Prer { bank: x }), z)
+}
+
+// Of these banks, the open ones in rising order.
+fn closed_up_to(s: Settings, banks: Banks, d: Draft) -> Draft
+    ensures { λ z. ⌜ ((e : DraftOf) → Draws s d e → Draws s z (closedUpTo (contextOf s) (bankIn s banks) bankCount e)) ⌝ }
+{
+    let mut z = d;
+    let mut x: u32 = 0;
+    while x < 32 {
+        let p = z.planner;
+        if to_close(s, banks, x, p) {
+            z = closed(s, x, z);
+        }
+        x += 1;
+    }
+    z
+}
+
+// A row that is not open: of the bank and its neighbours, close the open ones, then ACT.
+fn reached(s: Settings, bank: u32, row: u32, d: Draft) -> Draft
+    ensures { λ z. ⌜ ((e : DraftOf) → Draws s d e → Draws s z (reached (contextOf s) bank row e)) ⌝ }
+{
+    let p = d.planner;
+    if open_on(p, bank, row) {
+        return d;
+    }
+    let z = closed_up_to(s, Banks::Near(bank), d);
+    sent(s, Command::Row(RowPacket::Act { bank, row }), z)
+}
+
+// RD; NOCOP first if the buffered write has that bank and column.
+fn planned_read(s: Settings, at: Place, d: Draft) -> Draft
+    ensures { λ z. ⌜ ((e : DraftOf) → Draws s d e → Draws s z (plannedRead (contextOf s) at e)) ⌝ }
+{
+    let y = reached(s, at.bank, at.row, d);
+    let z = flushed_while(s, Which::Of(at.bank, at.column), y);
+    let rd = ColPacket::Rd {
+        bank: at.bank,
+        column: at.column,
+        mask: 0xFFFF,
+    };
+    sent(s, Command::Col(rd), z)
+}
+
+// D after a WR, which now waits with its own mask.
+fn loaded(s: Settings, mask: u32, bytes: Dualoct, d: Draft) -> Draft
+    ensures { λ z. ⌜ ((e : DraftOf) → Draws s d e → Draws s z (loaded (contextOf s) mask bytes e)) ⌝ }
+{
+    let p = d.planner;
+    let Arrival::At(t) = instants::write_arrival(s, p.now) else {
+        return moved(d, p, true);
+    };
+    let q = Record::DataOf(t, bytes);
+    let ch = p.channel;
+    let planner = PlannerState {
+        channel: after(s, ch, q),
+        mask: mask,
+        ..p
+    };
+    added(d, planner, q, false)
+}
+
+// WR, which carries the mask of the write that it retires and never its own; then D.
+fn written(s: Settings, at: Place, mask: u32, bytes: Dualoct, d: Draft) -> Draft
+    ensures { λ z. ⌜ ((e : DraftOf) → Draws s d e → Draws s z (written (contextOf s) at mask bytes e)) ⌝ }
+{
+    let wr = ColPacket::Wr {
+        bank: at.bank,
+        column: at.column,
+        mask: 0xFFFF,
+    };
+    loaded(s, mask, bytes, sent(s, Command::Col(wr), d))
+}
+
+fn planned_write(s: Settings, at: Place, mask: u32, bytes: Dualoct, d: Draft) -> Draft
+    ensures { λ z. ⌜ ((e : DraftOf) → Draws s d e → Draws s z (plannedWrite (contextOf s) at mask bytes e)) ⌝ }
+{
+    written(s, at, mask, bytes, reached(s, at.bank, at.row, d))
+}
+
+// Close as above, REFA, REFP, next bank modulo 32.
+fn planned_refresh(s: Settings, d: Draft) -> Draft
+    ensures { λ z. ⌜ ((e : DraftOf) → Draws s d e → Draws s z (plannedRefresh (contextOf s) e)) ⌝ }
+{
+    let bank = d.planner.refresh;
+    let y = closed_up_to(s, Banks::Near(bank), d);
+    let z = sent(s, Command::Row(RowPacket::Refa { bank }), y);
+    turned(sent(s, Command::Row(RowPacket::Refp { bank }), z))
+}
+
+// NOCOP if a write is buffered, then PRER to each open bank in rising order.
+fn planned_drain(s: Settings, d: Draft) -> Draft
+    ensures { λ z. ⌜ ((e : DraftOf) → Draws s d e → Draws s z (plannedDrain (contextOf s) e)) ⌝ }
+{
+    closed_up_to(s, Banks::All, flushed_while(s, Which::Any, d))
+}
+
+// What a request makes of a planner, with its records.
+pub(crate) fn planned(s: Settings, q: Request, p: PlannerState) -> Draft
+    requires { ⌜ leb (p .now .0) horizon ≡ true ⌝ }
+    ensures { λ d. ⌜ Draws s d (planned (contextOf s) q p) ⌝ }
+{
+    let d = start(p);
+    match q {
+        Request::Read(at) => planned_read(s, at, d),
+        Request::Write(at, mask, bytes) => planned_write(s, at, mask, bytes, d),
+        Request::Refresh => planned_refresh(s, d),
+        Request::Wait(cycles) => waited(cycles, d),
+        Request::Drain => planned_drain(s, d),
+    }
+}
