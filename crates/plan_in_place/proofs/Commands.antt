@@ -51,8 +51,8 @@ use Rattle.spec_plan.specs.Call.{listBytes}
 use Rattle.spec_plan.specs.PlannerBytes.{plannerBytes, plannerIn}
 use Rattle.spec_plan.proofs.Invariant.{Inv, Tested, WritesIn, valid-tested, valid-inv}
 use Rattle.spec_plan.proofs.PlannerRoundTrip.{planner-length}
-use Rattle.plan_in_place.specs.form.Numbers.{word, half, Tops, Below}
-use Rattle.plan_in_place.specs.form.Slots.{rdAt, waitsIn, heldBank, nocopAt, wrAt, carriedIn, closeAt, openAt, nowStored, leftStored, wrStored}
+use Rattle.plan_in_place.specs.form.Numbers.{word, half, Tops, Below, waitsIn, heldBank}
+use Rattle.plan_in_place.specs.form.Slots.{rdAt, nocopAt, wrAt, carriedIn, closeAt, openAt, nowStored, leftStored, wrStored}
 use Rattle.plan_in_place.specs.form.Drawn.{bare, drafted, Readies, Ready, OpenAt, Drawn}
 use Rattle.plan_in_place.proofs.Stored.{said-some, some-said, said-top, top-said}
 use Rattle.plan_in_place.proofs.Slots.{Early, sized, track-at, held-is, none-is, rd-slot, nocop-slot, wr-slot, prer-slot, act-slot, refa-slot}
@@ -69,6 +69,43 @@ one-record : (s : Settings) (r : Record) → listBytes s (r ∷ []) ≡ recordBy
 unfolding listBytes
 one-record s r = append-nil (recordBytes s r)
 
+-- ---- on bytes that say a state exactly
+
+module _ (s : Settings) (b : List ℕ) where
+  -- a stored number that says the least instant of a packet
+  pub record Says (v : ℕ) (r : Record) : Type 0 where
+    pub stored : v ≡ slot (contextOf s) (plannerIn b) r - 3
+    pub instant : v + 3 ≡ slot (contextOf s) (plannerIn b) r
+    pub fits : v + 3 < 2 ^ 32 - 64
+
+  slot-low : 4 ≤ plannerIn b .now .0 → (r : Record) → 4 ≤ slot (contextOf s) (plannerIn b) r
+  unfolding slot leastFrom
+  slot-low low r =
+      let p : PlannerState = plannerIn b in
+      let t0 : ℕ = max (p .now .0) (earliest (contextOf s) (p .channel) r) in
+      omega (arith, picked-late (contextOf s) (p .channel) r t0 (leavingOf (contextOf s) (p .channel) r))
+
+  pub says : 4 ≤ plannerIn b .now .0 → (v : ℕ) (r : Record) → slot (contextOf s) (plannerIn b) r ≤ 999999100 → instantOf v ≡ slot (contextOf s) (plannerIn b) r → Says v r
+  says low v r m e =
+      let a : v ≡ slot (contextOf s) (plannerIn b) r - 3 = sym (stored-in v) ∙ ap (λ (n : ℕ). n - 3) e in
+      let l = slot-low low r in
+      record { stored = a; instant = omega arith; fits = omega arith }
+
+  -- a ROW packet: what has been stored and recorded for it, where its least instant is v as it is stored
+  pub row-drawn : plannerBytes (plannerIn b) ≡ b → (room : List ℕ) (at : ℕ) (left room′ : List ℕ) (to : ℕ) → to ≡ at + 32 → (q : RowPacket) (stored : List ℕ → ℕ → List ℕ) (v : ℕ)
+      → ((t : ℕ) (l : List ℕ) → stored (channelBytes (plannerIn b .channel) ++ l) (t - 3) ≡ channelBytes (after (contextOf s) (plannerIn b .channel) (RowAt (record { 0 = t }) q)) ++ l)
+      → Says v (rowPacket q) → left ≡ nowStored (stored b v) v → room′ ≡ splice room at (recordFields (v + 3) 0 (rowWord (s .device) q) 0 0)
+      → Drawn s (sent (contextOf s) (rowPacket q) (drafted b)) room at left room′ to
+  unfolding sent placedAt under recordBytes
+  row-drawn exact room at left room′ to next q stored v law e f g =
+      record {
+        planner = f ∙ ap₂ (λ (l : List ℕ) (n : ℕ). nowStored (stored l n) n) (sym exact) (e .stored) ∙ row-bytes (contextOf s) (plannerIn b) q stored law;
+        records = g ∙ ap (λ (n : ℕ). splice room at (recordFields n 0 (rowWord (s .device) q) 0 0)) (e .instant) ∙ ap (splice room at) (sym (one-record s _));
+        next = next;
+      }
+
+-- ---- on ready bytes
+
 module _ (s : Settings) (top : ℕ) (b : List ℕ) (k : Ready s top b) (h : top ≤ 999999000) where
   abbrev p : PlannerState
   p = plannerIn b
@@ -76,24 +113,8 @@ module _ (s : Settings) (top : ℕ) (b : List ℕ) (k : Ready s top b) (h : top 
   abbrev known : Inv (contextOf s) p
   known = inv s top b k
 
-  slot-low : (r : Record) → 4 ≤ slot (contextOf s) p r
-  unfolding slot leastFrom
-  slot-low r =
-      let t0 : ℕ = max (p .now .0) (earliest (contextOf s) (p .channel) r) in
-      omega (arith, picked-late (contextOf s) (p .channel) r t0 (leavingOf (contextOf s) (p .channel) r), known .low)
-
-  -- a stored number that says the instant of a packet
-  pub record Says (v : ℕ) (r : Record) : Type 0 where
-    pub stored : v ≡ slot (contextOf s) p r - 3
-    pub instant : v + 3 ≡ slot (contextOf s) p r
-    pub fits : v + 3 < 2 ^ 32 - 64
-
-  pub says : (v : ℕ) (r : Record) → instantOf v ≡ slot (contextOf s) p r → Says v r
-  says v r e =
-      let a : v ≡ slot (contextOf s) p r - 3 = sym (stored-in v) ∙ ap (λ (n : ℕ). n - 3) e in
-      let l = slot-low r in
-      let m = slot-top s top b k r in
-      record { stored = a; instant = omega arith; fits = omega arith }
+  said : (v : ℕ) (r : Record) → instantOf v ≡ slot (contextOf s) p r → Says s b v r
+  said v r e = says s b (known .low) v r (omega (arith, slot-top s top b k r)) e
 
   -- of an open bank the neighbours are closed
   sides-shut : (x : ℕ) → x < 32 → OpenAt b x → (y : ℕ) → y < 32 → near (contextOf s) x y ≡ true → eqb y x ≡ false → stateOf (p .channel) y ≡ Closed
@@ -109,62 +130,50 @@ module _ (s : Settings) (top : ℕ) (b : List ℕ) (k : Ready s top b) (h : top 
       is-closed Refresh w = not-both false w refl
 
   -- the least instant of each command
-  pub rd-says : (x c : ℕ) → x < 32 → Says (rdAt s b x) (colPacket (Rd x c 0xFFFF))
-  rd-says x c l = says (rdAt s b x) (colPacket (Rd x c 0xFFFF)) (rd-slot s b (known .low) x c 0xFFFF l)
+  pub rd-says : (x c : ℕ) → x < 32 → Says s b (rdAt s b x) (colPacket (Rd x c 0xFFFF))
+  rd-says x c l = said (rdAt s b x) (colPacket (Rd x c 0xFFFF)) (rd-slot s b (known .low) x c 0xFFFF l)
 
-  pub nocop-says : waitsIn b ≡ true → Says (nocopAt s b) (colPacket (Nocop 0xFFFF))
-  nocop-says w = says (nocopAt s b) (colPacket (Nocop 0xFFFF)) (nocop-slot s b (known .low) 0xFFFF w (held-bank s top b k w) (held-early s top b k w))
+  pub nocop-says : waitsIn b ≡ true → Says s b (nocopAt s b) (colPacket (Nocop 0xFFFF))
+  nocop-says w = said (nocopAt s b) (colPacket (Nocop 0xFFFF)) (nocop-slot s b (known .low) 0xFFFF w (held-bank s top b k w) (held-early s top b k w))
 
-  pub wr-says : (x c : ℕ) → x < 32 → Says (wrAt s b x) (colPacket (Wr x c 0xFFFF))
-  wr-says x c l = says (wrAt s b x) (colPacket (Wr x c 0xFFFF)) (wr-slot s b (known .low) x c 0xFFFF l (early s top b k) (held-bank s top b k))
+  pub wr-says : (x c : ℕ) → x < 32 → Says s b (wrAt s b x) (colPacket (Wr x c 0xFFFF))
+  wr-says x c l = said (wrAt s b x) (colPacket (Wr x c 0xFFFF)) (wr-slot s b (known .low) x c 0xFFFF l (early s top b k) (held-bank s top b k))
 
-  pub prer-says : (x : ℕ) → x < 32 → Says (closeAt s b x) (rowPacket (Prer x))
-  prer-says x l = says (closeAt s b x) (rowPacket (Prer x)) (prer-slot s b (known .low) x l)
+  pub prer-says : (x : ℕ) → x < 32 → Says s b (closeAt s b x) (rowPacket (Prer x))
+  prer-says x l = said (closeAt s b x) (rowPacket (Prer x)) (prer-slot s b (known .low) x l)
 
-  pub act-says : (x row : ℕ) → x < 32 → Says (openAt s b x) (rowPacket (Act x row))
-  act-says x row l = says (openAt s b x) (rowPacket (Act x row)) (act-slot s b (known .low) x row l)
+  pub act-says : (x row : ℕ) → x < 32 → Says s b (openAt s b x) (rowPacket (Act x row))
+  act-says x row l = said (openAt s b x) (rowPacket (Act x row)) (act-slot s b (known .low) x row l)
 
-  pub refa-says : (x : ℕ) → x < 32 → Says (openAt s b x) (rowPacket (Refa x))
-  refa-says x l = says (openAt s b x) (rowPacket (Refa x)) (refa-slot s b (known .low) x l)
+  pub refa-says : (x : ℕ) → x < 32 → Says s b (openAt s b x) (rowPacket (Refa x))
+  refa-says x l = said (openAt s b x) (rowPacket (Refa x)) (refa-slot s b (known .low) x l)
 
   -- what has been stored and recorded for a packet, whose least instant is v as it is stored
   module _ (room : List ℕ) (at : ℕ) (left room′ : List ℕ) (to : ℕ) (next : to ≡ at + 32) where
-    row-drawn : (q : RowPacket) (stored : List ℕ → ℕ → List ℕ) (v : ℕ)
-        → ((t : ℕ) (l : List ℕ) → stored (channelBytes (p .channel) ++ l) (t - 3) ≡ channelBytes (after (contextOf s) (p .channel) (RowAt (record { 0 = t }) q)) ++ l)
-        → Says v (rowPacket q) → left ≡ nowStored (stored b v) v → room′ ≡ splice room at (recordFields (v + 3) 0 (rowWord (s .device) q) 0 0)
-        → Drawn s (sent (contextOf s) (rowPacket q) (bare p)) room at left room′ to
-    unfolding sent placedAt under recordBytes
-    row-drawn q stored v law e f g =
-        record {
-          planner = f ∙ ap₂ (λ (l : List ℕ) (n : ℕ). nowStored (stored l n) n) (sym (readies s top b k .exact)) (e .stored) ∙ row-bytes (contextOf s) p q stored law;
-          records = g ∙ ap (λ (n : ℕ). splice room at (recordFields n 0 (rowWord (s .device) q) 0 0)) (e .instant) ∙ ap (splice room at) (sym (one-record s _));
-          next = next;
-        }
-
     pub act-drawn : (x row : ℕ) → x < 32 → let v : ℕ = openAt s b x in left ≡ nowStored (actStored b x row v) v
         → room′ ≡ splice room at (recordFields (v + 3) 0 (rowWord (s .device) (Act x row)) 0 0) → Drawn s (sent (contextOf s) (rowPacket (Act x row)) (bare p)) room at left room′ to
     act-drawn x row l =
         let i : Plain (p .channel) = plain s top b k in
-        row-drawn (Act x row) (λ b v. actStored b x row v) (openAt s b x) (λ t q. act-stored (contextOf s) (p .channel) q (i .size) (i .write) (i .no-due) x t l row) (act-says x row l)
+        row-drawn s b (readies s top b k .exact) room at left room′ to next (Act x row) (λ b v. actStored b x row v) (openAt s b x) (λ t q. act-stored (contextOf s) (p .channel) q (i .size) (i .write) (i .no-due) x t l row) (act-says x row l)
 
     pub refa-drawn : (x : ℕ) → x < 32 → let v : ℕ = openAt s b x in left ≡ nowStored (refaStored b x v) v
         → room′ ≡ splice room at (recordFields (v + 3) 0 (rowWord (s .device) (Refa x)) 0 0) → Drawn s (sent (contextOf s) (rowPacket (Refa x)) (bare p)) room at left room′ to
     refa-drawn x l =
         let i : Plain (p .channel) = plain s top b k in
-        row-drawn (Refa x) (λ b v. refaStored b x v) (openAt s b x) (λ t q. refa-stored (contextOf s) (p .channel) q (i .size) (i .write) (i .no-due) x t l) (refa-says x l)
+        row-drawn s b (readies s top b k .exact) room at left room′ to next (Refa x) (λ b v. refaStored b x v) (openAt s b x) (λ t q. refa-stored (contextOf s) (p .channel) q (i .size) (i .write) (i .no-due) x t l) (refa-says x l)
 
     pub prer-drawn : (x : ℕ) → x < 32 → OpenAt b x → let v : ℕ = closeAt s b x in left ≡ nowStored (closeStored b x v) v
         → room′ ≡ splice room at (recordFields (v + 3) 0 (rowWord (s .device) (Prer x)) 0 0) → Drawn s (sent (contextOf s) (rowPacket (Prer x)) (bare p)) room at left room′ to
     prer-drawn x l o =
         let i : Plain (p .channel) = plain s top b k in
-        row-drawn (Prer x) (λ b v. closeStored b x v) (closeAt s b x) (λ t q. prer-stored (contextOf s) (p .channel) q (i .size) (i .write) (i .no-due) x t l (sides-shut x l o)) (prer-says x l)
+        row-drawn s b (readies s top b k .exact) room at left room′ to next (Prer x) (λ b v. closeStored b x v) (closeAt s b x) (λ t q. prer-stored (contextOf s) (p .channel) q (i .size) (i .write) (i .no-due) x t l (sides-shut x l o)) (prer-says x l)
 
     pub rd-drawn : (x c : ℕ) → x < 32 → let v : ℕ = rdAt s b x in left ≡ nowStored (rdStored b x v) v
         → room′ ≡ splice room at (recordFields (v + 3) 1 (colWord (s .device) (Rd x c 0xFFFF)) 0 0) → Drawn s (sent (contextOf s) (colPacket (Rd x c 0xFFFF)) (bare p)) room at left room′ to
     unfolding sent placedAt under leaving traits colTraits recordBytes
     rd-drawn x c l f g =
         let v : ℕ = rdAt s b x in
-        let e : Says v (colPacket (Rd x c 0xFFFF)) = rd-says x c l in
+        let e : Says s b v (colPacket (Rd x c 0xFFFF)) = rd-says x c l in
         record {
           planner = f ∙ ap₂ (λ (l : List ℕ) (n : ℕ). nowStored (rdStored l x n) n) (sym (readies s top b k .exact)) (e .stored) ∙ rd-bytes (contextOf s) p (plain s top b k) x c l;
           records = g ∙ ap (λ (n : ℕ). splice room at (recordFields n 1 (colWord (s .device) (Rd x c 0xFFFF)) 0 0)) (e .instant) ∙ ap (splice room at) (sym (one-record s _));
@@ -182,7 +191,7 @@ module _ (s : Settings) (top : ℕ) (b : List ℕ) (k : Ready s top b) (h : top 
     nocop-drawn w f g =
         let v : ℕ = nocopAt s b in
         let r : Record = colPacket (Nocop 0xFFFF) in
-        let e : Says v r = nocop-says w in
+        let e : Says s b v r = nocop-says w in
         record {
           planner = f
               ∙ ap₂ (λ (l : List ℕ) (n : ℕ). nowStored (colStored (emptyStored (retireStored l (heldBank b) n)) n) n) (sym (readies s top b k .exact)) (e .stored)
@@ -222,7 +231,7 @@ module _ (s : Settings) (top : ℕ) (b : List ℕ) (k : Ready s top b) (h : top 
     unfolding written loaded sent placedAt under recordBytes listBytes wrStored contextOf
     wr-drawn room start left room1 room2 to next fits f g h =
         let v : ℕ = wrAt s b (at .bank) in
-        let e : Says v wr = wr-says (at .bank) (at .column) l in
+        let e : Says s b v wr = wr-says (at .bank) (at .column) l in
         let t : ℕ = slot (contextOf s) p wr in
         let then : v + s .cwd + 3 ≡ t + s .cwd = omega (arith, e .instant) in
         let columns : at .column < 256 = omega (arith, bounds s (readies s top b k .figures) .columns-most) in

@@ -5,3 +5,10 @@ pub mod Puts
 pub mod OneStep
 pub mod Commands
 pub mod Wholes
+pub mod Marks
+pub mod Again
+pub mod Compose
+pub mod Refreshed
+pub mod Tested
+pub mod Ranges
+pub mod Stepwise

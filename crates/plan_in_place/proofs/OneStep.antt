@@ -48,8 +48,8 @@ use Rattle.spec_plan.specs.Call.{listBytes}
 use Rattle.spec_plan.specs.PlannerBytes.{plannerBytes, plannerIn}
 use Rattle.spec_plan.proofs.Invariant.{Inv, Tested, WritesIn, valid-tested, valid-inv}
 use Rattle.spec_plan.proofs.PlannerRoundTrip.{planner-length}
-use Rattle.plan_in_place.specs.form.Numbers.{word, half, Tops, Below}
-use Rattle.plan_in_place.specs.form.Slots.{rdAt, waitsIn, heldBank, nocopAt, wrAt, carriedIn, closeAt, openAt, nowStored, leftStored, wrStored}
+use Rattle.plan_in_place.specs.form.Numbers.{word, half, Tops, Below, waitsIn, heldBank}
+use Rattle.plan_in_place.specs.form.Slots.{rdAt, nocopAt, wrAt, carriedIn, closeAt, openAt, nowStored, leftStored, wrStored}
 use Rattle.plan_in_place.specs.form.Drawn.{bare, drafted, Readies, Ready, OpenAt, Drawn}
 use Rattle.plan_in_place.proofs.Stored.{said-some, some-said, said-top, top-said}
 use Rattle.plan_in_place.proofs.Slots.{Early, sized, track-at, held-is, none-is, rd-slot, nocop-slot, wr-slot, prer-slot, act-slot, refa-slot}
@@ -128,11 +128,11 @@ module _ (s : Settings) (top : ℕ) (b : List ℕ) (k : Ready s top b) where
 
   writes-top : WritesAll (λ t. t ≤ top + 3) (waitingOf (bufferIn b))
   unfolding bufferIn waitingOf
-  writes-top = go (eqb (getD b 728 0) 0)
+  writes-top = go (eqb (getD b 728 0) 0) refl
     where
-      go : (q : Bool) → WritesAll (λ t. t ≤ top + 3) (waitingOf (cond q Empty (One (writeIn b 736))))
-      go true = tt
-      go false = (top-said (word b 740) top (tops .wrote), tt)
+      go : (q : Bool) → eqb (getD b 728 0) 0 ≡ q → WritesAll (λ t. t ≤ top + 3) (waitingOf (cond q Empty (One (writeIn b 736))))
+      go true e = tt
+      go false e = (top-said (word b 740) top (tops .wrote (rw e)), tt)
 
   pub under-top : Under (top + 3) (p .channel)
   unfolding plannerIn channelIn lastsIn bankCount

@@ -37,8 +37,8 @@ use Rattle.chan_view.proofs.BoundLaws.{since-max, near-bound, own-bound, three-
 use Rattle.spec_plan.specs.declared.PlannerState.{PlannerState}
 use Rattle.spec_plan.specs.Plan.{rowPacket, colPacket, slot}
 use Rattle.spec_plan.specs.PlannerBytes.{plannerIn}
-use Rattle.plan_in_place.specs.form.Numbers.{word, half}
-use Rattle.plan_in_place.specs.form.Slots.{colBase, rowBase, rdAt, waitsIn, heldBank, retireAt, nocopAt, wrAt, mostIn, closeAt, latestIn, farIn, otherIn, openAt}
+use Rattle.plan_in_place.specs.form.Numbers.{word, half, waitsIn, heldBank}
+use Rattle.plan_in_place.specs.form.Slots.{colBase, rowBase, rdAt, retireAt, nocopAt, wrAt, mostIn, closeAt, latestIn, farIn, otherIn, openAt}
 use Rattle.plan_in_place.proofs.Stored.{since-some, since-none, said-max, said-since, floor, max-ext, max-since, max-both, since-more}
 
 -- ---- the plan's slots by the state, command by command

@@ -3,4 +3,5 @@
 mod cols;
 mod fields;
 mod rows;
+mod steps;
 mod words;

@@ -224,3 +224,23 @@ fn refa(s: Settings, b: &mut [u8], bank: u32, room: &mut [u8], to: usize) -> usi
     put_refa(b, bank as usize, t);
     to + 32
 }
+// REFA, then REFP.
+pub fn refresh_bank(s: Settings, b: &mut [u8], bank: u32, room: &mut [u8], to: usize) -> usize
+    requires { ⌜ Ready s 999998000 (now b) ⌝ }
+    requires { ⌜ length (now b) ≡ 768 ⌝ }
+    requires { ⌜ bank < 32 ⌝ }
+    requires { ⌜ NearShut s (now b) bank ⌝ }
+    requires { ⌜ to + 64 ≤ length (now room) ⌝ }
+    ensures { λ r. ⌜ Drawn s (sent (contextOf s) (rowPacket (Refp bank)) (sent (contextOf s) (rowPacket (Refa bank)) (drafted (now (b .entry))))) (now (room .entry)) to (now (b .exit)) (now (room .exit)) r ⌝ }
+{
+    let next = refa(s, b, bank, room, to);
+    close(
+        s,
+        b,
+        bank as usize,
+        row_word(s.device, RowPacket::Refp { bank }),
+        room,
+        next,
+    );
+    next + 32
+}

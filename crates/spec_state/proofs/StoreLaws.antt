@@ -39,7 +39,7 @@ use Rattle.spec_state.proofs.LayoutLaws.{put-opened, put-act, put-pre, 
 -- ---- the bytes of a state by its numbers
 
 -- eight bytes as one number
-count-word : (n d : ℕ) → n < 256 → d < 256 → bytes 8 (n + 256 * d) ≡ bytes 1 n ++ (bytes 1 d ++ zeros 6)
+pub count-word : (n d : ℕ) → n < 256 → d < 256 → bytes 8 (n + 256 * d) ≡ bytes 1 n ++ (bytes 1 d ++ zeros 6)
 unfolding bytes
 count-word n d l m =
     let a : (n + 256 * d) % 256 ≡ n % 256 = omega arith in
@@ -47,7 +47,7 @@ count-word n d l m =
     let c : d / 256 ≡ 0 = omega arith in
     rw (a, b, c)
 
-write-word : (x c v : ℕ) → x < 256 → c < 256 → bytes 8 (writeWord x c v) ≡ bytes 1 x ++ (bytes 1 c ++ (bytes 2 0 ++ bytes 4 v))
+pub write-word : (x c v : ℕ) → x < 256 → c < 256 → bytes 8 (writeWord x c v) ≡ bytes 1 x ++ (bytes 1 c ++ (bytes 2 0 ++ bytes 4 v))
 unfolding bytes
 write-word x c v l k =
     let a : writeWord x c v % 256 ≡ x % 256 = omega arith in
@@ -65,7 +65,7 @@ abbrev pub WriteIn : Buffer → Type 0
 WriteIn Empty = Unit {0}
 WriteIn (One w) = (w .bank < 256) × (w .column < 256)
 
-below : (due : Bool) → cond due 1 0 < 256
+pub below : (due : Bool) → cond due 1 0 < 256
 below true = omega arith
 below false = omega arith
 
@@ -112,7 +112,7 @@ module _ (cx : Context) (ch : Channel) (r : Record) (q : List ℕ) where
       refl refl refl refl refl refl refl refl
 
 -- a number that a test picks
-pick : (q : Bool) (t u : PacketAt) → cond q (t .0 - 3) (u .0 - 3) ≡ cond q t u .0 - 3
+pub pick : (q : Bool) (t u : PacketAt) → cond q (t .0 - 3) (u .0 - 3) ≡ cond q t u .0 - 3
 pick true t u = refl
 pick false t u = refl
 
@@ -121,10 +121,10 @@ tag-pick true b k = refl
 tag-pick false b k = refl
 
 -- one store after others
-on : (at : ℕ) (vs : List ℕ) {b c d : List ℕ} → b ≡ c → splice c at vs ≡ d → splice b at vs ≡ d
+pub on : (at : ℕ) (vs : List ℕ) {b c d : List ℕ} → b ≡ c → splice c at vs ≡ d → splice b at vs ≡ d
 on at vs e h = ap (λ (b : List ℕ). splice b at vs) e ∙ h
 
-row-stored : (n : Numbers) (v : ℕ) {b : List ℕ} → b ≡ layout n → rowStored b v ≡ layout (atLast 1 v (atLast 0 v n))
+pub row-stored : (n : Numbers) (v : ℕ) {b : List ℕ} → b ≡ layout n → rowStored b v ≡ layout (atLast 1 v (atLast 0 v n))
 unfolding rowStored
 row-stored n v e = on 708 (bytes 4 v) (on 704 (bytes 4 v) e (put-704 n v)) (put-708 _ v)
 

@@ -1,2 +1,3 @@
-// The states of planners and models written into their bytes: fresh ones.
-pub mod fresh;
+// What each packet changes in the bytes of a state. Instants are stored ones: less 3.
+pub mod cols;
+pub mod rows;

@@ -1,7 +1,11 @@
 -- The numbers in the bytes of a planner. An instant is stored less 3.
 -- Assumes nothing.
 use Prim.Native.Nat.{ℕ, _+_, _*_, _<_, _≤_}
+use mathlib.Core.Path.{_≡_}
+use mathlib.Core.Bool.{Bool, true, not}
 use mathlib.Core.List.{List}
+use lib.Dec.{eqb}
+use lib.ListN.{getD}
 use Rattle.num.specs.Bytes.{number, part}
 
 -- the stored instant at a place, and the number of two bytes
@@ -11,6 +15,13 @@ word b at = number (part b at 4)
 abbrev pub half : List ℕ → ℕ → ℕ
 half b at = number (part b at 2)
 
+-- whether a write waits, and the bank that it waits for
+abbrev pub waitsIn : List ℕ → Bool
+waitsIn b = not (eqb (getD b 728 0) 0)
+
+abbrev pub heldBank : List ℕ → ℕ
+heldBank b = getD b 736 0
+
 -- no stored instant is above a top: those of the banks, the last ones of the channel, WR's of the waiting write, and now
 pub record Tops (top : ℕ) (b : List ℕ) : Type 0 where
   pub banks : (k : ℕ) → k < 160 → word b (4 * k) ≤ top
@@ -19,7 +30,7 @@ pub record Tops (top : ℕ) (b : List ℕ) : Type 0 where
   pub col : word b 712 ≤ top
   pub pre : word b 716 ≤ top
   pub rd : word b 720 ≤ top
-  pub wrote : word b 740 ≤ top
+  pub wrote : waitsIn b ≡ true → word b 740 ≤ top
   pub now : word b 752 ≤ top
 
 -- the same, shut: a search for a function's needs would read all its fields at each need

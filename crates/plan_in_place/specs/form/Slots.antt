@@ -1,17 +1,16 @@
 -- The least instant of each command, in the stored instants of a planner's bytes. The laws in proofs/ say that these are the plan's.
 -- Assumes nothing.
 use Prim.Native.Nat.{ℕ, _+_, _*_, _-_, max}
-use mathlib.Core.Bool.{Bool, cond, not}
+use mathlib.Core.Bool.{cond}
 use mathlib.Core.List.{List}
-use lib.Dec.{eqb, ltb}
-use lib.ListN.{getD}
+use lib.Dec.{ltb}
 use Rattle.num.specs.Bytes.{bytes, splice}
 use Rattle.settings.specs.declared.Settings.{Settings}
 use Rattle.spec_rules.specs.Neighbour.{contextOf, near}
 use Rattle.spec_rules.specs.Checks.{since, maxUpTo}
 use Rattle.spec_state.specs.form.Stores.{put, colStored, retireStored, writeStored}
 use Rattle.chan_view.specs.form.Beside.{firstNear, lastNear}
-use Rattle.plan_in_place.specs.form.Numbers.{word, half}
+use Rattle.plan_in_place.specs.form.Numbers.{word, half, waitsIn, heldBank}
 
 -- what now and rules 1 and 3 ask of a COL packet; now and rules 1 and 2 of a ROW packet
 unfoldable pub colBase : Settings → List ℕ → ℕ
@@ -24,13 +23,6 @@ rowBase b = max (max (word b 752) (word b 704)) (since (word b 708) 4)
 
 unfoldable pub rdAt : Settings → List ℕ → ℕ → ℕ
 rdAt s b x = max (colBase s b) (since (word b (128 + 4 * x)) (s .rcd))
-
--- whether a write waits, and the bank that it waits for
-abbrev pub waitsIn : List ℕ → Bool
-waitsIn b = not (eqb (getD b 728 0) 0)
-
-abbrev pub heldBank : List ℕ → ℕ
-heldBank b = getD b 736 0
 
 -- what rules 12 and 10 ask of the retire of the waiting write
 unfoldable pub retireAt : Settings → List ℕ → ℕ

@@ -2,8 +2,10 @@
 -- the state after the packet.
 -- Assumes nothing.
 use Prim.Native.Nat.{ℕ, _+_, _*_}
+use mathlib.Core.Bool.{not, _&&_, cond}
 use mathlib.Core.List.{List}
-use Rattle.num.specs.Bytes.{bytes, splice}
+use lib.Dec.{eqb, ltb}
+use Rattle.num.specs.Bytes.{bytes, number, part, splice}
 use Rattle.spec_state.specs.form.Layout.{writeWord}
 
 -- four bytes stored
@@ -26,6 +28,17 @@ refaStored b x t = rowStored (splice (put b (4 * x) t) (640 + 2 * x) (bytes 2 0x
 
 unfoldable pub closeStored : List ℕ → ℕ → ℕ → List ℕ
 closeStored b x t = rowStored (put (splice (put b (256 + 4 * x) t) (640 + 2 * x) (bytes 2 0)) 716 t) t
+
+-- a bank closed by a PRER or REFP; the same where there is such a bank and it is not closed
+unfoldable pub shutStored : List ℕ → ℕ → ℕ → List ℕ
+shutStored b x t = splice (put b (256 + 4 * x) t) (640 + 2 * x) (bytes 2 0)
+
+unfoldable pub sideStored : List ℕ → ℕ → ℕ → List ℕ
+sideStored b x t = cond (ltb x 32 && not (eqb (number (part b (640 + 2 * x) 2)) 0)) (shutStored b x t) b
+
+-- PRER or REFP to any bank: the bank, then those on its two sides that are not closed
+unfoldable pub prerStored : List ℕ → ℕ → ℕ → ℕ → ℕ → List ℕ
+prerStored b x low high t = rowStored (put (sideStored (sideStored (shutStored b x t) low t) high t) 716 t) t
 
 -- RD
 unfoldable pub rdStored : List ℕ → ℕ → ℕ → List ℕ

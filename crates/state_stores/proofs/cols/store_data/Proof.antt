@@ -1,0 +1,10 @@
+-- `state_stores::cols::store_data` meets its contract: the one store.
+use borrow.Author.Needs.{needs}
+use Rattle.state_stores.proofs.cols.store_data.Statement.{statement}
+use Rattle.state_stores.proofs.cols.store_data.Tie as tie
+
+returns : tie.Need-returns
+returns c = c .before .before .put-u64 .ensures
+
+pub store-data-spec : {M : Type 1} → statement M
+store-data-spec = tie.close (tie.spec (λ c κs. search needs) (λ c. search needs) returns)
