@@ -29,6 +29,7 @@ pub fn count(m: Meter) -> CountAnswer
     ensures { λ r. ⌜ r ≡ countAnswered m ⌝ }
 {
     let newest = m.newest;
+    // a copy: lent from the struct itself, the marks would cost a call of memcpy
     let marks = m.marks;
     if right(&marks, newest) {
         let count = busy_count(&marks, newest);

@@ -85,6 +85,7 @@ pub fn step(m: Meter, at: DataAt) -> Fed
 {
     let t = num::wide32(at.0);
     let newest = m.newest;
+    // a copy: lent from the struct itself, the marks would cost a call of memcpy
     let marks = m.marks;
     let answer = answer_to(&marks, newest, t);
     if number_of(answer) == 0 {
