@@ -15,7 +15,7 @@ use borrow.Author.Tests.{eqb-true, eq-eqb, ne-eqb, leb-true, leb-false, le-leb, 
 use Rattle.num.specs.Search.{allUpTo}
 use Rattle.num.proofs.SearchLaws.{all-at, all-intro, all-join}
 use Rattle.marks.specs.Marks.{bit, mark, word, words, later, alone, aged}
-use Rattle.marks.specs.Across.{ahead, across, lone, under, back}
+use Rattle.marks.specs.Across.{ahead, across, loneAt, lone, underAt, under, back}
 use Rattle.marks.proofs.BitLaws.{same-truth, bit-or, bit-and, bit-shr, bit-shl, bit-shl-none, bit-low, bit-none, bit-word, word-is, word-same, word-below}
 use Rattle.marks.proofs.MarkLaws.{mark-at, mark-ahead, bit-zero, length-words, getD-words}
 
@@ -73,16 +73,16 @@ across-bit low high r j h = bit-word (λ j. ahead low high (64 - r + j)) 64 j h
 
 pub and-is-lone : (low high : ℕ) → low < 2 ^ 64
     → eqb (bitAnd low (bitOr (bitOr (across low high 63) (across low high 62)) (across low high 61))) 0 ≡ lone low high
-unfolding lone
+unfolding lone loneAt
 and-is-lone low high hl =
     let s : bitAnd low near < 2 ^ 64 = lt-of-le-of-lt (and-le-l low near) hl in
     zero-bits (bitAnd low near) 64 s
-    ∙ all-same (λ j. not (bit (bitAnd low near) j)) (λ j. not (bit low j && (ahead low high (j + 1) || (ahead low high (j + 2) || ahead low high (j + 3))))) 64 at
+    ∙ all-same (λ j. not (bit (bitAnd low near) j)) (loneAt low high) 64 at
   where
     near : ℕ
     near = bitOr (bitOr (across low high 63) (across low high 62)) (across low high 61)
 
-    at : (j : ℕ) → j < 64 → not (bit (bitAnd low near) j) ≡ not (bit low j && (ahead low high (j + 1) || (ahead low high (j + 2) || ahead low high (j + 3))))
+    at : (j : ℕ) → j < 64 → not (bit (bitAnd low near) j) ≡ loneAt low high j
     at j h =
         let a : ahead low high (1 + j) ≡ ahead low high (j + 1) = ap (ahead low high) (omega arith) in
         let b : ahead low high (2 + j) ≡ ahead low high (j + 2) = ap (ahead low high) (omega arith) in
@@ -90,7 +90,8 @@ and-is-lone low high hl =
         rw (bit-and low near j, bit-or (bitOr (across low high 63) (across low high 62)) (across low high 61) j, bit-or (across low high 63) (across low high 62) j, across-bit low high 63 j h, across-bit low high 62 j h, across-bit low high 61 j h, a, b, c, or-assoc (ahead low high (j + 1)) (ahead low high (j + 2)) (ahead low high (j + 3)))
 
 -- no bit from n on, either way
-under-low : (w n : ℕ) → eqb (w / 2 ^ n) 0 ≡ true → (j : ℕ) → (not (bit w j) || ltb j n) ≡ true
+under-low : (w n : ℕ) → eqb (w / 2 ^ n) 0 ≡ true → (j : ℕ) → underAt w n j ≡ true
+unfolding underAt
 under-low w n e j = go (ltb j n) refl
   where
     go : (b : Bool) → ltb j n ≡ b → (not (bit w j) || b) ≡ true
@@ -101,12 +102,13 @@ under-low w n e j = go (ltb j n) refl
         let z : bit w j ≡ false = sym (ap (bit w) i) ∙ sym (bit-shr w n (j - n)) ∙ ap (λ (x : ℕ). bit x (j - n)) (eqb-true (w / 2 ^ n) 0 e) ∙ bit-zero (j - n) in
         rw z
 
-under-high : (w n j : ℕ) → w < 2 ^ 64 → allUpTo (λ j. not (bit w j) || ltb j n) 64 ≡ true → bit (w / 2 ^ n) j ≡ false
+under-high : (w n j : ℕ) → w < 2 ^ 64 → allUpTo (underAt w n) 64 ≡ true → bit (w / 2 ^ n) j ≡ false
+unfolding underAt
 under-high w n j h e = bit-shr w n j ∙ go (ltb (n + j) 64) refl
   where
     go : (b : Bool) → ltb (n + j) 64 ≡ b → bit w (n + j) ≡ false
     go true l =
-        let t = all-at (λ j. not (bit w j) || ltb j n) 64 (n + j) e (ltb-true (n + j) 64 l) in
+        let t = all-at (underAt w n) 64 (n + j) e (ltb-true (n + j) 64 l) in
         let f : ltb (n + j) n ≡ false = le-ltb (n + j) n (omega arith) in
         not-true (bit w (n + j)) (rw (f, or-false) at t)
     go false l = bit-none w 64 (n + j) h (ltb-false (n + j) 64 l)
@@ -114,13 +116,13 @@ under-high w n j h e = bit-shr w n j ∙ go (ltb (n + j) 64) refl
 pub shift-is-under : (w n : ℕ) → w < 2 ^ 64 → eqb (w / 2 ^ n) 0 ≡ under w n
 unfolding under
 shift-is-under w n h =
-    same-truth (eqb (w / 2 ^ n) 0) (allUpTo (λ j. not (bit w j) || ltb j n) 64)
-    (λ e. all-intro (λ j. not (bit w j) || ltb j n) 64 (λ j l. under-low w n e j))
+    same-truth (eqb (w / 2 ^ n) 0) (allUpTo (underAt w n) 64)
+    (λ e. all-intro (underAt w n) 64 (λ j l. under-low w n e j))
     (λ e. eq-eqb (w / 2 ^ n) 0 (word-is (w / 2 ^ n) (λ j. false) 64 (lt-of-le-of-lt (shr-le w n) h) (λ j l. under-high w n j h e) ∙ word-none 64))
 
 pub all-under : (w n : ℕ) → 64 ≤ n → under w n ≡ true
-unfolding under
-all-under w n h = all-intro (λ j. not (bit w j) || ltb j n) 64 (λ j l. rw (lt-ltb j n (omega arith)) (or-true (not (bit w j))))
+unfolding under underAt
+all-under w n h = all-intro (underAt w n) 64 (λ j l. rw (lt-ltb j n (omega arith)) (or-true (not (bit w j))))
 
 -- ---- words that stand later
 
@@ -176,27 +178,27 @@ back-next ws q k =
 -- ---- a word more
 
 pub lone-next : (ws : List ℕ) (k : ℕ) → allUpTo (alone ws) (64 * (k + 1)) ≡ (allUpTo (alone ws) (64 * k) && lone (getD ws k 0) (getD ws (k + 1) 0))
-unfolding alone lone
+unfolding alone lone loneAt
 lone-next ws k =
     let s : 64 * (k + 1) ≡ 64 * k + 64 = omega arith in
-    rw (s, all-join (alone ws) (64 * k) 64) (ap (λ (b : Bool). allUpTo (alone ws) (64 * k) && b) (all-same (λ j. alone ws (64 * k + j)) (λ j. not (bit (getD ws k 0) j && (ahead (getD ws k 0) (getD ws (k + 1) 0) (j + 1) || (ahead (getD ws k 0) (getD ws (k + 1) 0) (j + 2) || ahead (getD ws k 0) (getD ws (k + 1) 0) (j + 3))))) 64 at))
+    rw (s, all-join (alone ws) (64 * k) 64) (ap (λ (b : Bool). allUpTo (alone ws) (64 * k) && b) (all-same (λ j. alone ws (64 * k + j)) (loneAt (getD ws k 0) (getD ws (k + 1) 0)) 64 at))
   where
     near : (j e : ℕ) → j < 64 → e < 4 → mark ws (64 * k + j + e) ≡ ahead (getD ws k 0) (getD ws (k + 1) 0) (j + e)
     near j e h l = let s : 64 * k + j + e ≡ 64 * k + (j + e) = omega arith in rw s (mark-ahead ws k (j + e) (omega arith))
 
-    at : (j : ℕ) → j < 64 → alone ws (64 * k + j) ≡ not (bit (getD ws k 0) j && (ahead (getD ws k 0) (getD ws (k + 1) 0) (j + 1) || (ahead (getD ws k 0) (getD ws (k + 1) 0) (j + 2) || ahead (getD ws k 0) (getD ws (k + 1) 0) (j + 3))))
+    at : (j : ℕ) → j < 64 → alone ws (64 * k + j) ≡ loneAt (getD ws k 0) (getD ws (k + 1) 0) j
     at j h = rw (mark-at ws k j h, near j 1 h (omega arith), near j 2 h (omega arith), near j 3 h (omega arith))
 
 pub under-next : (ws : List ℕ) (n k : ℕ) → allUpTo (aged ws n) (64 * (k + 1)) ≡ (allUpTo (aged ws n) (64 * k) && under (getD ws k 0) (n - 64 * k))
-unfolding aged under
+unfolding aged under underAt
 under-next ws n k =
     let s : 64 * (k + 1) ≡ 64 * k + 64 = omega arith in
-    rw (s, all-join (aged ws n) (64 * k) 64) (ap (λ (b : Bool). allUpTo (aged ws n) (64 * k) && b) (all-same (λ j. aged ws n (64 * k + j)) (λ j. not (bit (getD ws k 0) j) || ltb j (n - 64 * k)) 64 at))
+    rw (s, all-join (aged ws n) (64 * k) 64) (ap (λ (b : Bool). allUpTo (aged ws n) (64 * k) && b) (all-same (λ j. aged ws n (64 * k + j)) (underAt (getD ws k 0) (n - 64 * k)) 64 at))
   where
     less : (j : ℕ) → ltb (64 * k + j) n ≡ ltb j (n - 64 * k)
     less j = same-truth (ltb (64 * k + j) n) (ltb j (n - 64 * k)) (λ e. lt-ltb j (n - 64 * k) (omega (arith, ltb-true))) (λ e. lt-ltb (64 * k + j) n (omega (arith, ltb-true)))
 
-    at : (j : ℕ) → j < 64 → aged ws n (64 * k + j) ≡ (not (bit (getD ws k 0) j) || ltb j (n - 64 * k))
+    at : (j : ℕ) → j < 64 → aged ws n (64 * k + j) ≡ underAt (getD ws k 0) (n - 64 * k) j
     at j h = rw (mark-at ws k j h, less j)
 
 -- a new mark at 0

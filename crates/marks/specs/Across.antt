@@ -16,13 +16,21 @@ ahead low high i = cond (ltb i 64) (bit low i) (bit high (i - 64))
 unfoldable pub across : ℕ → ℕ → ℕ → ℕ
 across low high r = word (λ j. ahead low high (64 - r + j)) 64
 
--- whether no bit stands less than four after one of the low word
+-- whether no bit stands less than four after bit j of the low word
+unfoldable pub loneAt : ℕ → ℕ → ℕ → Bool
+loneAt low high j = not (bit low j && (ahead low high (j + 1) || (ahead low high (j + 2) || ahead low high (j + 3))))
+
+-- nor after any of them
 unfoldable pub lone : ℕ → ℕ → Bool
-lone low high = allUpTo (λ j. not (bit low j && (ahead low high (j + 1) || (ahead low high (j + 2) || ahead low high (j + 3))))) 64
+lone low high = allUpTo (loneAt low high) 64
+
+-- whether bit j of a word is not there or j is below n
+unfoldable pub underAt : ℕ → ℕ → ℕ → Bool
+underAt w n j = not (bit w j) || ltb j n
 
 -- whether every bit of a word is below n
 unfoldable pub under : ℕ → ℕ → Bool
-under w n = allUpTo (λ j. not (bit w j) || ltb j n) 64
+under w n = allUpTo (underAt w n) 64
 
 -- word k of those that stand q words later, 0 before the first
 unfoldable pub back : List ℕ → ℕ → ℕ → ℕ

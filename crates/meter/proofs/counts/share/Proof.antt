@@ -1,8 +1,5 @@
 -- `meter::counts::share` meets its contract.
-use mathlib.Core.Path.{sym, ap, _∙_}
-use Rattle.meter.specs.declared.CountAnswer.{CountAnswer}
-use Rattle.meter.specs.Share.{share}
-use Rattle.meter.specs.Calls.{countAnswered, shareAnswered}
+use Rattle.meter.specs.Calls.{shareAnswered}
 use Rattle.meter.proofs.RunLaws.{most-counted}
 use borrow.Author.Needs.{needs}
 use Rattle.meter.proofs.counts.share.Statement.{statement}
