@@ -1,17 +1,18 @@
 /*
- * rdram.h: Direct RDRAM packet words, block logs, timing rules, plans and a device model.
- * Link with librdram.a. Common to all calls:
+ * rdram.h: Direct RDRAM packet words, block logs, timing rules, plans, a device model and a meter of
+ * the data pins (rdram_meter.h, included below). Link with librdram.a. Common to all calls:
  * - A buffer is a pointer and its length in bytes. A null pointer is allowed with length 0. No
  *   alignment is needed. Numbers in buffers have their low byte first.
  * - The buffers of one call must not overlap.
  * - An answer with number 0 (RDRAM_OK) is accepted. Any other number is a refusal (enum
  *   rdram_refusal): every other field of the answer is then 0, except `place`, counted from 0, and
  *   `rule` where the call names them, and no buffer is changed.
- * - The library keeps no state and allocates nothing: planners and models are the caller's buffers.
+ * - The library keeps no state and allocates nothing: planners, models and meters are the caller's.
  */
 #ifndef RDRAM_H
 #define RDRAM_H
 
+#include "rdram_meter.h"
 #include <stddef.h>
 #include <stdint.h>
 
@@ -131,25 +132,23 @@ enum rdram_event {
 /* Answer numbers. */
 enum rdram_refusal {
     RDRAM_OK = 0,
-    RDRAM_REFUSED_SETTINGS = 1,  /* settings, planner or model: length, or a figure out of range */
+    RDRAM_REFUSED_SETTINGS = 1,  /* settings, planner, model or meter: length, or out of range */
     RDRAM_REFUSED_KIND = 2,      /* request kind too high */
     RDRAM_REFUSED_SPARE = 3,     /* a request byte that its kind does not use is not 0 */
     RDRAM_REFUSED_BANK = 4,      /* bank above 31 */
     RDRAM_REFUSED_ROW = 5,       /* row not below rows */
     RDRAM_REFUSED_COLUMN = 6,    /* column not below columns */
-    RDRAM_REFUSED_HORIZON = 7,   /* an instant would pass 1,000,000,000 */
+    RDRAM_REFUSED_HORIZON = 7,   /* an instant would pass 1,000,000,000, or is below 4 */
     RDRAM_REFUSED_FULL = 8,      /* too little room in the buffer for the answer */
     RDRAM_REFUSED_STORE = 9,     /* wrong store length */
     RDRAM_REFUSED_WORD = 10,     /* a packet, word or record that has no coding */
     RDRAM_REFUSED_RULE = 11,     /* a record breaks one of the sixteen rules */
     RDRAM_REFUSED_BLOCK = 12,    /* a damaged or misplaced block */
-    RDRAM_REFUSED_LENGTH = 13    /* not whole requests, records or blocks */
+    RDRAM_REFUSED_LENGTH = 13,   /* not whole requests, records or blocks */
+    RDRAM_REFUSED_OVERLAP = 16   /* a data instant less than 4 after the newest */
 };
 
-typedef struct {
-    uint32_t number;
-    uint64_t word;
-} rdram_word;
+typedef struct { uint32_t number; uint64_t word; } rdram_word;
 
 /*
  * place: the row of ACT, the column of WR and RD, else 0.

@@ -1,6 +1,7 @@
 // The C entry points. Buffers that are lent must not overlap.
 pub mod checks;
 pub mod logs;
+pub mod meters;
 pub mod models;
 pub mod plans;
 pub mod words;

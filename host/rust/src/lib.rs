@@ -1,5 +1,5 @@
-//! Direct RDRAM packet words, block logs, timing rules, plans and device model: safe wrappers of
-//! `librdram.a`.
+//! Direct RDRAM packet words, block logs, timing rules, plans, device model and a meter of the data
+//! pins: safe wrappers of `librdram.a`.
 //!
 //! ```
 //! use rdram::{log_decode, log_encode, packet_record, word_encode, Kind, Packet, Settings, MASK_FULL};
@@ -18,11 +18,13 @@
 //! ```
 #![no_std]
 
+mod meter;
 mod model;
 mod planner;
 pub mod raw;
 mod refusal;
 
+pub use meter::Meter;
 pub use model::{Event, Model};
 pub use planner::{Planner, Request};
 pub use refusal::Refusal;
@@ -43,6 +45,8 @@ pub const REQUEST_RECORDS: usize = 17;
 pub const PLANNER_BYTES: usize = 740;
 /// Bytes of a model.
 pub const MODEL_BYTES: usize = 752;
+/// Bytes of a meter.
+pub const METER_BYTES: usize = 136;
 /// Bytes of a dualoct.
 pub const DUALOCT_BYTES: usize = 16;
 /// The mask of a COL packet that is sent without one (M = 0).

@@ -1,4 +1,4 @@
-//! The C functions of `librdram.a`, as `rdram.h` declares them. Each slice is a pointer and a
+//! The C functions of `librdram.a`, as `rdram.h` and `rdram_meter.h` declare them. Each slice is a pointer and a
 //! length; a null pointer is allowed with length 0; the buffers of one call must not overlap.
 
 /// The answer of [`rdram_word_encode`].
@@ -54,6 +54,30 @@ pub struct Stepped {
     pub rule: u32,
     pub event: u32,
     pub bytes: u32,
+}
+
+/// A meter as the C functions hold it: `marks` and the newest instant.
+#[repr(C)]
+#[derive(Clone, Copy, Debug, PartialEq, Eq)]
+pub struct Meter {
+    pub marks: [u64; 16],
+    pub newest: u64,
+}
+
+/// The answer of [`rdram_meter_count`].
+#[repr(C)]
+#[derive(Clone, Copy, Debug, PartialEq, Eq)]
+pub struct Counted {
+    pub number: u32,
+    pub count: u32,
+}
+
+/// The answer of [`rdram_meter_share`].
+#[repr(C)]
+#[derive(Clone, Copy, Debug, PartialEq)]
+pub struct Shared {
+    pub number: u32,
+    pub share: f32,
 }
 
 extern "C" {
@@ -132,4 +156,12 @@ extern "C" {
         answer: *mut u8,
         answer_len: usize,
     ) -> Stepped;
+
+    pub fn rdram_meter_fresh() -> Meter;
+
+    pub fn rdram_meter_feed(meter: *mut Meter, at: u32) -> u32;
+
+    pub fn rdram_meter_count(meter: Meter) -> Counted;
+
+    pub fn rdram_meter_share(meter: Meter) -> Shared;
 }

@@ -7,7 +7,7 @@ use core::fmt;
 #[non_exhaustive]
 pub enum Refusal {
     /// 1: a figure of the settings is outside its range, or the bytes of a planner or a model are
-    /// no state under these settings.
+    /// no state under these settings, or those of a meter are no meter.
     Settings,
     /// 2: a request kind above 4.
     Kind,
@@ -19,7 +19,8 @@ pub enum Refusal {
     Row,
     /// 6: a column that is not below the settings' columns.
     Column,
-    /// 7: a packet, its data or now would pass instant 1,000,000,000.
+    /// 7: a packet, its data or now would pass instant 1,000,000,000, or an instant that is fed to
+    /// a meter is outside 4 to that.
     Horizon,
     /// 8: the buffer for the answer is too short.
     Full,
@@ -38,12 +39,14 @@ pub enum Refusal {
     Block { place: u64 },
     /// 13: a length is not one of whole records or blocks, or of one request or record.
     Length,
+    /// 16: an instant that is fed to a meter is less than 4 after the newest.
+    Overlap,
     /// A number that this crate does not know: crate and archive are of different versions.
     Other { number: u32 },
 }
 
 impl Refusal {
-    /// The number of the refusal in the table of document 01.
+    /// The number of the refusal in the tables of documents 01 and 02.
     pub fn number(&self) -> u32 {
         match *self {
             Refusal::Settings => 1,
@@ -59,6 +62,7 @@ impl Refusal {
             Refusal::Rule { .. } | Refusal::Broken { .. } => 11,
             Refusal::Block { .. } => 12,
             Refusal::Length => 13,
+            Refusal::Overlap => 16,
             Refusal::Other { number } => number,
         }
     }
@@ -133,6 +137,16 @@ impl Refusal {
         }
     }
 
+    /// The refusal of a call on a meter.
+    pub(crate) fn of_meter(number: u32) -> Refusal {
+        match number {
+            1 => Refusal::Settings,
+            7 => Refusal::Horizon,
+            16 => Refusal::Overlap,
+            number => Refusal::Other { number },
+        }
+    }
+
     /// The refusal of a check.
     pub(crate) fn of_check(number: u32, rule: u32, place: u64) -> Refusal {
         match number {
@@ -180,8 +194,8 @@ impl fmt::Display for Refusal {
         write!(f, "refusal {}: ", self.number())?;
         match *self {
             Refusal::Settings => f.write_str(
-                "a figure of the settings or of the planner or model is outside its range; \
-                 correct the settings, or go on from a state that these settings made",
+                "a figure of the settings or of the planner, model or meter is outside its range; \
+                 correct the settings, or go on from a state that the library made",
             ),
             Refusal::Kind => f.write_str("a request's kind is above 4; correct the kind"),
             Refusal::Spare => f.write_str(
@@ -193,8 +207,8 @@ impl fmt::Display for Refusal {
                 f.write_str("a column is not below the settings' columns; correct the column")
             }
             Refusal::Horizon => f.write_str(
-                "an instant would pass 1,000,000,000; \
-                 go on with a fresh planner, or wait for fewer cycles",
+                "an instant would pass 1,000,000,000, or is below 4; \
+                 go on with a fresh planner or meter, or wait for fewer cycles",
             ),
             Refusal::Full => f.write_str(
                 "the buffer for the answer is too short; pass a longer one, or a shorter list",
@@ -230,6 +244,10 @@ impl fmt::Display for Refusal {
             Refusal::Length => f.write_str(
                 "the length is not one of whole records (32 bytes) or blocks (512 bytes), \
                  or of one request (24 bytes) or record; pass whole ones",
+            ),
+            Refusal::Overlap => f.write_str(
+                "an instant is less than 4 after the newest; \
+                 feed each dualoct once, in rising order",
             ),
             Refusal::Other { .. } => {
                 f.write_str("unknown number; use the crate and the archive of the same version")

@@ -4,6 +4,7 @@
 
 #![allow(dead_code)] // each bench uses a part
 
+pub mod meter;
 pub mod plain;
 #[path = "../../tests/compare/tuned_model.rs"]
 pub mod tuned_model;

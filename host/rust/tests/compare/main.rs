@@ -8,6 +8,7 @@ mod flat_memory;
 mod hand_lists;
 mod lists;
 mod logs;
+mod meter;
 mod model;
 mod model_calls;
 mod model_runs;

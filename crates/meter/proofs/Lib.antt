@@ -1,0 +1,9 @@
+pub mod ShareLaws
+pub mod HistoryLaws
+pub mod ValidLaws
+pub mod TrackLaws
+pub mod BytesLaws
+pub mod RunLaws
+pub mod ReachLaws
+pub mod CycleLaws
+pub mod Worked

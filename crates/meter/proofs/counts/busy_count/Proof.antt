@@ -1,0 +1,76 @@
+-- `meter::counts::busy_count` meets its contract: four for each mark, less those that the window cuts off.
+use Prim.Native.Nat.{_+_, _*_}
+use mathlib.Core.Path.{_≡_}
+use native.Mathlib.Omega.{arith}
+use Rattle.meter.specs.Meter.{meterOf, busyCount}
+use Rattle.meter.proofs.ValidLaws.{valid-in}
+use Rattle.meter.proofs.CycleLaws.{busy-form}
+use Rattle.meter.proofs.RunLaws.{most-busy}
+use borrow.Author.Needs.{needs}
+use Rattle.meter.proofs.counts.busy_count.Statement.{statement}
+use Rattle.meter.proofs.counts.busy_count.Tie as tie
+
+count-requires : tie.Need-count-requires
+count-requires c κs = search needs
+
+shared-slice-read-oldest : tie.Need-shared-slice-read-oldest
+shared-slice-read-oldest c = search needs
+
+one-requires : tie.Need-one-requires
+one-requires c κs = search needs
+
+one-requires-2 : tie.Need-one-requires-2
+one-requires-2 c κs = search needs
+
+mul-cut : tie.Need-mul-cut
+mul-cut c = search needs
+
+add-cut : tie.Need-add-cut
+add-cut c = search needs
+
+one-requires-3 : tie.Need-one-requires-3
+one-requires-3 c κs = search needs
+
+mul-cut-2 : tie.Need-mul-cut-2
+mul-cut-2 c = search needs
+
+add-cut-2 : tie.Need-add-cut-2
+add-cut-2 c = search needs
+
+mul-result : tie.Need-mul-result
+mul-result c = search needs
+
+-- the law of the busy cycles, of the numbers that were counted
+counted : (c : tie.After-one3)
+    → 4 * c .before .before .before .before .count .result ≡ busyCount (meterOf (c .before .before .before .before .before .before .args .marks .now) (c .before .before .before .before .before .before .args .newest)) + (c .before .before .one .result + 2 * c .before .one2 .result + 3 * c .one3 .result)
+counted c =
+    let at-entry = c .before .before .before .before .before .before in
+    let m = meterOf (at-entry .args .marks .now) (at-entry .args .newest) in
+    rw (c .before .before .before .before .count .ensures .0, c .before .before .one .ensures .0, c .before .one2 .ensures .0, c .one3 .ensures .0)
+    (busy-form (m .marks) (m .newest) (valid-in m (at-entry .pre .0) (at-entry .pre .1)))
+
+sub-result : tie.Need-sub-result
+sub-result c = omega (arith, counted c)
+
+returns : tie.Need-returns
+returns c =
+    let at-entry = c .before .before .before .before .before .before in
+    let b = most-busy (meterOf (at-entry .args .marks .now) (at-entry .args .newest)) in
+    (omega (arith, counted c), omega (arith, counted c, b))
+
+pub busy-count-spec : {M : Type 1} → statement M
+busy-count-spec =
+    tie.close
+    (tie.spec
+    count-requires
+    shared-slice-read-oldest
+    one-requires
+    one-requires-2
+    mul-cut
+    add-cut
+    one-requires-3
+    mul-cut-2
+    add-cut-2
+    mul-result
+    sub-result
+    returns)
