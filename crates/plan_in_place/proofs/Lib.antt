@@ -12,3 +12,5 @@ pub mod Refreshed
 pub mod Tested
 pub mod Ranges
 pub mod Stepwise
+pub mod Planned
+pub mod Highest

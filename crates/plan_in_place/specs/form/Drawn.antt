@@ -8,7 +8,6 @@ use lib.ListN.{length}
 use Rattle.num.specs.Bytes.{splice}
 use Rattle.settings.specs.declared.Settings.{Settings}
 use Rattle.settings.specs.Settings.{valid}
-use Rattle.record.specs.declared.Place.{Place}
 use Rattle.spec_rules.specs.Neighbour.{contextOf, near}
 use Rattle.spec_rules.specs.History.{isClosed}
 use Rattle.spec_plan.specs.declared.PlannerState.{PlannerState}
@@ -35,10 +34,6 @@ pub record Readies (s : Settings) (top : ℕ) (b : List ℕ) : Type 0 where
 -- the same, shut
 unfoldable pub Ready : Settings → ℕ → List ℕ → Type 0
 Ready s top b = Readies s top b
-
--- a place in range
-abbrev pub InPlace : Settings → Place → Type 0
-InPlace s at = (at .bank < 32) × (at .row < s .rows) × (at .column < s .columns)
 
 -- bank x is not closed; it is closed with its neighbours
 abbrev pub OpenAt : List ℕ → ℕ → Type 0

@@ -1,12 +1,13 @@
 -- The numbers in the bytes of a planner. An instant is stored less 3.
 -- Assumes nothing.
-use Prim.Native.Nat.{ℕ, _+_, _*_, _<_, _≤_}
+use Prim.Native.Nat.{ℕ, _*_, _<_, _≤_, max}
 use mathlib.Core.Path.{_≡_}
 use mathlib.Core.Bool.{Bool, true, not}
 use mathlib.Core.List.{List}
-use lib.Dec.{eqb}
+use lib.Dec.{eqb, leb}
 use lib.ListN.{getD}
 use Rattle.num.specs.Bytes.{number, part}
+use Rattle.spec_rules.specs.Checks.{maxUpTo}
 
 -- the stored instant at a place, and the number of two bytes
 abbrev pub word : List ℕ → ℕ → ℕ
@@ -36,3 +37,15 @@ pub record Tops (top : ℕ) (b : List ℕ) : Type 0 where
 -- the same, shut: a search for a function's needs would read all its fields at each need
 unfoldable pub Below : ℕ → List ℕ → Type 0
 Below top b = Tops top b
+
+-- ---- calm states
+
+-- the highest stored instant of a state
+unfoldable pub highestIn : List ℕ → ℕ
+highestIn b =
+    max (maxUpTo (λ k. word b (4 * k)) 160)
+    (max (word b 704) (max (word b 708) (max (word b 712) (max (word b 716) (max (word b 720) (max (word b 740) (word b 752)))))))
+
+-- none is so high that a packet of one request could be late
+unfoldable pub isCalm : List ℕ → Bool
+isCalm b = leb (highestIn b) 999990000

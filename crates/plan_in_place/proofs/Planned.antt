@@ -1,0 +1,362 @@
+-- The requests on bytes, one step after the other.
+-- Assumes nothing.
+use Prim.Native.Nat.{ℕ, zero, suc, _+_, _*_, _-_, _/_, _%_, _<_, _≤_, _^_}
+use mathlib.Core.Path.{_≡_, refl, sym, ap, ap₂, _∙_}
+use mathlib.Core.Bool.{Bool, true, false, not, _&&_}
+use mathlib.Core.List.{List, [], _∷_}
+use native.Mathlib.Omega.{arith}
+use borrow.Author.Tests.{leb-true, le-leb}
+use lib.Dec.{leb}
+use lib.ListN.{length}
+use Rattle.num.specs.Bytes.{bytes, splice, Bytes}
+use Rattle.num.proofs.SpliceLaws.{splice-none}
+use Rattle.settings.specs.declared.Settings.{Settings}
+use Rattle.settings.specs.Settings.{valid}
+use Rattle.settings.specs.Instants.{horizon}
+use Rattle.packet.specs.declared.RowPacket.the-variants.{Act, Prer, Refa, Refp}
+use Rattle.packet.specs.declared.ColPacket.the-variants.{Nocop, Wr, Rd}
+use Rattle.record.specs.declared.Dualoct.{Dualoct}
+use Rattle.record.specs.declared.Place.{Place}
+use Rattle.record.specs.declared.Record.{Record}
+use Rattle.record.specs.declared.Request.{Request}
+use Rattle.record.specs.declared.Request.the-variants.{Read, Write as WriteTo, Refresh as RefreshBank, Wait, Drain}
+use Rattle.record.proofs.RequestLaws.{InPlace}
+use Rattle.spec_rules.specs.declared.Write.{Write}
+use Rattle.spec_rules.specs.Neighbour.{bankCount, Context, contextOf, near}
+use Rattle.spec_rules.specs.History.{isClosed, anyWrite}
+use Rattle.spec_rules.specs.Checks.{since}
+use Rattle.spec_rules.proofs.Bools.{iff-eq}
+use Rattle.spec_rules.proofs.NeighbourLaws.{split-neighbours}
+use Rattle.spec_state.specs.ChannelBytes.{instantOf}
+use Rattle.spec_plan.specs.declared.PlannerState.{PlannerState}
+use Rattle.spec_plan.specs.Plan.{Draft, rowPacket, colPacket, when, waiting, stateIn, hits, anyWaits, sent, flushed, flushedWhile, closed, closedUpTo, reached, plannedRead, loaded, written, plannedWrite, turned, plannedRefresh, plannedWait, plannedDrain, stepsOf, planned}
+use Rattle.spec_plan.specs.Call.{listBytes, inTime, timely}
+use Rattle.spec_plan.specs.PlannerBytes.{plannerBytes, plannerIn, plannerRight}
+use Rattle.spec_plan.proofs.SentLaws.{when-either, sent-refresh, while-keeps}
+use Rattle.spec_plan.proofs.PlanLaws.{Good, good-while, good-reached}
+use Rattle.spec_plan.proofs.Bound.{most}
+use Rattle.plan_in_place.specs.form.Numbers.{word, half, waitsIn, isCalm}
+use Rattle.plan_in_place.specs.form.Drawn.{bare, drafted, Ready, NearShut, Fits, Drawn}
+use Rattle.plan_in_place.proofs.Stored.{since-some, said-some, some-said}
+use Rattle.plan_in_place.proofs.Puts.{now-stored, refresh-stored}
+use Rattle.plan_in_place.proofs.OneStep.{readies, inv}
+use Rattle.plan_in_place.proofs.Marks.{Marked, marked-while, marked-reached, marked-read, marked-write, marked-refresh, marked-drain}
+use Rattle.plan_in_place.proofs.Again.{start, After, ready-call}
+use Rattle.plan_in_place.proofs.Highest.{calm-below}
+use Rattle.plan_in_place.proofs.Compose.{Blind, sent-blind, while-blind, up-to-blind, written-blind, drawn-room, fits-first, fits-then, drawn-then}
+use Rattle.plan_in_place.proofs.Tested.{waits-is}
+use Rattle.plan_in_place.proofs.Ranges.{up-to-ext}
+use Rattle.plan_in_place.proofs.Stepwise.{one-sent, any-waits, while-is, good, after-of, cleared-after, cleared-shut, cleared-first, cleared-fits, cleared-drawn}
+
+two-written : (cx : Context) (at : Place) (mask : ℕ) (d : Dualoct) (p : PlannerState) → length (written cx at mask d (bare p) .records) ≡ 2
+unfolding written loaded sent
+two-written cx at mask d p = refl
+
+-- no packet moves the refresh bank
+up-to-refresh : (cx : Context) (pick : ℕ → Bool) (n : ℕ) (d : Draft) → closedUpTo cx pick n d .planner .refresh ≡ d .planner .refresh
+unfolding closedUpTo closed flushed
+up-to-refresh cx pick zero d = refl
+up-to-refresh cx pick (suc n) d =
+    let z : Draft = closedUpTo cx pick n d in
+    let f : Draft → ℕ = λ y. y .planner .refresh in
+    let test : List Write → Bool = anyWrite (λ w. near cx n (w .bank)) in
+    let save : f (flushedWhile cx test z) ≡ f z = while-keeps cx (λ y. f y ≡ f z) (λ y _ e. sent-refresh cx (colPacket (Nocop 0xFFFF)) y ∙ e) test refl z refl in
+    when-either (λ y. f y ≡ f d) (pick n && not (isClosed (stateIn z n))) (closed cx n) z
+    (λ _. sent-refresh cx (rowPacket (Prer n)) (flushedWhile cx test z) ∙ save ∙ up-to-refresh cx pick n d) (λ _. up-to-refresh cx pick n d)
+
+pub hit-waits : (d : Draft) (bank column : ℕ) (q : Bool) → q ≡ anyWrite (hits bank column) (waiting d) → q ≡ true → anyWaits (waiting d) ≡ true
+hit-waits d bank column q e w = any-waits (hits bank column) (waiting d) (sym e ∙ w)
+
+module _ (s : Settings) (b : List ℕ) (k : Ready s 999990000 b) (room : List ℕ) (m : 544 ≤ length room) where
+  abbrev cx : Context
+  cx = contextOf s
+
+  abbrev d : Draft
+  d = drafted b
+
+  -- "No request makes more than 17 records."
+  enough : (q : Request) → Fits (planned cx q (plannerIn b)) room 0
+  enough q = omega (arith, most s (plannerIn b) (readies s 999990000 b k .right) q)
+
+  module _ (at : Place) (i : InPlace s at) where
+    -- the row reached
+    abbrev there : Draft
+    there = reached cx (at .bank) (at .row) d
+
+    reached-good : Good cx (plannerIn b) there
+    unfolding bankCount contextOf
+    reached-good = good-reached cx (split-neighbours s) (plannerIn b) d (good s 999990000 b k) (at .bank) (at .row) (i .0) (i .1) .0
+
+    reached-marked : Marked s 999994163 there
+    reached-marked = marked-reached s (readies s 999990000 b k .figures) (at .bank) (at .row) 999990003 d (start s 999990000 b k) (omega arith)
+
+    pub reached-after : (b1 : List ℕ) → b1 ≡ plannerBytes (there .planner) → After s 999998000 there b1
+    reached-after = after-of s 999990000 b k 999994163 999998000 there (omega arith) (omega arith) reached-marked reached-good
+
+    -- ---- read
+
+    abbrev test : List Write → Bool
+    test = anyWrite (hits (at .bank) (at .column))
+
+    abbrev rd : Record
+    rd = colPacket (Rd (at .bank) (at .column) 0xFFFF)
+
+    -- the row reached, and the write that the RD would pass retired
+    abbrev clean : Draft
+    clean = flushedWhile cx test there
+
+    read-fits : Fits (sent cx rd clean) room 0
+    unfolding planned stepsOf plannedRead
+    read-fits = enough (Read at)
+
+    clean-fits : Fits clean room 0
+    clean-fits = fits-first (sent cx rd) (sent-blind cx rd) clean room 0 read-fits
+
+    pub read-first : Fits there room 0
+    read-first = fits-first (flushedWhile cx test) (while-blind cx test) there room 0 clean-fits
+
+    clean-after : (b2 : List ℕ) → b2 ≡ plannerBytes (clean .planner) → After s 999999000 clean b2
+    clean-after =
+        after-of s 999990000 b k (999994163 + 64) 999999000 clean (omega arith) (omega arith) (marked-while s (readies s 999990000 b k .figures) test 999994163 there reached-marked (omega arith))
+        (good-while cx (split-neighbours s) (plannerIn b) there reached-good test refl)
+
+    module _ (b1 room1 : List ℕ) (to1 : ℕ) (w : Drawn s there room 0 b1 room1 to1) (q : Bool) (e : q ≡ test (waiting (drafted b1))) where
+      back : plannerIn b1 ≡ there .planner
+      back = reached-after b1 (w .planner) .back
+
+      pub flush-fits : Fits (when q (flushed cx) (drafted b1)) room1 to1
+      flush-fits = rw (while-is cx test (drafted b1) q e) (fits-then s (flushedWhile cx test) (while-blind cx test) there room 0 b1 room1 to1 w back clean-fits)
+
+      module _ (b2 room2 : List ℕ) (to2 : ℕ) (v : Drawn s (when q (flushed cx) (drafted b1)) room1 to1 b2 room2 to2) where
+        clean-drawn : Drawn s clean room 0 b2 room2 to2
+        clean-drawn = drawn-then s (flushedWhile cx test) (while-blind cx test) there room 0 b1 room1 to1 w back clean-fits b2 room2 to2 (rw (while-is cx test (drafted b1) q e) at v)
+
+        pub read-after : After s 999999000 clean b2
+        read-after = clean-after b2 (clean-drawn .planner)
+
+        pub read-room : to2 + 32 ≤ length room2
+        read-room = omega (arith, fits-then s (sent cx rd) (sent-blind cx rd) clean room 0 b2 room2 to2 clean-drawn (read-after .back) read-fits, one-sent cx rd (plannerIn b2))
+
+        pub read-drawn : (b3 room3 : List ℕ) (to3 : ℕ) → Drawn s (sent cx rd (drafted b2)) room2 to2 b3 room3 to3 → Drawn s (plannedRead cx at d) room 0 b3 room3 to3
+        unfolding plannedRead
+        read-drawn b3 room3 to3 u = drawn-then s (sent cx rd) (sent-blind cx rd) clean room 0 b2 room2 to2 clean-drawn (read-after .back) read-fits b3 room3 to3 u
+
+    -- ---- write
+
+    module _ (mask : ℕ) (bytes′ : Dualoct) where
+      abbrev wr : Draft → Draft
+      wr = written cx at mask bytes′
+
+      write-fits : Fits (wr there) room 0
+      unfolding planned stepsOf plannedWrite
+      write-fits = enough (WriteTo at mask bytes′)
+
+      pub write-first : Fits there room 0
+      write-first = fits-first wr (written-blind cx at mask bytes′) there room 0 write-fits
+
+      module _ (b1 room1 : List ℕ) (to1 : ℕ) (w : Drawn s there room 0 b1 room1 to1) where
+        pub write-room : to1 + 64 ≤ length room1
+        write-room = omega (arith, fits-then s wr (written-blind cx at mask bytes′) there room 0 b1 room1 to1 w (reached-after b1 (w .planner) .back) write-fits, two-written cx at mask bytes′ (plannerIn b1))
+
+        pub write-drawn : (b2 room2 : List ℕ) (to2 : ℕ) → Drawn s (wr (drafted b1)) room1 to1 b2 room2 to2 → Drawn s (plannedWrite cx at mask bytes′ d) room 0 b2 room2 to2
+        unfolding plannedWrite
+        write-drawn b2 room2 to2 v = drawn-then s wr (written-blind cx at mask bytes′) there room 0 b1 room1 to1 w (reached-after b1 (w .planner) .back) write-fits b2 room2 to2 v
+
+  -- ---- refresh
+
+  abbrev bank : ℕ
+  bank = plannerIn b .refresh
+
+  pub bank-is : half b 756 ≡ bank
+  unfolding plannerIn
+  bank-is = refl
+
+  pub bank-in : half b 756 < 32
+  unfolding bankCount
+  bank-in = rw bank-is (inv s 999990000 b k .refresh-in)
+
+  abbrev refreshed : ℕ → Draft → Draft
+  refreshed x z = sent cx (rowPacket (Refp x)) (sent cx (rowPacket (Refa x)) z)
+
+  refreshed-blind : (x : ℕ) → Blind (refreshed x)
+  refreshed-blind x l z = ap (sent cx (rowPacket (Refp x))) (sent-blind cx (rowPacket (Refa x)) l z) ∙ sent-blind cx (rowPacket (Refp x)) l (sent cx (rowPacket (Refa x)) z)
+
+  abbrev cleared : Draft
+  cleared = closedUpTo cx (near cx (half b 756)) bankCount d
+
+  refresh-fits : Fits (refreshed (half b 756) cleared) room 0
+  unfolding planned stepsOf plannedRefresh turned
+  refresh-fits = rw bank-is (enough RefreshBank)
+
+  pub refresh-first : Fits cleared room 0
+  refresh-first = cleared-first s 999990000 b k (omega arith) (half b 756) (refreshed (half b 756)) (refreshed-blind (half b 756)) room refresh-fits
+
+  -- REFA and REFP leave the refresh bank, and so does every PRER before them
+  refresh-is : plannedRefresh cx d ≡
+      let z : Draft = refreshed (half b 756) cleared in
+      record { planner = record { channel = z .planner .channel; now = z .planner .now; refresh = (half b 756 + 1) % 32; mask = z .planner .mask }; records = z .records }
+  unfolding plannedRefresh turned plannerIn bankCount
+  refresh-is =
+      let x : ℕ = half b 756 in
+      let y : Draft = sent cx (rowPacket (Refa x)) cleared in
+      let same : sent cx (rowPacket (Refp x)) y .planner .refresh ≡ x = sent-refresh cx (rowPacket (Refp x)) y ∙ sent-refresh cx (rowPacket (Refa x)) cleared ∙ up-to-refresh cx (near cx x) 32 d in
+      let z : Draft = sent cx (rowPacket (Refp x)) y in
+      ap (λ (n : ℕ). record { planner = record { channel = z .planner .channel; now = z .planner .now; refresh = (n + 1) % 32; mask = z .planner .mask }; records = z .records }) same
+
+  two-refreshed : (x : ℕ) (p : PlannerState) → length (refreshed x (bare p) .records) ≡ 2
+  unfolding sent
+  two-refreshed x p = refl
+
+  module _ (b1 room1 : List ℕ) (to1 : ℕ) (w : Drawn s cleared room 0 b1 room1 to1) where
+    pub refresh-room : to1 + 64 ≤ length room1
+    refresh-room = omega (arith, cleared-fits s 999990000 b k (omega arith) (half b 756) (refreshed (half b 756)) (refreshed-blind (half b 756)) room refresh-fits b1 room1 to1 w, two-refreshed (half b 756) (plannerIn b1))
+
+    -- the next bank's turn
+    pub refresh-drawn : (b2 room2 : List ℕ) (to2 : ℕ) → Drawn s (refreshed (half b 756) (drafted b1)) room1 to1 b2 room2 to2
+        → (b3 : List ℕ) → b3 ≡ splice b2 756 (bytes 2 ((half b 756 + 1) % 32)) → Drawn s (plannedRefresh cx d) room 0 b3 room2 to2
+    refresh-drawn b2 room2 to2 v b3 e =
+        let z : Draft = refreshed (half b 756) cleared in
+        let u : Drawn s z room 0 b2 room2 to2 = cleared-drawn s 999990000 b k (omega arith) (half b 756) (refreshed (half b 756)) (refreshed-blind (half b 756)) room refresh-fits b1 room1 to1 w b2 room2 to2 v in
+        rw refresh-is (record {
+          planner = e ∙ ap (λ (l : List ℕ). splice l 756 (bytes 2 ((half b 756 + 1) % 32))) (u .planner) ∙ refresh-stored (z .planner) ((half b 756 + 1) % 32);
+          records = u .records;
+          next = u .next;
+        })
+
+  -- ---- drain
+
+  abbrev emptied : Draft
+  emptied = flushedWhile cx anyWaits d
+
+  abbrev shut : Draft → Draft
+  shut = closedUpTo cx (λ x. true) bankCount
+
+  drain-fits : Fits (shut emptied) room 0
+  unfolding planned stepsOf plannedDrain
+  drain-fits = enough Drain
+
+  emptied-after : (b1 : List ℕ) → b1 ≡ plannerBytes (emptied .planner) → After s 999991000 emptied b1
+  emptied-after =
+      after-of s 999990000 b k (999990003 + 64) 999991000 emptied (omega arith) (omega arith) (marked-while s (readies s 999990000 b k .figures) anyWaits 999990003 d (start s 999990000 b k) (omega arith))
+      (good-while cx (split-neighbours s) (plannerIn b) d (good s 999990000 b k) anyWaits refl)
+
+  -- all banks from the first on
+  all-shut : (z : Draft) → closedUpTo cx (λ y. leb 0 y) 32 z ≡ shut z
+  unfolding bankCount
+  all-shut z = up-to-ext cx z (λ y. leb 0 y) (λ y. true) 32 (λ y l. le-leb 0 y (omega arith))
+
+  module _ (q : Bool) (e : q ≡ waitsIn b) where
+    waits : q ≡ anyWaits (waiting d)
+    waits = e ∙ waits-is b
+
+    pub drain-waits : q ≡ true → anyWaits (waiting d) ≡ true
+    drain-waits w = sym waits ∙ w
+
+    pub drain-first : Fits (when q (flushed cx) d) room 0
+    drain-first = rw (while-is cx anyWaits d q waits) (fits-first shut (up-to-blind cx (λ x. true) bankCount) emptied room 0 drain-fits)
+
+    module _ (b1 room1 : List ℕ) (to1 : ℕ) (v : Drawn s (when q (flushed cx) d) room 0 b1 room1 to1) where
+      emptied-drawn : Drawn s emptied room 0 b1 room1 to1
+      emptied-drawn = rw (while-is cx anyWaits d q waits) at v
+
+      pub drain-after : After s 999991000 emptied b1
+      drain-after = emptied-after b1 (emptied-drawn .planner)
+
+      pub drain-room : Fits (closedUpTo cx (λ y. leb 0 y) 32 (drafted b1)) room1 to1
+      drain-room = rw (all-shut (drafted b1)) (fits-then s shut (up-to-blind cx (λ x. true) bankCount) emptied room 0 b1 room1 to1 emptied-drawn (drain-after .back) drain-fits)
+
+      pub drain-drawn : (b2 room2 : List ℕ) (to2 : ℕ) → Drawn s (closedUpTo cx (λ y. leb 0 y) 32 (drafted b1)) room1 to1 b2 room2 to2 → Drawn s (plannedDrain cx d) room 0 b2 room2 to2
+      unfolding plannedDrain
+      drain-drawn b2 room2 to2 u =
+          drawn-then s shut (up-to-blind cx (λ x. true) bankCount) emptied room 0 b1 room1 to1 emptied-drawn (drain-after .back) drain-fits b2 room2 to2 (rw (all-shut (drafted b1)) at u)
+
+-- ---- wait
+
+now-some : (s : Settings) (b : List ℕ) → Ready s 999990000 b → 1 ≤ word b 752
+unfolding plannerIn
+now-some s b k = some-said (word b 752) (inv s 999990000 b k .low)
+
+now-is : (s : Settings) (b : List ℕ) → Ready s 999990000 b → plannerIn b .now .0 ≡ word b 752 + 3
+unfolding plannerIn
+now-is s b k = said-some (word b 752) (now-some s b k)
+
+pub wait-stored : (s : Settings) (b : List ℕ) → Ready s 999990000 b → (n : ℕ) (left : List ℕ) → left ≡ splice b 752 (bytes 4 (since (word b 752) n)) → left ≡ plannerBytes (plannedWait (contextOf s) n (drafted b) .planner)
+unfolding plannedWait
+wait-stored s b k n left e =
+    let v : since (word b 752) n ≡ plannerIn b .now .0 + n - 3 = since-some (word b 752) n (now-some s b k) ∙ omega (arith, now-is s b k) in
+    e ∙ ap₂ (λ (l : List ℕ) (v : ℕ). splice l 752 (bytes 4 v)) (sym (readies s 999990000 b k .exact)) v ∙ now-stored (plannerIn b) (plannerIn b .now .0 + n)
+
+-- ---- refusal 7
+
+-- a wait alone can be refused
+abbrev pub NoWait : Request → Type 0
+NoWait (Read at) = Unit {0}
+NoWait (WriteTo at mask bytes) = Unit {0}
+NoWait RefreshBank = Unit {0}
+NoWait (Wait n) = ⊥
+NoWait Drain = Unit {0}
+
+marked-timely : (s : Settings) (d : Draft) → Marked s 999994403 d → timely (contextOf s) d ≡ true
+unfolding timely
+marked-timely s d m = rw (m .timely, le-leb (d .planner .now .0) horizon (omega (arith, m .now)))
+
+-- from a calm state no packet, data or now of a request passes the last instant
+pub calm-timely : (s : Settings) (b : List ℕ) → Ready s 999990000 b → (q : Request) → NoWait q → timely (contextOf s) (planned (contextOf s) q (plannerIn b)) ≡ true
+unfolding planned stepsOf
+calm-timely s b k q n = go q n
+  where
+    v : valid s ≡ true
+    v = readies s 999990000 b k .figures
+
+    m : Marked s 999990003 (drafted b)
+    m = start s 999990000 b k
+
+    go : (q : Request) → NoWait q → timely (contextOf s) (stepsOf (contextOf s) q (drafted b)) ≡ true
+    go (Read at) n = marked-timely s _ (marked-read s v 999990003 (drafted b) m (omega arith) at)
+    go (WriteTo at mask bytes) n = marked-timely s _ (marked-write s v 999990003 (drafted b) m (omega arith) at mask bytes)
+    go RefreshBank n = marked-timely s _ (marked-refresh s v 999990003 (drafted b) m (omega arith))
+    go (Wait cycles) n = absurd n
+    go Drain n = marked-timely s _ (marked-drain s v 999990003 (drafted b) m (omega arith))
+
+pub wait-timely : (s : Settings) (b : List ℕ) → Ready s 999990000 b → (n : ℕ) → leb (since (word b 752) n) 999999997 ≡ timely (contextOf s) (planned (contextOf s) (Wait n) (plannerIn b))
+unfolding planned stepsOf plannedWait timely inTime
+wait-timely s b k n =
+    let e : since (word b 752) n ≡ word b 752 + n = since-some (word b 752) n (now-some s b k) in
+    rw e (iff-eq _ _ (λ h. le-leb (plannerIn b .now .0 + n) horizon (omega (arith, now-is s b k, leb-true (word b 752 + n) 999999997 h)))
+    (λ h. le-leb (word b 752 + n) 999999997 (omega (arith, now-is s b k, leb-true (plannerIn b .now .0 + n) horizon h))))
+
+-- ---- the call
+
+pub ready-plan : (s : Settings) (b : List ℕ) → valid s ≡ true → Bytes b → plannerRight (contextOf s) b ≡ true → isCalm b ≡ true → Ready s 999990000 b
+ready-plan s b v w r c = ready-call s 999990000 b v w r (calm-below b c)
+
+module _ (s : Settings) (p : PlannerState) (room b1 room1 : List ℕ) (to : ℕ) where
+  -- what a request hands back
+  abbrev Called : Request → ℕ → Type 0
+  Called q n =
+      (b1 ≡ plannerBytes (planned (contextOf s) q p .planner))
+      × ((room1 ≡ splice room 0 (listBytes s (planned (contextOf s) q p .records))) × (n ≡ length (planned (contextOf s) q p .records)))
+
+  called : (q : Request) → Drawn s (stepsOf (contextOf s) q (bare p)) room 0 b1 room1 to → Called q (to / 32)
+  unfolding planned
+  called q w = (w .planner, (w .records, omega (arith, w .next)))
+
+  pub called-wait : (n : ℕ) → b1 ≡ plannerBytes (plannedWait (contextOf s) n (bare p) .planner) → room1 ≡ room → Called (Wait n) 0
+  unfolding planned stepsOf plannedWait listBytes
+  called-wait n e f = (e, (f ∙ splice-none room 0, refl))
+
+  pub called-read : (at : Place) → Drawn s (plannedRead (contextOf s) at (bare p)) room 0 b1 room1 to → Called (Read at) (to / 32)
+  unfolding stepsOf
+  called-read at w = called (Read at) w
+
+  pub called-write : (at : Place) (mask : ℕ) (d : Dualoct) → Drawn s (plannedWrite (contextOf s) at mask d (bare p)) room 0 b1 room1 to → Called (WriteTo at mask d) (to / 32)
+  unfolding stepsOf
+  called-write at mask d w = called (WriteTo at mask d) w
+
+  pub called-refresh : Drawn s (plannedRefresh (contextOf s) (bare p)) room 0 b1 room1 to → Called RefreshBank (to / 32)
+  unfolding stepsOf
+  called-refresh w = called RefreshBank w
+
+  pub called-drain : Drawn s (plannedDrain (contextOf s) (bare p)) room 0 b1 room1 to → Called Drain (to / 32)
+  unfolding stepsOf
+  called-drain w = called Drain w

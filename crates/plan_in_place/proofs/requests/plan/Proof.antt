@@ -1,0 +1,82 @@
+-- `plan_in_place::requests::plan` meets its contract.
+use mathlib.Core.Path.{refl}
+use native.Mathlib.Omega.{arith}
+use Rattle.plan_in_place.proofs.OneStep.{ready-length}
+use Rattle.plan_in_place.proofs.Planned.{ready-plan, called-read, called-write, called-refresh, called-wait, called-drain}
+use borrow.Author.Needs.{needs}
+use Rattle.plan_in_place.proofs.requests.plan.Statement.{statement}
+use Rattle.plan_in_place.proofs.requests.plan.Tie as tie
+
+read-requires : tie.Need-read-requires
+read-requires c κs =
+    let z = c .before .before .before .before .before .before .before in
+    let r = ready-plan _ _ (z .pre .0) (λ i l. omega (arith, c .before .before .before .before .before .before .slice-known .given i)) (z .pre .1 .0) (z .pre .1 .1 .0) in
+    (r, (ready-length _ _ _ r, (rw (c .before .before .before .q .given .1) at (z .pre .1 .1 .1 .0), z .pre .1 .1 .1 .1)))
+
+write-requires : tie.Need-write-requires
+write-requires c κs =
+    let z = c .before .before .before .before .before .before .before in
+    let r = ready-plan _ _ (z .pre .0) (λ i l. omega (arith, c .before .before .before .before .before .before .slice-known .given i)) (z .pre .1 .0) (z .pre .1 .1 .0) in
+    (r, (ready-length _ _ _ r, ((rw (c .before .before .before .q2 .given .1) at (z .pre .1 .1 .1 .0)) .0, z .pre .1 .1 .1 .1)))
+
+refresh-requires : tie.Need-refresh-requires
+refresh-requires c κs =
+    let z = c .before .before .before .before .before .before in
+    let r = ready-plan _ _ (z .pre .0) (λ i l. omega (arith, c .before .before .before .before .before .slice-known .given i)) (z .pre .1 .0) (z .pre .1 .1 .0) in
+    (r, (ready-length _ _ _ r, z .pre .1 .1 .1 .1))
+
+wait-requires : tie.Need-wait-requires
+wait-requires c κs =
+    let z = c .before .before .before .before .before .before in
+    let r = ready-plan _ _ (z .pre .0) (λ i l. omega (arith, c .before .before .before .before .before .slice-known .given i)) (z .pre .1 .0) (z .pre .1 .1 .0) in
+    (r, ready-length _ _ _ r)
+
+drain-requires : tie.Need-drain-requires
+drain-requires c κs =
+    let z = c .before .before .before .before .before .before in
+    let r = ready-plan _ _ (z .pre .0) (λ i l. omega (arith, c .before .before .before .before .before .slice-known .given i)) (z .pre .1 .0) (z .pre .1 .1 .0) in
+    (r, (ready-length _ _ _ r, z .pre .1 .1 .1 .1))
+
+returns : tie.Need-returns
+returns c = rw (c .before .before .before .before .before .before .before .before .q .given .1) (called-read _ _ _ _ _ _ _ (c .before .before .before .before .read .ensures))
+
+returns-2 : tie.Need-returns-2
+returns-2 c = rw (c .before .before .before .before .before .before .before .before .q2 .given .1) (called-write _ _ _ _ _ _ _ _ _ (c .before .before .before .before .write .ensures))
+
+returns-3 : tie.Need-returns-3
+returns-3 c = rw (c .before .before .before .before .before .before .before .enum-told .given .1) (called-refresh _ _ _ _ _ _ (c .before .before .before .before .refresh .ensures))
+
+returns-4 : tie.Need-returns-4
+returns-4 c = rw (c .before .before .before .before .before .q3 .given .1) (called-wait _ _ _ _ _ 0 _ (c .before .before .wait .ensures) refl)
+
+returns-5 : tie.Need-returns-5
+returns-5 c = rw (c .before .before .before .before .before .before .before .enum-told2 .given .1) (called-drain _ _ _ _ _ _ (c .before .before .before .before .drain .ensures))
+
+pub plan-spec : {M : Type 1} → statement M
+plan-spec =
+    tie.close
+    (tie.spec
+    (λ c. search needs)
+    read-requires
+    (λ c. search needs)
+    write-requires
+    (λ c. search needs)
+    refresh-requires
+    (λ c. search needs)
+    wait-requires
+    (λ c. search needs)
+    drain-requires
+    (λ c. search needs)
+    (λ c. search needs)
+    returns
+    (λ c. search needs)
+    (λ c. search needs)
+    returns-2
+    (λ c. search needs)
+    (λ c. search needs)
+    returns-3
+    (λ c. search needs)
+    returns-4
+    (λ c. search needs)
+    (λ c. search needs)
+    returns-5)

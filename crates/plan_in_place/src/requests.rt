@@ -1,0 +1,133 @@
+// Requests on the bytes of a planner.
+ghost use mathlib.Core.Path.{_≡_};
+ghost use mathlib.Core.Bool.{true};
+ghost use Prim.Native.Nat.{_+_, _*_, _<_, _≤_, _^_};
+ghost use lib.ListN.{length};
+ghost use Rattle.num.specs.Bytes.{splice};
+ghost use Rattle.settings.specs.Settings.{valid};
+ghost use Rattle.record.proofs.RequestLaws.{InPlace, InRange};
+ghost use Rattle.spec_rules.specs.Neighbour.{contextOf};
+ghost use Rattle.spec_plan.specs.Plan.{plannedRead, plannedWrite, plannedRefresh, plannedWait, plannedDrain, planned};
+ghost use Rattle.spec_plan.specs.Call.{listBytes, timely};
+ghost use Rattle.spec_plan.specs.PlannerBytes.{plannerBytes, plannerIn, plannerRight};
+ghost use Rattle.plan_in_place.specs.form.Numbers.{isCalm};
+ghost use Rattle.plan_in_place.specs.form.Drawn.{drafted, Ready, Drawn};
+use crate::cols::rd;
+use crate::cols::wr;
+use crate::fields::after;
+use crate::fields::waits;
+use crate::rows::refresh_bank;
+use crate::steps::close_from;
+use crate::steps::close_near;
+use crate::steps::flush_if;
+use crate::steps::hit;
+use crate::steps::reach;
+use num::u16_at;
+use num::wide32;
+use puts::put_u16;
+use puts::put_u32;
+use record::Dualoct;
+use record::Place;
+use record::Request;
+use settings::Settings;
+
+// "Read: NOCOP first if the buffered write has that bank and column; then RD."
+fn read(s: Settings, b: &mut [u8], at: Place, room: &mut [u8]) -> usize
+    requires { ⌜ Ready s 999990000 (now b) ⌝ }
+    requires { ⌜ length (now b) ≡ 768 ⌝ }
+    requires { ⌜ InPlace s at ⌝ }
+    requires { ⌜ 544 ≤ length (now room) ⌝ }
+    ensures { λ r. ⌜ Drawn s (plannedRead (contextOf s) at (drafted (now (b .entry)))) (now (room .entry)) 0 (now (b .exit)) (now (room .exit)) r ⌝ }
+{
+    let to = reach(s, b, at.bank, at.row, room);
+    let test = hit(b, at.bank, at.column);
+    let next = flush_if(s, b, test, room, to);
+    rd(s, b, at.bank, at.column, room, next)
+}
+
+// "Write: WR, then D."
+fn write(s: Settings, b: &mut [u8], at: Place, mask: u32, d: Dualoct, room: &mut [u8]) -> usize
+    requires { ⌜ Ready s 999990000 (now b) ⌝ }
+    requires { ⌜ length (now b) ≡ 768 ⌝ }
+    requires { ⌜ InPlace s at ⌝ }
+    requires { ⌜ 544 ≤ length (now room) ⌝ }
+    ensures { λ r. ⌜ Drawn s (plannedWrite (contextOf s) at mask d (drafted (now (b .entry)))) (now (room .entry)) 0 (now (b .exit)) (now (room .exit)) r ⌝ }
+{
+    let to = reach(s, b, at.bank, at.row, room);
+    wr(s, b, at, mask, d, room, to)
+}
+
+// "Refresh: close as above, REFA, REFP, next bank modulo 32."
+fn refresh(s: Settings, b: &mut [u8], room: &mut [u8]) -> usize
+    requires { ⌜ Ready s 999990000 (now b) ⌝ }
+    requires { ⌜ length (now b) ≡ 768 ⌝ }
+    requires { ⌜ 544 ≤ length (now room) ⌝ }
+    ensures { λ r. ⌜ Drawn s (plannedRefresh (contextOf s) (drafted (now (b .entry)))) (now (room .entry)) 0 (now (b .exit)) (now (room .exit)) r ⌝ }
+{
+    let bank = u16_at(b, 756);
+    let to = close_near(s, b, bank as usize, room);
+    let next = refresh_bank(s, b, bank, room, to);
+    put_u16(b, 756, wide32((bank + 1) % 32));
+    next
+}
+
+// "wait adds to" now.
+fn wait(s: Settings, b: &mut [u8], cycles: u32)
+    requires { ⌜ Ready s 999990000 (now b) ⌝ }
+    requires { ⌜ length (now b) ≡ 768 ⌝ }
+    ensures { λ _. ⌜ now (b .exit) ≡ plannerBytes (plannedWait (contextOf s) cycles (drafted (now (b .entry))) .planner) ⌝ }
+{
+    put_u32(b, 752, after(b, 752, cycles));
+}
+
+// "Drain: NOCOP if a write is buffered, then PRER to each open bank in rising order."
+fn drain(s: Settings, b: &mut [u8], room: &mut [u8]) -> usize
+    requires { ⌜ Ready s 999990000 (now b) ⌝ }
+    requires { ⌜ length (now b) ≡ 768 ⌝ }
+    requires { ⌜ 544 ≤ length (now room) ⌝ }
+    ensures { λ r. ⌜ Drawn s (plannedDrain (contextOf s) (drafted (now (b .entry)))) (now (room .entry)) 0 (now (b .exit)) (now (room .exit)) r ⌝ }
+{
+    let test = waits(b);
+    let to = flush_if(s, b, test, room, 0);
+    close_from(s, b, 0, 32, room, to)
+}
+
+// A request in range from a calm state, with room for the most records: the number of records that it makes.
+pub fn plan(s: Settings, planner: &mut [u8], q: Request, room: &mut [u8]) -> usize
+    requires { ⌜ valid s ≡ true ⌝ }
+    requires { ⌜ plannerRight (contextOf s) (now planner) ≡ true ⌝ }
+    requires { ⌜ isCalm (now planner) ≡ true ⌝ }
+    requires { ⌜ InRange s q ⌝ }
+    requires { ⌜ 544 ≤ length (now room) ⌝ }
+    ensures { λ _. ⌜ now (planner .exit) ≡ plannerBytes (planned (contextOf s) q (plannerIn (now (planner .entry))) .planner) ⌝ }
+    ensures { λ _. ⌜ now (room .exit) ≡ splice (now (room .entry)) 0 (listBytes s (planned (contextOf s) q (plannerIn (now (planner .entry))) .records)) ⌝ }
+    ensures { λ r. ⌜ r ≡ length (planned (contextOf s) q (plannerIn (now (planner .entry))) .records) ⌝ }
+{
+    match q {
+        Request::Read(at) => read(s, planner, at, room) / 32,
+        Request::Write(at, mask, d) => write(s, planner, at, mask, d, room) / 32,
+        Request::Refresh => refresh(s, planner, room) / 32,
+        Request::Wait(cycles) => {
+            wait(s, planner, cycles);
+            0
+        }
+        Request::Drain => drain(s, planner, room) / 32,
+    }
+}
+
+// Whether refusal 7 has nothing against a request from a calm state: a wait alone can pass the last instant.
+pub fn in_time(s: Settings, planner: &[u8], q: Request) -> bool
+    requires { ⌜ valid s ≡ true ⌝ }
+    requires { ⌜ plannerRight (contextOf s) (now planner) ≡ true ⌝ }
+    requires { ⌜ isCalm (now planner) ≡ true ⌝ }
+    requires { ⌜ InRange s q ⌝ }
+    ensures { λ r. ⌜ r ≡ timely (contextOf s) (planned (contextOf s) q (plannerIn (now (planner .entry)))) ⌝ }
+{
+    match q {
+        Request::Read(_) => true,
+        Request::Write(_, _, _) => true,
+        Request::Refresh => true,
+        Request::Wait(cycles) => after(planner, 752, cycles) <= 999999997,
+        Request::Drain => true,
+    }
+}
