@@ -27,7 +27,7 @@ use Rattle.spec_runs.specs.Drive.{Drive, started, called, driven, wideCalls}
 use Rattle.spec_runs.specs.WholeRun.{EndsInDrain, WholeRun}
 use Rattle.spec_runs.proofs.DriveLaws.{Ready, driven-within, driven-none-left}
 use Rattle.spec_runs.proofs.Demand.{run-fits, run-data, run-ready, whole-run-split}
-use Rattle.check_list.specs.Check.{recordsUpTo}
+use Rattle.spec_check.specs.Check.{recordsUpTo}
 use Rattle.spec_calls.specs.Runs.{PlanCall, Device, freshBench, benchAfter, freshDevice, deviceNext, deviceAfter, wideBuffers, BytesIn, DrainsLast, CallsRun}
 use Rattle.spec_calls.proofs.ListOf.{length-list, list-count, records-up-to, list-checked}
 use Rattle.spec_calls.proofs.BenchRun.{callOf, callsOf, calls-bytes, calls-append, bench-list, bench-fed, answers-accepted}

@@ -22,11 +22,11 @@ use Rattle.spec_rules.specs.Broken.{recordIn, everyRule}
 use Rattle.spec_rules.proofs.Bools.{not-both}
 use Rattle.spec_plan.specs.Call.{listBytes}
 use Rattle.spec_runs.proofs.DriveLaws.{Every, Coded, length-record}
-use Rattle.check_list.specs.declared.Judged.{Judged}
-use Rattle.check_list.specs.declared.Judged.the-variants.{Passed, Refused}
-use Rattle.check_list.specs.Check.{known}
-use Rattle.check_list.specs.Check.{recordsUpTo, recordsOf, listAnswer}
-use Rattle.check_list.proofs.PassLaws.{isPassed, list-passes}
+use Rattle.spec_check.specs.declared.Judged.{Judged}
+use Rattle.spec_check.specs.declared.Judged.the-variants.{Passed, Refused}
+use Rattle.spec_check.specs.Check.{known}
+use Rattle.spec_check.specs.Check.{recordsUpTo, recordsOf, listAnswer}
+use Rattle.spec_check.proofs.PassLaws.{isPassed, list-passes}
 use Rattle.spec_calls.specs.Settings.{underSettings}
 use Rattle.spec_calls.specs.Checks.{checkAnswer, checkCall}
 

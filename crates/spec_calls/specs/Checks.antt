@@ -6,9 +6,9 @@ use Rattle.record.specs.declared.Refusal.{Refusal}
 use Rattle.record.specs.declared.Refusal.the-variants.{Settings}
 use Rattle.record.specs.Refusal.{answerOf}
 use Rattle.spec_rules.specs.Neighbour.{contextOf}
-use Rattle.check_list.specs.declared.Judged.{Judged}
-use Rattle.check_list.specs.declared.Judged.the-variants.{Passed, Refused}
-use Rattle.check_list.specs.Check.{listAnswer, logAnswer}
+use Rattle.spec_check.specs.declared.Judged.{Judged}
+use Rattle.spec_check.specs.declared.Judged.the-variants.{Passed, Refused}
+use Rattle.spec_check.specs.Check.{listAnswer, logAnswer}
 use Rattle.spec_calls.specs.declared.CheckAnswer.{CheckAnswer}
 use Rattle.spec_calls.specs.Settings.{underSettings}
 

@@ -20,7 +20,7 @@ use Rattle.spec_model.specs.ModelBytes.{modelBytes}
 use Rattle.spec_runs.specs.Flat.{Fed, flatAfter, flatAnswers, flatMasks}
 use Rattle.spec_runs.specs.Count.{onesOf, retiredMasks}
 use Rattle.spec_runs.specs.Drive.{readsIn}
-use Rattle.check_list.specs.Check.{recordsUpTo}
+use Rattle.spec_check.specs.Check.{recordsUpTo}
 use Rattle.spec_calls.specs.Checks.{checkCall}
 use Rattle.spec_calls.specs.Plans.{PlanResult, planCall}
 use Rattle.spec_calls.specs.Models.{StepResult, stepCall}

@@ -22,9 +22,9 @@ use Rattle.blocks.proofs.ListThenLog.{list-whole}
 use Rattle.spec_rules.specs.Neighbour.{Context}
 use Rattle.spec_rules.specs.Broken.{FirstBreach, ruleAt, firstBroken}
 use Rattle.spec_rules.proofs.BrokenLaws.{breach-iff}
-use Rattle.check_list.specs.declared.Judged.{Judged}
-use Rattle.check_list.specs.declared.Judged.the-variants.{Passed, Refused}
-use Rattle.check_list.specs.Check.{recordsOf, ruleAnswer, recordsAnswer, listAnswer, logAnswer, ListBreach, LogBreach}
+use Rattle.spec_check.specs.declared.Judged.{Judged}
+use Rattle.spec_check.specs.declared.Judged.the-variants.{Passed, Refused}
+use Rattle.spec_check.specs.Check.{recordsOf, ruleAnswer, recordsAnswer, listAnswer, logAnswer, ListBreach, LogBreach}
 
 -- no index fails exactly where each passes
 none-fails : (f : ℕ → Bool) (m : ℕ) → (eqb (firstFalse f m) m ≡ true) ↔ ((i : ℕ) → i < m → f i ≡ true)

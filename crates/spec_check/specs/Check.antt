@@ -16,8 +16,8 @@ use Rattle.record.specs.Record.{recordRead, wellFormed, recordAt, recordsIn, fi
 use Rattle.blocks.specs.Block.{blockAt, blockRight, blocksIn, firstBadBlock, listOf}
 use Rattle.spec_rules.specs.Neighbour.{Context}
 use Rattle.spec_rules.specs.Broken.{FirstBreach, ruleAt, firstBroken}
-use Rattle.check_list.specs.declared.Judged.{Judged}
-use Rattle.check_list.specs.declared.Judged.the-variants.{Passed, Refused}
+use Rattle.spec_check.specs.declared.Judged.{Judged}
+use Rattle.spec_check.specs.declared.Judged.the-variants.{Passed, Refused}
 
 -- the record that was read; bytes that are none have some record, which nothing asks for
 unfoldable pub known : RecordRead → Record

@@ -15,9 +15,9 @@ use Rattle.record.specs.Record.{recordsIn, firstBad}
 use Rattle.blocks.specs.Block.{blocksIn, firstBadBlock, listOf}
 use Rattle.spec_rules.specs.Neighbour.{Context}
 use Rattle.spec_rules.specs.Broken.{ruleAt, firstBroken, everyRule}
-use Rattle.check_list.specs.declared.Judged.{Judged}
-use Rattle.check_list.specs.declared.Judged.the-variants.{Passed, Refused}
-use Rattle.check_list.specs.Check.{recordsOf, ruleAnswer, recordsAnswer, listAnswer, logAnswer}
+use Rattle.spec_check.specs.declared.Judged.{Judged}
+use Rattle.spec_check.specs.declared.Judged.the-variants.{Passed, Refused}
+use Rattle.spec_check.specs.Check.{recordsOf, ruleAnswer, recordsAnswer, listAnswer, logAnswer}
 
 abbrev pub isPassed : Judged → Bool
 isPassed Passed = true
