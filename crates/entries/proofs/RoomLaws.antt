@@ -16,18 +16,16 @@ use Rattle.record.specs.declared.Record.the-variants.{RowAt, ColAt, DataOf}
 use Rattle.record.specs.declared.RecordRead.the-variants.{Known}
 use Rattle.record.specs.Record.{recordFields, recordBytes, recordFits, recordRead, recordAt}
 use Rattle.record.proofs.RoundTrip.{record-decode-encode}
-use Rattle.rules.specs.Neighbour.{split}
-use Rattle.rules.specs.Packets.{instant}
-use Rattle.rules.specs.Broken.{recordOf}
-use Rattle.rules.proofs.NeighbourLaws.{split-neighbours}
-use Rattle.plan.specs.declared.PlannerState.{PlannerState}
-use Rattle.plan.specs.Planner.{plannerValid}
-use Rattle.plan.specs.Call.{listBytes, planRecords, planRoom}
-use Rattle.plan.proofs.Invariant.{valid-inv}
-use Rattle.plan.proofs.Trace.{each-at, Placed}
-use Rattle.plan.proofs.CallLaws.{Made, InTime, each-in-time, called, call-made, call-in-time}
-use Rattle.walk.specs.Walk.{known}
-use Rattle.checker.specs.Check.{recordsUpTo as firstRecords}
+use Rattle.spec_rules.specs.Neighbour.{Context, Neighbours}
+use Rattle.spec_rules.specs.Packets.{instant}
+use Rattle.spec_rules.specs.Broken.{recordIn}
+use Rattle.spec_plan.specs.declared.PlannerState.{PlannerState}
+use Rattle.spec_plan.specs.Planner.{plannerValid}
+use Rattle.spec_plan.specs.Call.{listBytes, planRecords, planRoom}
+use Rattle.spec_plan.proofs.Invariant.{valid-inv}
+use Rattle.spec_plan.proofs.Trace.{each-at, Placed}
+use Rattle.spec_plan.proofs.CallLaws.{Made, InTime, each-in-time, called, call-made, call-in-time}
+use Rattle.spec_check.specs.Check.{known, recordsUpTo}
 use Rattle.text.specs.Text.{recordLine, writeBank, writeColumn, recordLines}
 
 -- ---- a record with as much of its data as its bytes hold
@@ -67,8 +65,8 @@ read-back s r v h = ap known (rw (kept-bytes s r) at (go r h))
         record-decode-encode s (DataOf t (record { dqa = number (bytes 8 (d .dqa)); dqb = number (bytes 8 (d .dqb)) })) v (h .early, word-in (d .dqa), word-in (d .dqb)) refl
 
 -- the first of a list's records, and those after it
-first-next : (s : Settings) (b rest : List ℕ) (n : ℕ) → length b ≡ 32 → firstRecords s (b ++ rest) (suc n) ≡ known (recordRead s b) ∷ firstRecords s rest n
-unfolding firstRecords
+first-next : (s : Settings) (b rest : List ℕ) (n : ℕ) → length b ≡ 32 → recordsUpTo s (b ++ rest) (suc n) ≡ known (recordRead s b) ∷ recordsUpTo s rest n
+unfolding recordsUpTo
 first-next s b rest zero e =
     let q : part (b ++ rest) 0 32 ≡ b = part-left b rest 0 32 (omega arith) ∙ part-all b 32 (omega arith) in
     rw q
@@ -82,9 +80,9 @@ length-record s (RowAt t p) = simp (length-append, length-bytes)
 length-record s (ColAt t p) = simp (length-append, length-bytes)
 length-record s (DataOf t d) = simp (length-append, length-bytes)
 
-records-back : (s : Settings) (l : List Record) (rest : List ℕ) → valid s ≡ true → ((j : ℕ) → j < length l → Coded s (recordOf l j))
-    → firstRecords s (listBytes s l ++ rest) (length l) ≡ map kept l
-unfolding listBytes firstRecords
+records-back : (s : Settings) (l : List Record) (rest : List ℕ) → valid s ≡ true → ((j : ℕ) → j < length l → Coded s (recordIn l j))
+    → recordsUpTo s (listBytes s l ++ rest) (length l) ≡ map kept l
+unfolding listBytes recordsUpTo
 records-back s [] rest v h = refl
 records-back s (r ∷ l) rest v h =
     rw (append-assoc (recordBytes s r) (listBytes s l) rest)
@@ -101,18 +99,18 @@ lines-kept b c (DataOf t d ∷ l) = rw (lines-kept (writeBank (DataOf t d) b) (w
 
 -- ---- the records of a call
 
-call-coded : (s : Settings) (p : PlannerState) (request : List ℕ) (room : ℕ) → plannerValid s split p ≡ true → Bytes request
-    → (j : ℕ) → j < length (planRecords s split p request room) → Coded s (recordOf (planRecords s split p request room) j)
-call-coded s p request room v w j m =
-    let l : List Record = planRecords s split p request room in
-    let made : Made s split p (called s split p request room) = call-made s split p request room split-neighbours w (valid-inv s split p v) in
-    let late = each-at (InTime s) l (each-in-time s l (call-in-time s split p request room)) j m in
-    record { word = each-at (Placed s split p) l (made .each) j m .word; early = omega (arith, late) }
+module _ (cx : Context) (ns : Neighbours cx) (p : PlannerState) (request : List ℕ) (v : plannerValid cx p ≡ true) (w : Bytes request) where
+  call-coded : (room j : ℕ) → j < length (planRecords cx p request room) → Coded (cx .settings) (recordIn (planRecords cx p request room) j)
+  call-coded room j m =
+      let l : List Record = planRecords cx p request room in
+      let made : Made cx p (called cx p request room) = call-made cx p request room ns w (valid-inv cx p v) in
+      let late = each-at (InTime cx) l (each-in-time cx l (call-in-time cx p request room)) j m in
+      record { word = each-at (Placed cx p) l (made .each) j m .word; early = omega (arith, late) }
 
-pub room-lines : (s : Settings) (p : PlannerState) (request room : List ℕ) → valid s ≡ true → plannerValid s split p ≡ true → Bytes request
-    → recordLines 0 0 (firstRecords s (planRoom s split p request room) (length (planRecords s split p request (length room))))
-    ≡ recordLines 0 0 (planRecords s split p request (length room))
-unfolding planRoom
-room-lines s p request room v pv w =
-    let l : List Record = planRecords s split p request (length room) in
-    rw (records-back s l _ v (call-coded s p request (length room) pv w)) (lines-kept 0 0 l)
+  pub room-lines : (room : List ℕ) → valid (cx .settings) ≡ true
+      → recordLines 0 0 (recordsUpTo (cx .settings) (planRoom cx p request room) (length (planRecords cx p request (length room))))
+      ≡ recordLines 0 0 (planRecords cx p request (length room))
+  unfolding planRoom
+  room-lines room s =
+      let l : List Record = planRecords cx p request (length room) in
+      rw (records-back (cx .settings) l _ s (call-coded (length room))) (lines-kept 0 0 l)

@@ -7,24 +7,24 @@ use Rattle.num.specs.Bytes.{part}
 use Rattle.settings.specs.Bench.{setH}
 use Rattle.record.specs.declared.Record.{Record}
 use Rattle.record.specs.Refusal.{answerOf}
-use Rattle.rules.specs.Neighbour.{split}
-use Rattle.plan.specs.declared.PlannerState.{PlannerState}
-use Rattle.plan.specs.declared.Outcome.{Outcome}
-use Rattle.plan.specs.declared.Outcome.the-variants.{Refused, Made}
-use Rattle.plan.specs.Planner.{freshPlanner}
-use Rattle.plan.specs.Call.{planOutcome, planNext, planRecords}
-use Rattle.text.specs.Text.{recordLines, refusedLine}
+use Rattle.spec_rules.specs.Neighbour.{contextOf}
+use Rattle.spec_plan.specs.declared.PlannerState.{PlannerState}
+use Rattle.spec_plan.specs.declared.Outcome.{Outcome}
+use Rattle.spec_plan.specs.declared.Outcome.the-variants.{Refused, Made}
+use Rattle.spec_plan.specs.Planner.{freshPlanner}
+use Rattle.spec_plan.specs.Call.{planOutcome, planNext, planRecords}
+use Rattle.text.specs.Text.{mostRecords, requestRoom, recordLines, refusedLine}
 
--- room for the records of any request, of which there are at most 17 (`plan/proofs/Bound.antt`: `most`)
+-- room for the records of any request (`spec_plan/proofs/Bound.antt`: `most`)
 abbrev pub roomBytes : ℕ
-roomBytes = 544
+roomBytes = 32 * mostRecords
 
 -- ---- one request
 
--- the records that a call has made
-unfoldable pub countOf : Outcome → ℕ
-countOf (Refused why) = 0
-countOf (Made n) = n
+-- the number of records that a call has made
+unfoldable pub madeCount : Outcome → ℕ
+madeCount (Refused why) = 0
+madeCount (Made n) = n
 
 unfoldable pub outcomeText : Outcome → List Record → List ℕ
 outcomeText (Refused why) l = refusedLine (answerOf why .number)
@@ -32,27 +32,34 @@ outcomeText (Made n) l = recordLines 0 0 l
 
 -- what a request prints, of a planner
 unfoldable pub requestText : PlannerState → List ℕ → List ℕ
-requestText p request = outcomeText (planOutcome setH split p request roomBytes) (planRecords setH split p request roomBytes)
+requestText p request = outcomeText (planOutcome (contextOf setH) p request roomBytes) (planRecords (contextOf setH) p request roomBytes)
 
 -- ---- a whole input
 
 -- request i of the input
-abbrev pub requestAt : List ℕ → ℕ → List ℕ
-requestAt input i = part input (24 * i) 24
+abbrev pub requestIn : List ℕ → ℕ → List ℕ
+requestIn input i = part input (24 * i) 24
 
--- the planner, the number of records and the text after the first n requests: "the next request follows"
-unfoldable pub plannerAt : List ℕ → ℕ → PlannerState
-plannerAt input zero = freshPlanner
-plannerAt input (suc n) = planNext setH split (plannerAt input n) (requestAt input n) roomBytes
+-- the planner that request n is given to: "the next request follows"
+unfoldable pub plannerFor : List ℕ → ℕ → PlannerState
+plannerFor input zero = freshPlanner
+plannerFor input (suc n) = planNext (contextOf setH) (plannerFor input n) (requestIn input n) roomBytes
 
-unfoldable pub recordsUpTo : List ℕ → ℕ → ℕ
-recordsUpTo input zero = 0
-recordsUpTo input (suc n) = recordsUpTo input n + length (planRecords setH split (plannerAt input n) (requestAt input n) roomBytes)
+-- the number of records and the text of the first n requests
+unfoldable pub recordsListed : List ℕ → ℕ → ℕ
+recordsListed input zero = 0
+recordsListed input (suc n) = recordsListed input n + length (planRecords (contextOf setH) (plannerFor input n) (requestIn input n) roomBytes)
 
 unfoldable pub textUpTo : List ℕ → ℕ → List ℕ
 textUpTo input zero = []
-textUpTo input (suc n) = textUpTo input n ++ requestText (plannerAt input n) (requestAt input n)
+textUpTo input (suc n) = textUpTo input n ++ requestText (plannerFor input n) (requestIn input n)
 
--- room for the text of 2,730 requests
+-- "65,520 bytes (2,730 requests)": the longest input that is listed, and room for the text of its requests
+abbrev pub mostRequests : ℕ
+mostRequests = 2730
+
+abbrev pub longestInput : ℕ
+longestInput = 24 * mostRequests
+
 abbrev pub requestsRoom : ℕ
-requestsRoom = 2970240
+requestsRoom = mostRequests * requestRoom

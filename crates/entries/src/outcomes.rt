@@ -2,17 +2,17 @@
 ghost use mathlib.Core.Path.{_≡_};
 ghost use Prim.Native.Nat.{_+_, _≤_};
 ghost use lib.ListN.{length};
-ghost use Rattle.checker.specs.Check.{recordsUpTo as firstRecords};
-ghost use Rattle.text.specs.Text.{Put, requestRoom};
+ghost use Rattle.spec_check.specs.Check.{recordsUpTo};
+ghost use Rattle.text.specs.Text.{Put, mostRecords, requestRoom};
 ghost use Rattle.settings.specs.Bench.{setH};
-ghost use Rattle.entries.specs.Entries.{roomBytes, countOf, outcomeText};
+ghost use Rattle.entries.specs.Entries.{roomBytes, madeCount, outcomeText};
 use lines::put_lines;
-use plan::Outcome;
+use spec_plan::Outcome;
 use text::put_refused;
 
 // The number of records that a call has made.
-pub(crate) fn count_of(outcome: Outcome) -> u64
-    ensures { λ r. ⌜ r ≡ countOf outcome ⌝ }
+pub(crate) fn made_count(outcome: Outcome) -> u64
+    ensures { λ r. ⌜ r ≡ madeCount outcome ⌝ }
 {
     match outcome {
         Outcome::Refused(_) => 0,
@@ -22,8 +22,8 @@ pub(crate) fn count_of(outcome: Outcome) -> u64
 
 // Puts the lines of a call whose records stand at the start of a buffer.
 pub(crate) fn put_outcome(out: &mut [u8], at: usize, outcome: Outcome, room: &[u8]) -> usize
-    requires { ⌜ (countOf outcome ≤ 17) × (roomBytes ≤ length (now room)) × (at + requestRoom ≤ length (now out)) ⌝ }
-    ensures { λ r. ⌜ Put (now (out .entry)) at (outcomeText outcome (firstRecords setH (now (room .entry)) (countOf outcome))) (now (out .exit)) r × (r ≤ at + requestRoom) ⌝ }
+    requires { ⌜ (madeCount outcome ≤ mostRecords) × (roomBytes ≤ length (now room)) × (at + requestRoom ≤ length (now out)) ⌝ }
+    ensures { λ r. ⌜ Put (now (out .entry)) at (outcomeText outcome (recordsUpTo setH (now (room .entry)) (madeCount outcome))) (now (out .exit)) r × (r ≤ at + requestRoom) ⌝ }
 {
     match outcome {
         Outcome::Refused(why) => put_refused(out, at, why.answer().number),

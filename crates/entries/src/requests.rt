@@ -3,16 +3,19 @@ ghost use mathlib.Core.Path.{_≡_};
 ghost use mathlib.Core.Bool.{true};
 ghost use Prim.Native.Nat.{_+_, _/_, _≤_};
 ghost use lib.ListN.{length};
-ghost use Rattle.rules.specs.Neighbour.{split};
-ghost use Rattle.plan.specs.Planner.{plannerValid};
-ghost use Rattle.plan.specs.Call.{planNext, planRecords};
+ghost use Rattle.spec_rules.specs.Neighbour.{contextOf};
+ghost use Rattle.spec_plan.specs.Planner.{plannerValid};
+ghost use Rattle.spec_plan.specs.Call.{planNext, planRecords};
 ghost use Rattle.text.specs.Text.{Put, requestRoom};
 ghost use Rattle.settings.specs.Bench.{setH};
-ghost use Rattle.entries.specs.Entries.{roomBytes, requestsRoom, requestText, recordsUpTo, textUpTo};
-use crate::outcomes::count_of;
+ghost use Rattle.entries.specs.Entries.{roomBytes, requestText, recordsListed, textUpTo, longestInput, requestsRoom};
+use crate::outcomes::made_count;
 use crate::outcomes::put_outcome;
 use lines::set_h;
-use planner::Planner;
+use plan_by_value::Planner;
+
+// Room for the records of any request.
+const ROOM: usize = 544;
 
 // The planner after a request, the number of records that it made, and the end of its text.
 struct Listed {
@@ -23,20 +26,20 @@ struct Listed {
 
 // Puts the text of a request.
 fn put_request(p: Planner, request: &[u8], out: &mut [u8], at: usize) -> Listed
-    requires { ⌜ plannerValid setH split (p .state) ≡ true ⌝ }
+    requires { ⌜ plannerValid (contextOf setH) (p .state) ≡ true ⌝ }
     requires { ⌜ at + requestRoom ≤ length (now out) ⌝ }
-    ensures { λ r. ⌜ r .planner .state ≡ planNext setH split (p .state) (now (request .entry)) roomBytes ⌝ }
-    ensures { λ r. ⌜ r .records ≡ length (planRecords setH split (p .state) (now (request .entry)) roomBytes) ⌝ }
+    ensures { λ r. ⌜ r .planner .state ≡ planNext (contextOf setH) (p .state) (now (request .entry)) roomBytes ⌝ }
+    ensures { λ r. ⌜ r .records ≡ length (planRecords (contextOf setH) (p .state) (now (request .entry)) roomBytes) ⌝ }
     ensures { λ r. ⌜ Put (now (out .entry)) at (requestText (p .state) (now (request .entry))) (now (out .exit)) (r .end) × (r .end ≤ at + requestRoom) ⌝ }
 {
-    let mut room = [0u8; 544];
+    let mut room = [0u8; ROOM];
     let planned = p.plan(set_h(), request, &mut room);
     let outcome = planned.outcome;
     let next = planned.planner;
     let end = put_outcome(out, at, outcome, &room);
     Listed {
         planner: next,
-        records: count_of(outcome),
+        records: made_count(outcome),
         end: end,
     }
 }
@@ -49,8 +52,8 @@ pub struct Total {
 
 // Puts the text of each request of an input.
 pub fn put_requests(input: &[u8], out: &mut [u8]) -> Total
-    requires { ⌜ (length (now input) ≤ 65520) × (requestsRoom ≤ length (now out)) ⌝ }
-    ensures { λ r. ⌜ r .records ≡ recordsUpTo (now (input .entry)) (length (now (input .entry)) / 24) ⌝ }
+    requires { ⌜ (length (now input) ≤ longestInput) × (requestsRoom ≤ length (now out)) ⌝ }
+    ensures { λ r. ⌜ r .records ≡ recordsListed (now (input .entry)) (length (now (input .entry)) / 24) ⌝ }
     ensures { λ r. ⌜ Put (now (out .entry)) 0 (textUpTo (now (input .entry)) (length (now (input .entry)) / 24)) (now (out .exit)) (r .end) × (r .end ≤ requestsRoom) ⌝ }
 {
     let n = input.len() / 24;

@@ -4,9 +4,8 @@ ghost use Prim.Native.Nat.{_+_, _*_, _≤_};
 ghost use lib.ListN.{length};
 ghost use Rattle.num.specs.Bytes.{part};
 ghost use Rattle.record.specs.Record.{recordRead};
-ghost use Rattle.walk.specs.Walk.{known};
-ghost use Rattle.checker.specs.Check.{recordsUpTo as firstRecords};
-ghost use Rattle.text.specs.Text.{Put, lineRoom, rowLine, colLine, recordLine, requestRoom, writeBank, writeColumn, recordLines};
+ghost use Rattle.spec_check.specs.Check.{known, recordsUpTo};
+ghost use Rattle.text.specs.Text.{Put, lineRoom, rowLine, colLine, recordLine, mostRecords, requestRoom, writeBank, writeColumn, recordLines};
 ghost use Rattle.settings.specs.Bench.{setH};
 use packet::ColPacket;
 use packet::RowPacket;
@@ -134,8 +133,8 @@ fn record_at(s: Settings, b: &[u8], at: usize) -> Record
 
 // Puts the lines of the first n records of a buffer.
 pub fn put_lines(out: &mut [u8], at: usize, room: &[u8], n: usize) -> usize
-    requires { ⌜ (n ≤ 17) × (32 * n ≤ length (now room)) × (at + requestRoom ≤ length (now out)) ⌝ }
-    ensures { λ r. ⌜ Put (now (out .entry)) at (recordLines 0 0 (firstRecords setH (now (room .entry)) n)) (now (out .exit)) r × (r ≤ at + requestRoom) ⌝ }
+    requires { ⌜ (n ≤ mostRecords) × (32 * n ≤ length (now room)) × (at + requestRoom ≤ length (now out)) ⌝ }
+    ensures { λ r. ⌜ Put (now (out .entry)) at (recordLines 0 0 (recordsUpTo setH (now (room .entry)) n)) (now (out .exit)) r × (r ≤ at + requestRoom) ⌝ }
 {
     let s = set_h();
     let mut latest = Latest { bank: 0, column: 0 };

@@ -9,22 +9,22 @@ use borrow.Author.Tests.{leb-true, leb-false, lt-leb}
 use lib.Dec.{leb, eqb}
 use lib.ListN.{length, take}
 use lib.Seq.{take-all, length-take-le}
-use Rattle.rules.proofs.Bools.{and-left}
+use Rattle.spec_rules.proofs.Bools.{and-left}
 use Rattle.text.specs.Text.{Put, refusedLine, recordsLine}
-use Rattle.entries.specs.Entries.{recordsUpTo, textUpTo}
+use Rattle.entries.specs.Entries.{recordsListed, textUpTo, longestInput}
 use Rattle.listing.specs.Listing.{lengthRight, listing}
 use Rattle.text.proofs.TextLaws.{put-then}
 
-pub length-fits : (n : ℕ) → lengthRight n ≡ true → n ≤ 65520
+pub length-fits : (n : ℕ) → lengthRight n ≡ true → n ≤ longestInput
 unfolding lengthRight
-length-fits n h = leb-true n 65520 (and-left (leb n 65520) (eqb (n % 24) 0) h)
+length-fits n h = leb-true n longestInput (and-left (leb n longestInput) (eqb (n % 24) 0) h)
 
-length-over : (n : ℕ) → 65520 < n → lengthRight n ≡ false
+length-over : (n : ℕ) → longestInput < n → lengthRight n ≡ false
 unfolding lengthRight
-length-over n h = rw (lt-leb n 65520 h)
+length-over n h = rw (lt-leb n longestInput h)
 
--- a buffer of more than 65,520 bytes takes enough of an input: what it does not take alters no listing
-listing-first : (room : ℕ) (input : List ℕ) → 65520 < room → listing (take room input) ≡ listing input
+-- a buffer of more bytes than the longest input takes enough of an input: what it does not take alters no listing
+listing-first : (room : ℕ) (input : List ℕ) → longestInput < room → listing (take room input) ≡ listing input
 unfolding listing
 listing-first room input h = go (leb (length input) room) refl
   where
@@ -34,11 +34,11 @@ listing-first room input h = go (leb (length input) room) refl
         let longer : room < length input = leb-false _ _ e in
         rw (length-take-le room input (omega arith), length-over room h, length-over (length input) (omega arith))
 
-pub listed-first : (l read input : List ℕ) (room : ℕ) {m : List ℕ} {end : ℕ} → 65520 < room → take room input ≡ read → Put l 0 (listing read) m end → Put l 0 (listing input) m end
+pub listed-first : (l read input : List ℕ) (room : ℕ) {m : List ℕ} {end : ℕ} → longestInput < room → take room input ≡ read → Put l 0 (listing read) m end → Put l 0 (listing input) m end
 listed-first l read input room h r p = rw (← listing-first room input h, r) p
 
 pub listed : (l input : List ℕ) (records : ℕ) {m n : List ℕ} {at end : ℕ} → at ≤ length l → lengthRight (length input) ≡ true
-    → records ≡ recordsUpTo input (length input / 24) → Put l 0 (textUpTo input (length input / 24)) m at → Put m at (recordsLine records) n end → Put l 0 (listing input) n end
+    → records ≡ recordsListed input (length input / 24) → Put l 0 (textUpTo input (length input / 24)) m at → Put m at (recordsLine records) n end → Put l 0 (listing input) n end
 unfolding listing
 listed l input records h r e p q = rw (r, ← e) (put-then l 0 (textUpTo input (length input / 24)) (recordsLine records) (omega (arith, p .0)) p q)
 

@@ -15,24 +15,24 @@ use Rattle.packet.specs.Col.{maskBit, maskField, colFields, colWord, maskSaid, 
 use Rattle.record.specs.Record.{rowRecord, colRecord, recordOf, recordRead, isKnown, wellFormed, firstBad}
 use Rattle.record.specs.Refusal.{answerOf}
 use Rattle.record.specs.Request.{usesByte, spareRight, placed, requestOf, requestRead}
-use Rattle.rules.specs.Neighbour.{split}
-use Rattle.rules.specs.Packets.{rowTraits, colTraits, traits, instant, isPacket}
-use Rattle.rules.specs.History.{bankBy, bankAfter, isClosed, isOpen, waitingBy, waitingAfter, eventOf, events, keeps}
-use Rattle.rules.specs.Rules.{bankCount, dataDelay, dueAfter, rules, rule1, rule2, rule3, rule4, rule5, rule6, rule7, rule8, rule9, rule10, rule11, rule12, rule13, rule14, rule15, rule16}
-use Rattle.rules.specs.Broken.{lowest, lowestRule, firstBroken}
-use Rattle.rules.specs.Channel.{fresh, waitingOf, bankNext, trackNext, settled, bufferBy, bufferNext, afterPacket, afterData, after}
-use Rattle.rules.specs.Checks.{maxUpTo}
-use Rattle.rules.specs.Earliest.{placedAt, earliest}
-use Rattle.plan.specs.Planner.{freshPlanner}
-use Rattle.plan.specs.Plan.{slot, sent, flushed, closed, closedUpTo, reached, plannedRead, loaded, written, plannedWrite, turned, plannedRefresh, plannedWait, plannedDrain, stepsOf, planned}
-use Rattle.plan.specs.Call.{inTime, timely, outcomeOf, outcomeBy, planOutcome, isMade, draftBy, planNext, planRecords}
-use Rattle.checker.specs.declared.Judged.{Judged}
-use Rattle.checker.specs.declared.Judged.the-variants.{Passed, Refused}
-use Rattle.walk.specs.Walk.{known}
-use Rattle.checker.specs.Check.{recordsUpTo as firstRecords, recordsOf, ruleAnswer, recordsAnswer, listAnswer}
+use Rattle.spec_rules.specs.Neighbour.{bankCount, split, contextOf}
+use Rattle.spec_rules.specs.Packets.{rowTraits, colTraits, traits, retireTraits, instant, isPacket}
+use Rattle.spec_rules.specs.History.{bankBy, bankAfter, isClosed, isOpen, leaving, loads, waitingNext, waitingAfter, deeds, events, keeps}
+use Rattle.spec_rules.specs.Distances.{distances}
+use Rattle.spec_rules.specs.Rules.{dataDelay, dueAfter, ruleOf, rules, rule1, rule4, rule9, rule12, rule14, rule15, rule16}
+use Rattle.spec_rules.specs.Broken.{lowest, lowestRule, firstBroken}
+use Rattle.spec_rules.specs.Channel.{fresh, waitingOf, bufferOf, bankNext, trackNext, afterPacket, trackRetired, afterRetire, afterData, after}
+use Rattle.spec_rules.specs.Checks.{maxUpTo, bounds}
+use Rattle.spec_rules.specs.Earliest.{placedAt, under, earliest, leastFrom}
+use Rattle.spec_plan.specs.Planner.{freshPlanner}
+use Rattle.spec_plan.specs.Plan.{slot, sent, flushed, flushedWhile, closed, closedUpTo, reached, plannedRead, loaded, written, plannedWrite, turned, plannedRefresh, plannedWait, plannedDrain, stepsOf, planned}
+use Rattle.spec_plan.specs.Call.{inTime, timely, outcomeOf, outcomeBy, planOutcome, isMade, draftBy, planNext, planRecords}
+use Rattle.spec_check.specs.declared.Judged.{Judged}
+use Rattle.spec_check.specs.declared.Judged.the-variants.{Passed, Refused}
+use Rattle.spec_check.specs.Check.{known, recordsUpTo, recordsOf, ruleAnswer, recordsAnswer, listAnswer}
 use Rattle.text.specs.Text.{codes, digit, decimalIn, hexFour, dash, maskText, line, rowLine, colLine, recordLine, recordLines, refusedLine, recordsLine}
 use Rattle.settings.specs.Bench.{setOf, setH}
-use Rattle.entries.specs.Entries.{outcomeText, requestText, plannerAt, recordsUpTo, textUpTo}
+use Rattle.entries.specs.Entries.{outcomeText, requestText, plannerFor, recordsListed, textUpTo}
 use Rattle.listing.specs.Listing.{lengthRight, listing}
 
 -- ---- requests of 24 bytes
@@ -79,7 +79,7 @@ runs =
     ∷ listing (write 0 0 0 0xFF 0xFF 1 ++ read 0 1 0)
     ∷ listing (refresh ++ refresh)
     ∷ listing (write 0 0 0 0x03 0x00 1 ++ write 0 0 0 0x06 0x00 2)
-    ∷ numbers (listAnswer setH early)
+    ∷ numbers (listAnswer (contextOf setH) early)
     ∷ (rowWord 0 (Act 0 0) ∷ colWord 0 (Rd 0 1 0xFFFF) ∷ [])
     ∷ []
 
@@ -97,5 +97,5 @@ results =
     ∷ []
 
 pub worked : runs ≡ results
-unfolding request read write refresh drain codes lines numbers early runs results bytes number allUpTo firstFalse deviceHead rowFields rowWord rowOf rowDecoded maskBit maskField colFields colWord maskSaid maskOf colOf colDecoded rowRecord colRecord recordOf recordRead isKnown wellFormed firstBad answerOf usesByte spareRight placed requestOf requestRead split rowTraits colTraits traits instant isPacket bankBy bankAfter isClosed isOpen waitingBy waitingAfter eventOf events bankCount dataDelay keeps dueAfter rules rule1 rule2 rule3 rule4 rule5 rule6 rule7 rule8 rule9 rule10 rule11 rule12 rule13 rule14 rule15 rule16 lowest lowestRule firstBroken fresh waitingOf bankNext trackNext settled bufferBy bufferNext afterPacket afterData after maxUpTo placedAt earliest freshPlanner slot sent flushed closed closedUpTo reached plannedRead loaded written plannedWrite turned plannedRefresh plannedWait plannedDrain stepsOf planned inTime timely outcomeOf outcomeBy planOutcome isMade draftBy planNext planRecords known firstRecords recordsOf ruleAnswer recordsAnswer listAnswer digit decimalIn hexFour dash maskText line rowLine colLine recordLine setOf setH recordLines refusedLine recordsLine outcomeText requestText plannerAt recordsUpTo textUpTo lengthRight listing
+unfolding request read write refresh drain codes lines numbers early runs results bytes number allUpTo firstFalse deviceHead rowFields rowWord rowOf rowDecoded maskBit maskField colFields colWord maskSaid maskOf colOf colDecoded rowRecord colRecord recordOf recordRead isKnown wellFormed firstBad answerOf usesByte spareRight placed requestOf requestRead split contextOf rowTraits colTraits traits retireTraits instant isPacket bankBy bankAfter isClosed isOpen leaving loads waitingNext waitingAfter deeds events keeps bankCount distances dataDelay dueAfter ruleOf rules rule1 rule4 rule9 rule12 rule14 rule15 rule16 lowest lowestRule firstBroken fresh waitingOf bufferOf bankNext trackNext afterPacket trackRetired afterRetire afterData after maxUpTo bounds placedAt under earliest leastFrom freshPlanner slot sent flushed flushedWhile closed closedUpTo reached plannedRead loaded written plannedWrite turned plannedRefresh plannedWait plannedDrain stepsOf planned inTime timely outcomeOf outcomeBy planOutcome isMade draftBy planNext planRecords known recordsUpTo recordsOf ruleAnswer recordsAnswer listAnswer digit decimalIn hexFour dash maskText line rowLine colLine recordLine setOf setH recordLines refusedLine recordsLine outcomeText requestText plannerFor recordsListed textUpTo lengthRight listing
 worked = refl

@@ -13,14 +13,17 @@ use text::put_refused;
 // Room for the longest listing: 2,730 requests of at most 17 lines and the last line, each of at most 64 bytes.
 pub const ROOM: usize = 2_970_304;
 
-// Room for one byte more than the longest input that is listed, so that a longer one is seen to be so.
+// The longest input that is listed: 2,730 requests.
+const LONGEST: usize = 65_520;
+
+// Room for one byte more, so that a longer input is seen to be so.
 pub const INPUT: usize = 65_521;
 
 // Whether an input of n bytes is listed: whole requests, and no more than 2,730.
 fn length_right(n: usize) -> bool
     ensures { λ r. ⌜ r ≡ lengthRight n ⌝ }
 {
-    if 65520 < n {
+    if LONGEST < n {
         return false;
     }
     n % 24 == 0

@@ -1,6 +1,6 @@
 -- The text of the listing program (document 01, "Bench runs"), in ASCII.
 -- Assumes nothing.
-use Prim.Native.Nat.{ℕ, zero, suc, _+_, _/_, _%_}
+use Prim.Native.Nat.{ℕ, zero, suc, _+_, _*_, _/_, _%_}
 use Prim.Native.Char.{code}
 use Prim.Native.String.{String, [] as []ˢ, _∷_ as _∷ˢ_}
 use mathlib.Core.Bool.{cond}
@@ -87,9 +87,13 @@ recordLine bank column (DataOf t d) = line (t .0) (codes "D") bank column dash
 
 -- ---- the lines of a request, of a refusal and of the count
 
--- room for the lines of a request, of which there are at most 17
+-- "No request makes more than 17 records."
+abbrev pub mostRecords : ℕ
+mostRecords = 17
+
+-- room for the lines of a request
 abbrev pub requestRoom : ℕ
-requestRoom = 1088
+requestRoom = mostRecords * lineRoom
 
 -- bank and column of the latest WR, for the line of its D
 abbrev pub writeBank : Record → ℕ → ℕ

@@ -11,9 +11,8 @@ use Rattle.num.specs.Bytes.{part}
 use Rattle.settings.specs.declared.Settings.{Settings}
 use Rattle.record.specs.declared.Record.{Record}
 use Rattle.record.specs.Record.{recordRead}
-use Rattle.walk.specs.Walk.{known}
-use Rattle.checker.specs.Check.{recordsUpTo as firstRecords}
-use Rattle.text.specs.Text.{Put, writeBank, writeColumn, recordLines}
+use Rattle.spec_check.specs.Check.{known, recordsUpTo}
+use Rattle.text.specs.Text.{Put, lineRoom, writeBank, writeColumn, recordLines}
 use Rattle.settings.specs.Bench.{setH}
 use Rattle.text.proofs.LineLaws.{bankAfter, columnAfter, bank-next, column-next, line-next}
 use borrow.Author.Needs.{needs}
@@ -22,22 +21,22 @@ use Rattle.lines.proofs.put_lines.Tie as tie
 
 abbrev Inv-loop : tie.InvT-loop
 Inv-loop out₀ at room n s latest₀ end₀ i₀ out latest end i =
-    (i ≤ n) × (latest .bank ≡ bankAfter 0 (firstRecords setH room i)) × (latest .column ≡ columnAfter 0 (firstRecords setH room i))
-    × Put out₀ at (recordLines 0 0 (firstRecords setH room i)) out end × (end ≤ at + 64 * i) × (length out ≡ length out₀)
+    (i ≤ n) × (latest .bank ≡ bankAfter 0 (recordsUpTo setH room i)) × (latest .column ≡ columnAfter 0 (recordsUpTo setH room i))
+    × Put out₀ at (recordLines 0 0 (recordsUpTo setH room i)) out end × (end ≤ at + lineRoom * i) × (length out ≡ length out₀)
 
 abbrev μ-loop : tie.MeasureT-loop
 μ-loop out₀ at room n s latest₀ end₀ i₀ out latest end i = n - i
 
 -- the records read so far, and the next one
-next : (s : Settings) → s ≡ setH → (room : List ℕ) (i : ℕ) (r : Record) → r ≡ known (recordRead s (part room (32 * i) 32)) → firstRecords setH room (i + 1) ≡ firstRecords setH room i ++ (r ∷ [])
-unfolding firstRecords
+next : (s : Settings) → s ≡ setH → (room : List ℕ) (i : ℕ) (r : Record) → r ≡ known (recordRead s (part room (32 * i) 32)) → recordsUpTo setH room (i + 1) ≡ recordsUpTo setH room i ++ (r ∷ [])
+unfolding recordsUpTo
 next s es room i r e = rw (add-one, ← es, ← e)
 
 set-h-requires : tie.Need-set-h-requires Inv-loop μ-loop
 set-h-requires c κs = search needs
 
 loop-holds : tie.Need-loop-holds Inv-loop μ-loop
-unfolding firstRecords recordLines bankAfter columnAfter
+unfolding recordsUpTo recordLines bankAfter columnAfter
 loop-holds c = (omega arith, refl, refl, (sym (add-zero _), splice-none (c .before .before .before .args .out .now) (c .before .before .before .args .at)), omega arith, refl)
 
 mul-record-at : tie.Need-mul-record-at Inv-loop μ-loop
@@ -67,7 +66,7 @@ loop-again c =
     let a = z .before .before .before .args in
     let e = next (z .set-h .result) (z .set-h .ensures) (a .room .now) (k .i) (g .record-at .result) (g .record-at .ensures) in
     let h = c .latest-after .ensures in
-    let old = firstRecords setH (a .room .now) (k .i) in
+    let old = recordsUpTo setH (a .room .now) (k .i) in
     rw e (
       omega arith,
       h .0 ∙ ap (writeBank (g .record-at .result)) (k .inv .1) ∙ sym (bank-next 0 old (g .record-at .result)),

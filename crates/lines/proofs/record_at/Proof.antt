@@ -1,6 +1,6 @@
 -- `record_at` meets its contract: each arm is a case of the definition.
 use mathlib.Core.Path.{_∙_, sym}
-use Rattle.walk.specs.Walk.{known}
+use Rattle.spec_check.specs.Check.{known}
 use borrow.Author.Needs.{needs}
 use Rattle.lines.proofs.record_at.Statement.{statement}
 use Rattle.lines.proofs.record_at.Tie as tie

@@ -1,6 +1,6 @@
 -- `put_outcome` meets its contract: each arm is a case of the definition.
 use native.Mathlib.Omega.{arith}
-use Rattle.entries.specs.Entries.{countOf, outcomeText}
+use Rattle.entries.specs.Entries.{madeCount, outcomeText}
 use borrow.Author.Needs.{needs}
 use Rattle.entries.proofs.outcomes.put_outcome.Statement.{statement}
 use Rattle.entries.proofs.outcomes.put_outcome.Tie as tie
@@ -18,7 +18,7 @@ enum-known-outcome-2 : tie.Need-enum-known-outcome-2
 enum-known-outcome-2 c = search needs
 
 put-lines-requires : tie.Need-put-lines-requires
-unfolding countOf
+unfolding madeCount
 put-lines-requires c κs =
     let a = c .before .before .before .before .before .before in
     let n = rw (c .before .before .outcome2 .given .1) at (a .pre .0) in
@@ -37,7 +37,7 @@ same-length-2 : tie.Need-same-length-2
 same-length-2 c = search needs
 
 returns-2 : tie.Need-returns-2
-unfolding outcomeText countOf
+unfolding outcomeText madeCount
 returns-2 c = rw (c .before .before .before .before .before .outcome2 .given .1) (c .before .before .put-lines .ensures)
 
 pub put-outcome-spec : {M : Type 1} → statement M

@@ -2,7 +2,7 @@
 use mathlib.Core.Path.{_∙_}
 use native.Mathlib.Omega.{arith}
 use lib.ListN.{length-replicate}
-use Rattle.entries.proofs.OutcomeLaws.{setH-valid, call-listed}
+use Rattle.entries.proofs.OutcomeLaws.{call-listed}
 use borrow.Author.Needs.{needs}
 use Rattle.entries.proofs.requests.put_request.Statement.{statement}
 use Rattle.entries.proofs.requests.put_request.Tie as tie
@@ -14,7 +14,7 @@ slice-aggregate-plan : tie.Need-slice-aggregate-plan
 slice-aggregate-plan c = search needs
 
 plan-requires : tie.Need-plan-requires
-plan-requires c κs = rw (c .before .set-h .ensures) (setH-valid, c .before .before .before .before .pre .0)
+plan-requires c κs = search needs
 
 slice-aggregate-put-outcome : tie.Need-slice-aggregate-put-outcome
 slice-aggregate-put-outcome c = search needs
@@ -24,12 +24,12 @@ put-outcome-requires c κs =
     let d = c .before .before .before .before in
     let h = d .before .before in
     let z = h .before .before .before in
-    let t = call-listed (h .set-h .result) (h .set-h .ensures) (z .args .p .state) (z .args .request .now) (z .pre .0) (λ i _. omega (arith, h .before .before .shared-slice-known .given i)) (d .plan .ensures .0) (d .plan .ensures .1 .1) in
+    let t = call-listed (z .args .p .state) (z .args .request .now) (z .pre .0) (λ i _. omega (arith, h .before .before .shared-slice-known .given i)) (h .set-h .result) (h .set-h .ensures) (d .plan .ensures .0) (d .plan .ensures .1 .0) (d .plan .ensures .1 .1) in
     let r = rw length-replicate at (d .plan .kept .1 .1 .1 .0) in
-    (t .1, omega (arith, r), omega (arith, z .pre .1))
+    (t .2, omega (arith, r), omega (arith, z .pre .1))
 
-count-of-requires : tie.Need-count-of-requires
-count-of-requires c κs = search needs
+made-count-requires : tie.Need-made-count-requires
+made-count-requires c κs = search needs
 
 same-length : tie.Need-same-length
 same-length c = search needs
@@ -39,9 +39,8 @@ returns c =
     let d = c .before .before .before .before .before .before .before .before in
     let h = d .before .before in
     let z = h .before .before .before in
-    let t = call-listed (h .set-h .result) (h .set-h .ensures) (z .args .p .state) (z .args .request .now) (z .pre .0) (λ i _. omega (arith, h .before .before .shared-slice-known .given i)) (d .plan .ensures .0) (d .plan .ensures .1 .1) in
-    let s = rw (h .set-h .ensures, length-replicate) at (d .plan .ensures .1 .0) in
-    (s, (c .count-of .ensures ∙ t .0, rw (t .2) at (c .before .before .before .put-outcome .ensures)))
+    let t = call-listed (z .args .p .state) (z .args .request .now) (z .pre .0) (λ i _. omega (arith, h .before .before .shared-slice-known .given i)) (h .set-h .result) (h .set-h .ensures) (d .plan .ensures .0) (d .plan .ensures .1 .0) (d .plan .ensures .1 .1) in
+    (t .0, (c .made-count .ensures ∙ t .1, rw (t .3) at (c .before .before .before .put-outcome .ensures)))
 
 pub put-request-spec : {M : Type 1} → statement M
 put-request-spec =
@@ -52,6 +51,6 @@ put-request-spec =
     plan-requires
     slice-aggregate-put-outcome
     put-outcome-requires
-    count-of-requires
+    made-count-requires
     same-length
     returns)

@@ -5,8 +5,8 @@ use native.Mathlib.Omega.{arith}
 use lib.ListN.{length}
 use Rattle.num.specs.Bytes.{Bytes}
 use Rattle.num.proofs.SpliceLaws.{splice-none}
-use Rattle.text.specs.Text.{Put}
-use Rattle.entries.specs.Entries.{plannerAt, recordsUpTo, textUpTo}
+use Rattle.text.specs.Text.{Put, mostRecords, requestRoom}
+use Rattle.entries.specs.Entries.{plannerFor, recordsListed, textUpTo}
 use Rattle.entries.proofs.OutcomeLaws.{records-most, planner-valid, planner-next, records-next, text-next}
 use borrow.Author.Needs.{needs}
 use Rattle.entries.proofs.requests.put_requests.Statement.{statement}
@@ -14,8 +14,8 @@ use Rattle.entries.proofs.requests.put_requests.Tie as tie
 
 abbrev Inv-loop : tie.InvT-loop
 Inv-loop input out₀ n p₀ records₀ end₀ i₀ out p records end i =
-    (i ≤ n) × (p .state ≡ plannerAt input i) × (records ≡ recordsUpTo input i) × (records ≤ 17 * i)
-    × Put out₀ 0 (textUpTo input i) out end × (end ≤ 1088 * i) × (length out ≡ length out₀)
+    (i ≤ n) × (p .state ≡ plannerFor input i) × (records ≡ recordsListed input i) × (records ≤ mostRecords * i)
+    × Put out₀ 0 (textUpTo input i) out end × (end ≤ requestRoom * i) × (length out ≡ length out₀)
 
 abbrev μ-loop : tie.MeasureT-loop
 μ-loop input out₀ n p₀ records₀ end₀ i₀ out p records end i = n - i
@@ -24,7 +24,7 @@ fresh-requires : tie.Need-fresh-requires Inv-loop μ-loop
 fresh-requires c κs = search needs
 
 loop-holds : tie.Need-loop-holds Inv-loop μ-loop
-unfolding plannerAt recordsUpTo textUpTo
+unfolding plannerFor recordsListed textUpTo
 loop-holds c = (omega arith, c .fresh .ensures, refl, omega arith, (refl, splice-none (c .before .before .before .args .out .now) 0), omega arith, refl)
 
 mul-from : tie.Need-mul-from Inv-loop μ-loop
