@@ -1,18 +1,18 @@
 -- The highest stored instant of a state: it bounds each, and the or of all bounds it.
 -- Assumes nothing.
 use Prim.Native.Nat.{ℕ, zero, suc, _+_, _*_, _<_, _≤_, max}
-use mathlib.Core.Path.{_≡_, refl, sym, ap, _∙_}
-use mathlib.Core.Bool.{Bool, true, false}
+use mathlib.Core.Path.{_≡_, sym}
+use mathlib.Core.Bool.{true}
 use mathlib.Core.List.{List}
 use mathlib.Core.Logic.{⊎-elim}
 use native.Mathlib.Nat.{eq-or-lt-of-le, le-of-suc-le-suc}
 use native.Mathlib.Numerals.{add-one}
 use native.Mathlib.Omega.{arith}
 use borrow.Author.Tests.{leb-true, le-leb}
-use lib.Dec.{leb}
-use lib.Bits.{bitOr, bitAnd, or-add-and, and-le-l, and-le-r}
+use lib.Bits.{bitOr, or-add-and, and-le-l, and-le-r}
 use Rattle.spec_rules.specs.Checks.{maxUpTo}
-use Rattle.plan_in_place.specs.form.Numbers.{word, Tops, Below, highestIn, isCalm}
+use Rattle.plan_bytes.specs.form.Numbers.{word, Below}
+use Rattle.plan_in_place.specs.form.Calm.{highestIn, isCalm}
 
 max-at : (f : ℕ → ℕ) (n k : ℕ) → k < n → f k ≤ maxUpTo f n
 unfolding maxUpTo
@@ -23,7 +23,7 @@ max-at f (suc n) k l = ⊎-elim (λ (e : k ≡ n). rw e (omega arith)) (λ (m : 
 le-here : (a b top : ℕ) → max a b ≤ top → (a ≤ top) × (b ≤ top)
 le-here a b top h = (omega arith, omega arith)
 
-pub highest-below : (b : List ℕ) (top : ℕ) → highestIn b ≤ top → Below top b
+highest-below : (b : List ℕ) (top : ℕ) → highestIn b ≤ top → Below top b
 unfolding highestIn Below
 highest-below b top h =
     let p0 = le-here (maxUpTo (λ k. word b (4 * k)) 160) _ top h in

@@ -1,16 +1,2 @@
-pub mod Stored
-pub mod Slots
-pub mod Tops
-pub mod Puts
-pub mod OneStep
-pub mod Commands
-pub mod Wholes
-pub mod Marks
-pub mod Again
-pub mod Compose
-pub mod Refreshed
-pub mod Tested
-pub mod Ranges
-pub mod Stepwise
-pub mod Planned
 pub mod Highest
+pub mod Planned

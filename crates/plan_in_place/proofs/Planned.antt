@@ -1,9 +1,9 @@
 -- The requests on bytes, one step after the other.
 -- Assumes nothing.
-use Prim.Native.Nat.{ℕ, zero, suc, _+_, _*_, _-_, _/_, _%_, _<_, _≤_, _^_}
+use Prim.Native.Nat.{ℕ, zero, suc, _+_, _-_, _/_, _%_, _<_, _≤_}
 use mathlib.Core.Path.{_≡_, refl, sym, ap, ap₂, _∙_}
-use mathlib.Core.Bool.{Bool, true, false, not, _&&_}
-use mathlib.Core.List.{List, [], _∷_}
+use mathlib.Core.Bool.{Bool, true, not, _&&_}
+use mathlib.Core.List.{List}
 use native.Mathlib.Omega.{arith}
 use borrow.Author.Tests.{leb-true, le-leb}
 use lib.Dec.{leb}
@@ -13,8 +13,8 @@ use Rattle.num.proofs.SpliceLaws.{splice-none}
 use Rattle.settings.specs.declared.Settings.{Settings}
 use Rattle.settings.specs.Settings.{valid}
 use Rattle.settings.specs.Instants.{horizon}
-use Rattle.packet.specs.declared.RowPacket.the-variants.{Act, Prer, Refa, Refp}
-use Rattle.packet.specs.declared.ColPacket.the-variants.{Nocop, Wr, Rd}
+use Rattle.packet.specs.declared.RowPacket.the-variants.{Prer, Refa, Refp}
+use Rattle.packet.specs.declared.ColPacket.the-variants.{Nocop, Rd}
 use Rattle.record.specs.declared.Dualoct.{Dualoct}
 use Rattle.record.specs.declared.Place.{Place}
 use Rattle.record.specs.declared.Record.{Record}
@@ -27,7 +27,6 @@ use Rattle.spec_rules.specs.History.{isClosed, anyWrite}
 use Rattle.spec_rules.specs.Checks.{since}
 use Rattle.spec_rules.proofs.Bools.{iff-eq}
 use Rattle.spec_rules.proofs.NeighbourLaws.{split-neighbours}
-use Rattle.spec_state.specs.ChannelBytes.{instantOf}
 use Rattle.spec_plan.specs.declared.PlannerState.{PlannerState}
 use Rattle.spec_plan.specs.Plan.{Draft, rowPacket, colPacket, when, waiting, stateIn, hits, anyWaits, sent, flushed, flushedWhile, closed, closedUpTo, reached, plannedRead, loaded, written, plannedWrite, turned, plannedRefresh, plannedWait, plannedDrain, stepsOf, planned}
 use Rattle.spec_plan.specs.Call.{listBytes, inTime, timely}
@@ -35,18 +34,20 @@ use Rattle.spec_plan.specs.PlannerBytes.{plannerBytes, plannerIn, plannerRight}
 use Rattle.spec_plan.proofs.SentLaws.{when-either, sent-refresh, while-keeps}
 use Rattle.spec_plan.proofs.PlanLaws.{Good, good-while, good-reached}
 use Rattle.spec_plan.proofs.Bound.{most}
-use Rattle.plan_in_place.specs.form.Numbers.{word, half, waitsIn, isCalm}
-use Rattle.plan_in_place.specs.form.Drawn.{bare, drafted, Ready, NearShut, Fits, Drawn}
-use Rattle.plan_in_place.proofs.Stored.{since-some, said-some, some-said}
-use Rattle.plan_in_place.proofs.Puts.{now-stored, refresh-stored}
-use Rattle.plan_in_place.proofs.OneStep.{readies, inv}
-use Rattle.plan_in_place.proofs.Marks.{Marked, marked-while, marked-reached, marked-read, marked-write, marked-refresh, marked-drain}
-use Rattle.plan_in_place.proofs.Again.{start, After, ready-call}
+use Rattle.plan_bytes.specs.form.Numbers.{word, half, waitsIn}
+use Rattle.plan_bytes.specs.form.Drawn.{bare, drafted, Ready, Fits, Drawn}
+use Rattle.plan_bytes.proofs.Since.{since-some}
+use Rattle.plan_bytes.proofs.Marks.{Marked, marked-while, marked-reached, marked-read, marked-write, marked-refresh, marked-drain}
+use Rattle.plan_bytes.proofs.Instants.{said-some, some-said}
+use Rattle.plan_bytes.proofs.Puts.{now-stored, refresh-stored}
+use Rattle.plan_bytes.proofs.ReadyLaws.{readies, inv}
+use Rattle.plan_bytes.proofs.Again.{start, After, ready-call}
+use Rattle.plan_bytes.proofs.Compose.{Blind, sent-blind, while-blind, up-to-blind, written-blind, fits-first, fits-then, drawn-then, one-sent}
+use Rattle.plan_steps.proofs.Tested.{waits-is}
+use Rattle.plan_steps.proofs.Ranges.{up-to-ext}
+use Rattle.plan_steps.proofs.Stepwise.{any-waits, while-is, good, after-of, cleared-first, cleared-fits, cleared-drawn}
+use Rattle.plan_in_place.specs.form.Calm.{isCalm}
 use Rattle.plan_in_place.proofs.Highest.{calm-below}
-use Rattle.plan_in_place.proofs.Compose.{Blind, sent-blind, while-blind, up-to-blind, written-blind, drawn-room, fits-first, fits-then, drawn-then}
-use Rattle.plan_in_place.proofs.Tested.{waits-is}
-use Rattle.plan_in_place.proofs.Ranges.{up-to-ext}
-use Rattle.plan_in_place.proofs.Stepwise.{one-sent, any-waits, while-is, good, after-of, cleared-after, cleared-shut, cleared-first, cleared-fits, cleared-drawn}
 
 two-written : (cx : Context) (at : Place) (mask : ℕ) (d : Dualoct) (p : PlannerState) → length (written cx at mask d (bare p) .records) ≡ 2
 unfolding written loaded sent
@@ -167,7 +168,7 @@ module _ (s : Settings) (b : List ℕ) (k : Ready s 999990000 b) (room : List �
   abbrev bank : ℕ
   bank = plannerIn b .refresh
 
-  pub bank-is : half b 756 ≡ bank
+  bank-is : half b 756 ≡ bank
   unfolding plannerIn
   bank-is = refl
 

@@ -1,3 +1,1 @@
-pub mod Numbers
-pub mod Slots
-pub mod Drawn
+pub mod Calm

@@ -3,9 +3,10 @@ ghost use mathlib.Core.Path.{_≡_};
 ghost use Prim.Native.Nat.{_*_, _≤_};
 ghost use lib.ListN.{length};
 ghost use Rattle.spec_rules.specs.Checks.{maxUpTo};
-ghost use Rattle.plan_in_place.specs.form.Numbers.{word, highestIn, isCalm};
-use crate::fields::latest;
+ghost use Rattle.plan_bytes.specs.form.Numbers.{word};
+ghost use Rattle.plan_in_place.specs.form.Calm.{highestIn, isCalm};
 use num::u32_at;
+use plan_bytes::latest;
 
 // All instants of the banks, or-ed: none of them is above that.
 fn banks_top(b: &[u8]) -> u32

@@ -3,8 +3,8 @@ use Prim.Native.Nat.{_*_, _-_, _≤_}
 use mathlib.Core.Path.{_≡_, refl}
 use native.Mathlib.Omega.{arith}
 use Rattle.spec_rules.specs.Checks.{maxUpTo}
-use Rattle.plan_in_place.specs.form.Numbers.{word}
-use Rattle.plan_in_place.proofs.Wholes.{max-step}
+use Rattle.plan_bytes.specs.form.Numbers.{word}
+use Rattle.plan_bytes.proofs.Wholes.{max-step}
 use borrow.Author.Needs.{needs}
 use Rattle.plan_in_place.proofs.calm.banks_highest.Statement.{statement}
 use Rattle.plan_in_place.proofs.calm.banks_highest.Tie as tie

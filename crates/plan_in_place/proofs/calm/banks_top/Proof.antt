@@ -3,7 +3,7 @@ use Prim.Native.Nat.{_*_, _-_, _≤_}
 use mathlib.Core.Path.{_≡_, refl}
 use native.Mathlib.Omega.{arith}
 use Rattle.spec_rules.specs.Checks.{maxUpTo}
-use Rattle.plan_in_place.specs.form.Numbers.{word}
+use Rattle.plan_bytes.specs.form.Numbers.{word}
 use Rattle.plan_in_place.proofs.Highest.{or-step}
 use borrow.Author.Needs.{needs}
 use Rattle.plan_in_place.proofs.calm.banks_top.Statement.{statement}

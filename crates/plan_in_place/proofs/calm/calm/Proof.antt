@@ -1,5 +1,5 @@
 -- `plan_in_place::calm::calm` meets its contract.
-use Rattle.plan_in_place.specs.form.Numbers.{isCalm}
+use Rattle.plan_in_place.specs.form.Calm.{isCalm}
 use Rattle.plan_in_place.proofs.Highest.{low-calm}
 use borrow.Author.Needs.{needs}
 use Rattle.plan_in_place.proofs.calm.calm.Statement.{statement}

@@ -1,5 +1,5 @@
 -- `plan_in_place::calm::highest` meets its contract.
-use Rattle.plan_in_place.specs.form.Numbers.{highestIn}
+use Rattle.plan_in_place.specs.form.Calm.{highestIn}
 use borrow.Author.Needs.{needs}
 use Rattle.plan_in_place.proofs.calm.highest.Statement.{statement}
 use Rattle.plan_in_place.proofs.calm.highest.Tie as tie

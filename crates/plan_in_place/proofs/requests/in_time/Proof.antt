@@ -1,7 +1,7 @@
 -- `plan_in_place::requests::in_time` meets its contract.
 use mathlib.Core.Path.{sym}
 use native.Mathlib.Omega.{arith}
-use Rattle.plan_in_place.proofs.OneStep.{ready-length}
+use Rattle.plan_bytes.proofs.ReadyLaws.{ready-length}
 use Rattle.plan_in_place.proofs.Planned.{ready-plan, calm-timely, wait-timely}
 use borrow.Author.Needs.{needs}
 use Rattle.plan_in_place.proofs.requests.in_time.Statement.{statement}

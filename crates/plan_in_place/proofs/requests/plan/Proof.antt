@@ -1,7 +1,7 @@
 -- `plan_in_place::requests::plan` meets its contract.
 use mathlib.Core.Path.{refl}
 use native.Mathlib.Omega.{arith}
-use Rattle.plan_in_place.proofs.OneStep.{ready-length}
+use Rattle.plan_bytes.proofs.ReadyLaws.{ready-length}
 use Rattle.plan_in_place.proofs.Planned.{ready-plan, called-read, called-write, called-refresh, called-wait, called-drain}
 use borrow.Author.Needs.{needs}
 use Rattle.plan_in_place.proofs.requests.plan.Statement.{statement}

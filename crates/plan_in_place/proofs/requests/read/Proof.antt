@@ -1,7 +1,7 @@
 -- `plan_in_place::requests::read` meets its contract.
 use native.Mathlib.Omega.{arith}
-use Rattle.plan_in_place.specs.form.Drawn.{drafted}
-use Rattle.plan_in_place.proofs.Again.{ready-more}
+use Rattle.plan_bytes.specs.form.Drawn.{drafted}
+use Rattle.plan_bytes.proofs.Again.{ready-more}
 use Rattle.plan_in_place.proofs.Planned.{hit-waits, reached-after, read-first, flush-fits, read-after, read-room, read-drawn}
 use borrow.Author.Needs.{needs}
 use Rattle.plan_in_place.proofs.requests.read.Statement.{statement}

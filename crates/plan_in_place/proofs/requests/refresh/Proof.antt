@@ -1,6 +1,6 @@
 -- `plan_in_place::requests::refresh` meets its contract.
 use native.Mathlib.Omega.{arith}
-use Rattle.plan_in_place.proofs.Stepwise.{cleared-after, cleared-shut}
+use Rattle.plan_steps.proofs.Stepwise.{cleared-after, cleared-shut}
 use Rattle.plan_in_place.proofs.Planned.{bank-in, refresh-first, refresh-room, refresh-drawn}
 use borrow.Author.Needs.{needs}
 use Rattle.plan_in_place.proofs.requests.refresh.Statement.{statement}

@@ -1,0 +1,45 @@
+-- Stored instants: the instant that a stored number says goes through the later of two and through a distance.
+-- Assumes nothing.
+use Prim.Native.Nat.{ℕ, _+_, _≤_, max}
+use mathlib.Core.Path.{_≡_, refl}
+use native.Mathlib.Omega.{arith}
+use Rattle.spec_rules.specs.Checks.{since}
+use Rattle.spec_state.specs.ChannelBytes.{instantOf}
+use Rattle.chan_view.proofs.BoundLaws.{since-max}
+use Rattle.spec_plan.specs.declared.PlannerState.{PlannerState}
+use Rattle.plan_bytes.proofs.Since.{either-instant, since-some, since-none}
+
+pub said-max : (a b : ℕ) → instantOf (max a b) ≡ max (instantOf a) (instantOf b)
+said-max a b = since-max a b 3
+
+-- a distance after a stored instant
+pub said-since : (a g : ℕ) → instantOf (since a g) ≡ since (instantOf a) g
+said-since a g =
+    either-instant (λ a. instantOf (since a g) ≡ since (instantOf a) g) a refl
+    (λ l. rw (since-some a g l, since-some a 3 l, since-some (a + g) 3 (omega arith), since-some (a + 3) g (omega arith)) (omega arith))
+
+-- an instant is its stored number and 3
+pub said-some : (a : ℕ) → 1 ≤ a → instantOf a ≡ a + 3
+said-some a l = since-some a 3 l
+
+pub some-said : (a : ℕ) → 4 ≤ instantOf a → 1 ≤ a
+some-said a = either-instant (λ a. 4 ≤ instantOf a → 1 ≤ a) a (λ h. absurd (omega arith)) (λ l _. l)
+
+-- a bound of the instant is one of the number, and back
+pub said-top : (a top : ℕ) → instantOf a ≤ top + 3 → a ≤ top
+said-top a top = either-instant (λ a. instantOf a ≤ top + 3 → a ≤ top) a (λ h. omega arith) (λ l h. omega (arith, said-some a l))
+
+pub top-said : (a top : ℕ) → a ≤ top → instantOf a ≤ top + 3
+top-said a top = either-instant (λ a. a ≤ top → instantOf a ≤ top + 3) a (λ h. omega arith) (λ l h. omega (arith, said-some a l))
+
+-- now, which is at least 4, the last packet and one more bound before the others
+floor : (n l r k : ℕ) → 4 ≤ n → max n (max 4 (max l (max r k))) ≡ max (max (max n l) r) k
+floor n l r k h = let e : max n 4 ≡ n = omega arith in simp (max-left, e)
+  where
+    max-left : (a b c : ℕ) → max a (max b c) ≡ max (max a b) c
+    max-left a b c = omega arith
+
+-- the floor of a packet: now, the last packet and one more bound
+pub floored : (p : PlannerState) → 4 ≤ p .now .0 → (base k : ℕ)
+    → max (p .now .0) (max 4 (max (since (p .channel .lasts .packet .0) 0) (max base k))) ≡ max (max (max (p .now .0) (p .channel .lasts .packet .0)) base) k
+floored p low base k = rw (since-none (p .channel .lasts .packet .0)) (floor (p .now .0) (p .channel .lasts .packet .0) base k low)

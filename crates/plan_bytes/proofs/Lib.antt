@@ -1,0 +1,10 @@
+pub mod Since
+pub mod Tops
+pub mod Marks
+pub mod Instants
+pub mod States
+pub mod Puts
+pub mod ReadyLaws
+pub mod Again
+pub mod Compose
+pub mod Wholes

@@ -1,0 +1,192 @@
+-- Every step of the plan keeps all instants below a top that rises by at most 128 with each packet, and the records in time.
+-- Assumes nothing.
+use Prim.Native.Nat.{ℕ, zero, suc, _+_, _*_, _≤_, max}
+use mathlib.Core.Path.{_≡_}
+use mathlib.Core.Bool.{Bool, true, not, _&&_}
+use mathlib.Core.List.{List, [], _∷_, _++_}
+use native.Mathlib.Omega.{arith}
+use borrow.Author.Tests.{le-leb}
+use lib.Dec.{leb}
+use Rattle.settings.specs.declared.Settings.{Settings}
+use Rattle.settings.specs.Settings.{valid}
+use Rattle.settings.specs.Instants.{horizon, isInstant}
+use Rattle.settings.proofs.SettingsLaws.{bounds}
+use Rattle.packet.specs.declared.RowPacket.the-variants.{Act, Prer, Refa, Refp}
+use Rattle.packet.specs.declared.ColPacket.the-variants.{Nocop, Wr, Rd}
+use Rattle.record.specs.declared.Dualoct.{Dualoct}
+use Rattle.record.specs.declared.Place.{Place}
+use Rattle.record.specs.declared.Record.{Record}
+use Rattle.record.specs.declared.Record.the-variants.{RowAt, ColAt, DataOf}
+use Rattle.spec_rules.specs.declared.Write.{Write}
+use Rattle.spec_rules.specs.Neighbour.{bankCount, Context, contextOf, near}
+use Rattle.spec_rules.specs.Packets.{instant}
+use Rattle.spec_rules.specs.History.{isClosed, anyWrite}
+use Rattle.spec_rules.specs.Rules.{dataDelay}
+use Rattle.spec_rules.specs.Channel.{leavingOf}
+use Rattle.spec_rules.specs.Earliest.{earliest, leastFrom}
+use Rattle.spec_rules.proofs.Bools.{and-left, and-right}
+use Rattle.spec_rules.proofs.EarliestLaws.{moved-instant, picked-late}
+use Rattle.spec_state.proofs.Stamps.{Stamped, after-stamped}
+use Rattle.spec_plan.specs.declared.PlannerState.{PlannerState}
+use Rattle.spec_plan.specs.Plan.{Draft, rowPacket, colPacket, when, waiting, stateIn, openOn, hits, anyWaits, carried, slot, leaver, placedIn, sent, flushed, flushedWhile, closed, closedUpTo, reached, plannedRead, loaded, written, plannedWrite, turned, plannedRefresh, plannedDrain}
+use Rattle.spec_plan.specs.Call.{inTime}
+use Rattle.spec_plan.proofs.SentLaws.{when-either}
+use Rattle.plan_bytes.proofs.Tops.{after-all, Under, under-more, least-top}
+
+-- a draft whose instants are none or from 4 to a top, and whose records are in time
+pub record Marked (s : Settings) (top : ℕ) (d : Draft) : Type 0 where
+  pub stamped : Stamped (d .planner .channel)
+  pub under : Under top (d .planner .channel)
+  pub low : 4 ≤ d .planner .now .0
+  pub now : d .planner .now .0 ≤ top
+  pub timely : inTime (contextOf s) (d .records) ≡ true
+
+pub marked-more : (s : Settings) (top high : ℕ) → top ≤ high → (d : Draft) → Marked s top d → Marked s high d
+marked-more s top high l d k =
+    record { stamped = k .stamped; under = under-more top high l (d .planner .channel) (k .under); low = k .low; now = omega (arith, k .now); timely = k .timely }
+
+in-time-more : (cx : Context) (l : List Record) (r : Record) → inTime cx l ≡ true → instant r + dataDelay cx r ≤ horizon → inTime cx (l ++ (r ∷ [])) ≡ true
+unfolding inTime
+in-time-more cx [] r e h = rw (le-leb (instant r + dataDelay cx r) horizon h)
+in-time-more cx (q ∷ l) r e h = rw (and-left (leb (instant q + dataDelay cx q) horizon) _ e) (in-time-more cx l r (and-right (leb (instant q + dataDelay cx q) horizon) _ e) h)
+
+-- the last instant up to which a step is followed
+abbrev pub far : ℕ
+far = 999999900
+
+module _ (s : Settings) (v : valid s ≡ true) where
+  abbrev cx : Context
+  cx = contextOf s
+
+  delay-most : (r : Record) → dataDelay cx r ≤ 12
+  unfolding dataDelay contextOf
+  delay-most (RowAt t p) = omega arith
+  delay-most (ColAt t (Nocop m)) = omega arith
+  delay-most (ColAt t (Wr b c m)) = omega (arith, bounds s v .cwd-cac, bounds s v .cac-most)
+  delay-most (ColAt t (Rd b c m)) = bounds s v .cac-most
+  delay-most (DataOf t d) = omega arith
+
+  is-instant : (t : ℕ) → 4 ≤ t → t ≤ horizon → isInstant t ≡ true
+  is-instant t l h = rw (le-leb 4 t l, le-leb t horizon h)
+
+  module _ (top : ℕ) (d : Draft) (k : Marked s top d) (h : top ≤ far) where
+    abbrev p : PlannerState
+    p = d .planner
+
+    pub slot-most : (r : Record) → slot cx p r ≤ top + 64
+    unfolding slot contextOf
+    slot-most r = least-top cx (p .channel) top (k .under) v r (p .now .0) (k .now)
+
+    slot-least : (r : Record) → 4 ≤ slot cx p r
+    unfolding slot leastFrom
+    slot-least r = omega (arith, picked-late cx (p .channel) r (max (p .now .0) (earliest cx (p .channel) r)) (leavingOf cx (p .channel) r), k .low)
+
+    -- a packet
+    pub marked-sent : (r : Record) → Marked s (top + 64) (sent cx r d)
+    unfolding sent
+    marked-sent r =
+        let q : Record = placedIn cx p r in
+        let t : ℕ = slot cx p r in
+        let e : instant q ≡ t = moved-instant cx (p .channel) t (carried (leaver cx p r) (p .mask)) r in
+        let most : t ≤ top + 64 = slot-most r in
+        let least : 4 ≤ t = slot-least r in
+        record {
+          stamped = after-stamped cx (p .channel) (k .under .lasts .size) (k .stamped) q (rw e (is-instant t least (omega arith)));
+          under = after-all (λ t. t ≤ top + 64) cx (p .channel) (under-more top (top + 64) (omega arith) (p .channel) (k .under)) q (rw e most);
+          low = least;
+          now = most;
+          timely = in-time-more cx (d .records) q (k .timely) (omega (arith, delay-most q));
+        }
+
+    -- the data of a WR
+    pub marked-loaded : (mask : ℕ) (bytes : Dualoct) → Marked s (top + 64) (loaded cx mask bytes d)
+    unfolding loaded instant dataDelay contextOf
+    marked-loaded mask bytes =
+        let t : ℕ = p .now .0 + s .cwd in
+        let q : Record = DataOf (record { 0 = t }) bytes in
+        let least = k .low in
+        let now = k .now in
+        let most : t ≤ top + 12 = omega (arith, bounds s v .cwd-cac, bounds s v .cac-most) in
+        record {
+          stamped = after-stamped cx (p .channel) (k .under .lasts .size) (k .stamped) q (is-instant t (omega arith) (omega arith));
+          under = after-all (λ t. t ≤ top + 64) cx (p .channel) (under-more top (top + 64) (omega arith) (p .channel) (k .under)) q (omega arith);
+          low = least;
+          now = omega arith;
+          timely = in-time-more cx (d .records) q (k .timely) (omega arith);
+        }
+
+    pub marked-turned : Marked s top (turned cx d)
+    unfolding turned
+    marked-turned = record { stamped = k .stamped; under = k .under; low = k .low; now = k .now; timely = k .timely }
+
+  -- ---- steps
+
+  pub marked-when : (b : Bool) (top : ℕ) (d : Draft) → Marked s top d → top ≤ far → Marked s (top + 64) (when b (flushed cx) d)
+  unfolding flushed
+  marked-when b top d k h = when-either (Marked s (top + 64)) b (flushed cx) d (λ _. marked-sent top d k h (colPacket (Nocop 0xFFFF))) (λ _. marked-more s top (top + 64) (omega arith) d k)
+
+  pub marked-while : (test : List Write → Bool) (top : ℕ) (d : Draft) → Marked s top d → top ≤ far → Marked s (top + 64) (flushedWhile cx test d)
+  unfolding flushedWhile
+  marked-while test top d k h = marked-when (test (waiting d)) top d k h
+
+  pub marked-closed : (x top : ℕ) (d : Draft) → Marked s top d → top + 64 ≤ far → Marked s (top + 128) (closed cx x d)
+  unfolding closed
+  marked-closed x top d k h =
+      let test : List Write → Bool = anyWrite (λ w. near cx x (w .bank)) in
+      let m = marked-sent (top + 64) (flushedWhile cx test d) (marked-while test top d k (omega arith)) h (rowPacket (Prer x)) in
+      marked-more s (top + 64 + 64) (top + 128) (omega arith) _ m
+
+  pub marked-up-to : (pick : ℕ → Bool) (n top : ℕ) (d : Draft) → Marked s top d → top + 128 * n ≤ far → Marked s (top + 128 * n) (closedUpTo cx pick n d)
+  unfolding closedUpTo
+  marked-up-to pick zero top d k h = marked-more s top (top + 128 * 0) (omega arith) d k
+  marked-up-to pick (suc n) top d k h =
+      let z : Draft = closedUpTo cx pick n d in
+      let m : Marked s (top + 128 * n) z = marked-up-to pick n top d k (omega arith) in
+      when-either (Marked s (top + 128 * suc n)) (pick n && not (isClosed (stateIn z n))) (closed cx n) z
+      (λ _. marked-more s (top + 128 * n + 128) (top + 128 * suc n) (omega arith) _ (marked-closed n (top + 128 * n) z m (omega arith)))
+      (λ _. marked-more s (top + 128 * n) (top + 128 * suc n) (omega arith) z m)
+
+  pub marked-all : (pick : ℕ → Bool) (top : ℕ) (d : Draft) → Marked s top d → top + 4096 ≤ far → Marked s (top + 4096) (closedUpTo cx pick bankCount d)
+  unfolding bankCount
+  marked-all pick top d k h = marked-up-to pick 32 top d k h
+
+  pub marked-reached : (bank row top : ℕ) (d : Draft) → Marked s top d → top + 4096 ≤ far → Marked s (top + 4160) (reached cx bank row d)
+  unfolding reached
+  marked-reached bank row top d k h =
+      when-either (Marked s (top + 4160)) (not (openOn (stateIn d bank) row)) (λ d. sent cx (rowPacket (Act bank row)) (closedUpTo cx (near cx bank) bankCount d)) d
+      (λ _. marked-more s (top + 4096 + 64) (top + 4160) (omega arith) _ (marked-sent (top + 4096) _ (marked-all (near cx bank) top d k h) h (rowPacket (Act bank row))))
+      (λ _. marked-more s top (top + 4160) (omega arith) d k)
+
+  -- ---- requests
+
+  module _ (top : ℕ) (d : Draft) (k : Marked s top d) (h : top + 4400 ≤ far) where
+    pub marked-read : (at : Place) → Marked s (top + 4400) (plannedRead cx at d)
+    unfolding plannedRead
+    marked-read at =
+        let z : Draft = reached cx (at .bank) (at .row) d in
+        let m : Marked s (top + 4160) z = marked-reached (at .bank) (at .row) top d k (omega arith) in
+        let test : List Write → Bool = anyWrite (hits (at .bank) (at .column)) in
+        marked-more s (top + 4160 + 64 + 64) (top + 4400) (omega arith) _ (marked-sent (top + 4160 + 64) (flushedWhile cx test z) (marked-while test (top + 4160) z m (omega arith)) (omega arith) (colPacket (Rd (at .bank) (at .column) 0xFFFF)))
+
+    pub marked-write : (at : Place) (mask : ℕ) (bytes : Dualoct) → Marked s (top + 4400) (plannedWrite cx at mask bytes d)
+    unfolding plannedWrite written
+    marked-write at mask bytes =
+        let z : Draft = reached cx (at .bank) (at .row) d in
+        let m : Marked s (top + 4160) z = marked-reached (at .bank) (at .row) top d k (omega arith) in
+        let r : Record = colPacket (Wr (at .bank) (at .column) 0xFFFF) in
+        marked-more s (top + 4160 + 64 + 64) (top + 4400) (omega arith) _ (marked-loaded (top + 4160 + 64) (sent cx r z) (marked-sent (top + 4160) z m (omega arith) r) (omega arith) mask bytes)
+
+    pub marked-refresh : Marked s (top + 4400) (plannedRefresh cx d)
+    unfolding plannedRefresh
+    marked-refresh =
+        let b : ℕ = d .planner .refresh in
+        let z : Draft = closedUpTo cx (near cx b) bankCount d in
+        let m : Marked s (top + 4096) z = marked-all (near cx b) top d k (omega arith) in
+        let y : Draft = sent cx (rowPacket (Refa b)) z in
+        let n : Marked s (top + 4096 + 64) y = marked-sent (top + 4096) z m (omega arith) (rowPacket (Refa b)) in
+        let x : Draft = sent cx (rowPacket (Refp b)) y in
+        marked-more s (top + 4096 + 64 + 64) (top + 4400) (omega arith) _ (marked-turned (top + 4096 + 64 + 64) x (marked-sent (top + 4096 + 64) y n (omega arith) (rowPacket (Refp b))) (omega arith))
+
+    pub marked-drain : Marked s (top + 4400) (plannedDrain cx d)
+    unfolding plannedDrain
+    marked-drain = marked-more s (top + 64 + 4096) (top + 4400) (omega arith) _ (marked-all (λ x. true) (top + 64) (flushedWhile cx anyWaits d) (marked-while anyWaits top d k (omega arith)) (omega arith))

@@ -1,0 +1,165 @@
+-- What ready bytes say of the state, and what a stored number says of the least instant of a packet.
+-- Assumes nothing.
+use Prim.Native.Nat.{ℕ, _+_, _*_, _-_, _<_, _≤_, _^_, max}
+use mathlib.Core.Path.{_≡_, refl, sym, ap, _∙_}
+use mathlib.Core.Bool.{Bool, true, false, cond}
+use mathlib.Core.List.{List}
+use native.Mathlib.Omega.{arith}
+use borrow.Author.Tests.{leb-true}
+use lib.Dec.{eqb, leb, ltb}
+use lib.ListN.{length, getD}
+use Rattle.settings.specs.declared.Settings.{Settings}
+use Rattle.settings.specs.Instants.{isInstant}
+use Rattle.settings.proofs.SettingsLaws.{bounds}
+use Rattle.record.specs.declared.Record.{Record}
+use Rattle.spec_rules.specs.declared.Buffer.{Buffer}
+use Rattle.spec_rules.specs.declared.Buffer.the-variants.{Empty, One}
+use Rattle.spec_rules.specs.Neighbour.{bankCount, contextOf}
+use Rattle.spec_rules.specs.History.{allWrites}
+use Rattle.spec_rules.specs.Channel.{waitingOf, leavingOf}
+use Rattle.spec_rules.specs.Earliest.{leastFrom, earliest}
+use Rattle.spec_rules.proofs.Bools.{and-left, and-right}
+use Rattle.spec_rules.proofs.EarliestLaws.{picked-late}
+use Rattle.spec_state.specs.Valid.{writeValid}
+use Rattle.spec_state.specs.ChannelBytes.{instantOf, trackIn, lastsIn, writeIn, bufferIn, channelIn}
+use Rattle.spec_state.proofs.RoundTrip.{stored-in}
+use Rattle.spec_state.proofs.StoreLaws.{WriteIn}
+use Rattle.spec_plan.specs.declared.PlannerState.{PlannerState}
+use Rattle.spec_plan.specs.Plan.{slot}
+use Rattle.spec_plan.specs.PlannerBytes.{plannerIn}
+use Rattle.spec_plan.proofs.Invariant.{Inv, Tested, WritesIn, valid-tested, valid-inv}
+use Rattle.spec_plan.proofs.PlannerRoundTrip.{planner-length}
+use Rattle.plan_bytes.specs.form.Numbers.{word, waitsIn, heldBank, Tops, Below}
+use Rattle.plan_bytes.specs.form.Drawn.{Readies, Ready}
+use Rattle.plan_bytes.proofs.Tops.{TrackAll, WritesAll, Under, least-top}
+use Rattle.plan_bytes.proofs.Instants.{top-said}
+use Rattle.plan_bytes.proofs.States.{Early, track-at, held-is}
+use Rattle.plan_bytes.proofs.Puts.{Plain, BankIn}
+
+-- ---- what ready bytes say
+
+-- a stored instant that is below a top
+instant-top : (b : List ℕ) (top at k : ℕ) → Tops top b → k < 160 → 4 * k ≡ at → instantOf (word b at) ≤ top + 3
+instant-top b top at k t l e = rw e at (top-said (word b (4 * k)) top (t .banks k l))
+
+module _ (s : Settings) (top : ℕ) (b : List ℕ) (k : Ready s top b) where
+  pub readies : Readies s top b
+  unfolding Ready
+  readies = k
+
+  tops : Tops top b
+  unfolding Below
+  tops = readies .below
+
+  abbrev p : PlannerState
+  p = plannerIn b
+
+  pub inv : Inv (contextOf s) p
+  inv = valid-inv (contextOf s) p (readies .right)
+
+  pub ready-length : length b ≡ 768
+  ready-length = ap length (sym (readies .exact)) ∙ planner-length p
+
+  pub device-in : s .device < 32
+  device-in = omega (arith, bounds s (readies .figures) .device-most)
+
+  tested : Tested (contextOf s) p
+  tested = valid-tested (contextOf s) p (readies .right)
+
+  write-fits : (buffer : Buffer) → WritesIn (contextOf s) (waitingOf buffer) → WriteIn buffer × BankIn buffer
+  unfolding waitingOf bankCount contextOf
+  write-fits Empty i = (tt, tt)
+  write-fits (One w) i = ((omega arith, omega (arith, bounds s (readies .figures) .columns-most)), i .0 .0)
+
+  pub plain : Plain (p .channel)
+  unfolding bankCount
+  plain = record { size = inv .size; write = write-fits (p .channel .buffer) (inv .held .write-in) .0; no-due = inv .held .no-due }
+
+  pub bank-in : BankIn (p .channel .buffer)
+  bank-in = write-fits (p .channel .buffer) (inv .held .write-in) .1
+
+  pub early : Early (p .channel .buffer)
+  unfolding waitingOf writeValid
+  early = go (p .channel .buffer) (tested .write)
+    where
+      go : (buffer : Buffer) → allWrites (writeValid (contextOf s)) (waitingOf buffer) ≡ true → Early buffer
+      go Empty e = tt
+      go (One w) e =
+          let at : isInstant (w .at .0) ≡ true = and-right (ltb (w .column) _) _ (and-right (ltb (w .bank) _) _ (and-left (writeValid (contextOf s) w) _ e)) in
+          leb-true 4 (w .at .0) (and-left (leb 4 (w .at .0)) _ at)
+
+  -- the bank of the waiting write
+  pub held-bank : waitsIn b ≡ true → heldBank b < 32
+  held-bank e = rw (held-is b e) at bank-in
+
+  pub held-early : waitsIn b ≡ true → 4 ≤ writeIn b 736 .at .0
+  held-early e = rw (held-is b e) at early
+
+  track-top : (x : ℕ) → x < 32 → TrackAll (λ t. t ≤ top + 3) (trackIn b x)
+  unfolding trackIn
+  track-top x l =
+      record {
+        opened = instant-top b top (4 * x) x tops (omega arith) refl;
+        act = instant-top b top (128 + 4 * x) (32 + x) tops (omega arith) (omega arith);
+        pre = instant-top b top (256 + 4 * x) (64 + x) tops (omega arith) (omega arith);
+        rd = instant-top b top (384 + 4 * x) (96 + x) tops (omega arith) (omega arith);
+        retire = instant-top b top (512 + 4 * x) (128 + x) tops (omega arith) (omega arith);
+      }
+
+  writes-top : WritesAll (λ t. t ≤ top + 3) (waitingOf (bufferIn b))
+  unfolding bufferIn waitingOf
+  writes-top = go (eqb (getD b 728 0) 0) refl
+    where
+      go : (q : Bool) → eqb (getD b 728 0) 0 ≡ q → WritesAll (λ t. t ≤ top + 3) (waitingOf (cond q Empty (One (writeIn b 736))))
+      go true e = tt
+      go false e = (top-said (word b 740) top (tops .wrote (rw e)), tt)
+
+  pub under-top : Under (top + 3) (p .channel)
+  unfolding plannerIn channelIn lastsIn bankCount
+  under-top =
+      record {
+        lasts = record {
+          size = inv .size;
+          banks = λ x l. rw (track-at b x l) (track-top x l);
+          packet = top-said (word b 704) top (tops .packet);
+          row = top-said (word b 708) top (tops .row);
+          col = top-said (word b 712) top (tops .col);
+          pre = top-said (word b 716) top (tops .pre);
+          rd = top-said (word b 720) top (tops .rd);
+        };
+        writes = writes-top;
+      }
+
+  pub now-top : p .now .0 ≤ top + 3
+  unfolding plannerIn
+  now-top = top-said (word b 752) top (tops .now)
+
+  pub slot-top : (r : Record) → slot (contextOf s) p r ≤ top + 67
+  unfolding slot contextOf
+  slot-top r = omega (arith, least-top (contextOf s) (p .channel) (top + 3) under-top (readies .figures) r (p .now .0) now-top)
+
+-- ---- least instants
+
+module _ (s : Settings) (b : List ℕ) where
+  -- a stored number that says the least instant of a packet
+  pub record Says (v : ℕ) (r : Record) : Type 0 where
+    pub stored : v ≡ slot (contextOf s) (plannerIn b) r - 3
+    pub instant : v + 3 ≡ slot (contextOf s) (plannerIn b) r
+    pub fits : v + 3 < 2 ^ 32 - 64
+
+  slot-low : 4 ≤ plannerIn b .now .0 → (r : Record) → 4 ≤ slot (contextOf s) (plannerIn b) r
+  unfolding slot leastFrom
+  slot-low low r =
+      let p : PlannerState = plannerIn b in
+      let t0 : ℕ = max (p .now .0) (earliest (contextOf s) (p .channel) r) in
+      omega (arith, picked-late (contextOf s) (p .channel) r t0 (leavingOf (contextOf s) (p .channel) r))
+
+  pub says : 4 ≤ plannerIn b .now .0 → (v : ℕ) (r : Record) → slot (contextOf s) (plannerIn b) r ≤ 999999100 → instantOf v ≡ slot (contextOf s) (plannerIn b) r → Says v r
+  says low v r m e =
+      let a : v ≡ slot (contextOf s) (plannerIn b) r - 3 = sym (stored-in v) ∙ ap (λ (n : ℕ). n - 3) e in
+      let l = slot-low low r in
+      record { stored = a; instant = omega arith; fits = omega arith }
+
+-- on ready bytes
+pub said : (s : Settings) (top : ℕ) (b : List ℕ) (k : Ready s top b) → top ≤ 999999000 → (v : ℕ) (r : Record) → instantOf v ≡ slot (contextOf s) (plannerIn b) r → Says s b v r
+said s top b k h v r e = says s b (inv s top b k .low) v r (omega (arith, slot-top s top b k r)) e

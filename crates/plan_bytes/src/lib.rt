@@ -1,0 +1,64 @@
+// Numbers in the bytes of a planner, and records as bytes. Sums are made in 64 bits.
+ghost use mathlib.Core.Path.{_≡_};
+ghost use Prim.Native.Nat.{_+_, _<_, _≤_, max, _^_};
+ghost use lib.ListN.{length};
+ghost use Rattle.num.specs.Bytes.{splice};
+ghost use Rattle.record.specs.Record.{recordFields};
+ghost use Rattle.spec_rules.specs.Checks.{since};
+ghost use Rattle.plan_bytes.specs.form.Numbers.{word, waitsIn, heldBank};
+use chan_view::bounds::after_gap;
+use num::u32_at;
+use puts::put_u64;
+use settings::PacketAt;
+
+// The stored instant at a place.
+pub fn stored(b: &[u8], at: usize) -> u64
+    requires { ⌜ at + 4 ≤ length (now b) ⌝ }
+    ensures { λ r. ⌜ r ≡ word (now (b .entry)) at ⌝ }
+{
+    num::wide32(u32_at(b, at))
+}
+
+// What the instant at a place and a distance ask; none asks nothing.
+pub fn after(b: &[u8], at: usize, gap: u32) -> u64
+    requires { ⌜ at + 4 ≤ length (now b) ⌝ }
+    ensures { λ r. ⌜ r ≡ since (word (now (b .entry)) at) gap ⌝ }
+{
+    after_gap(PacketAt(u32_at(b, at)), gap)
+}
+
+// The later of two.
+pub fn latest(a: u32, b: u32) -> u32
+    ensures { λ r. ⌜ r ≡ max a b ⌝ }
+{
+    if a < b { b } else { a }
+}
+
+// Whether a write waits.
+pub fn waits(b: &[u8]) -> bool
+    requires { ⌜ length (now b) ≡ 768 ⌝ }
+    ensures { λ r. ⌜ r ≡ waitsIn (now (b .entry)) ⌝ }
+{
+    num::wide(b[728]) != 0
+}
+
+// The bank that it waits for.
+pub fn held_bank(b: &[u8]) -> u32
+    requires { ⌜ length (now b) ≡ 768 ⌝ }
+    ensures { λ r. ⌜ (r ≡ heldBank (now (b .entry))) × (r < 256) ⌝ }
+{
+    num::wide(b[736])
+}
+
+// A record. Its instant comes as it is stored in a state, less 3.
+pub fn put_record(out: &mut [u8], at: usize, stored: u64, kind: u64, word: u64, dqa: u64, dqb: u64)
+    requires { ⌜ at + 32 ≤ length (now out) ⌝ }
+    requires { ⌜ stored + 3 < 2 ^ 32 ⌝ }
+    requires { ⌜ kind < 256 ⌝ }
+    ensures { λ _. ⌜ now (out .exit) ≡ splice (now (out .entry)) at (recordFields (stored + 3) kind word dqa dqb) ⌝ }
+{
+    put_u64(out, at, stored + 3 + 4294967296 * kind);
+    put_u64(out, at + 8, word);
+    put_u64(out, at + 16, dqa);
+    put_u64(out, at + 24, dqb);
+}

@@ -1,0 +1,34 @@
+-- `plan_cols::put_left` meets its contract.
+use mathlib.Core.Path.{sym, _∙_}
+use native.Mathlib.Omega.{arith}
+use Rattle.spec_state.specs.form.Stores.{retireStored}
+use Rattle.plan_cols.specs.form.Slots.{leftStored}
+use borrow.Author.Needs.{needs}
+use Rattle.plan_cols.proofs.put_left.Statement.{statement}
+use Rattle.plan_cols.proofs.put_left.Tie as tie
+
+put-u32-requires : tie.Need-put-u32-requires
+put-u32-requires c κs = omega (arith, c .before .held-bank .ensures .0, c .before .before .before .before .before .before .before .pre .1 (sym (c .before .before .before .before .waits .ensures) ∙ c .before .before .before .if1 .taken))
+
+returns : tie.Need-returns
+unfolding leftStored retireStored
+returns c = rw (← c .before .before .before .before .before .before .before .waits .ensures, c .before .before .before .before .before .before .if1 .taken) (rw (c .before .before .before .before .held-bank .ensures .0) at (c .before .before .put-u32 .ensures))
+
+returns-2 : tie.Need-returns-2
+unfolding leftStored
+returns-2 c = rw (← c .before .waits .ensures, c .if1 .left)
+
+pub put-left-spec : {M : Type 1} → statement M
+put-left-spec =
+    tie.close
+    (tie.spec
+    (λ c κs. search needs)
+    (λ c κs. search needs)
+    (λ c. search needs)
+    (λ c. search needs)
+    (λ c. search needs)
+    put-u32-requires
+    (λ c. search needs)
+    returns
+    (λ c. search needs)
+    returns-2)

@@ -1,0 +1,18 @@
+-- `plan_rows::close` meets its contract.
+use borrow.Author.Needs.{needs}
+use Rattle.plan_rows.proofs.close.Statement.{statement}
+use Rattle.plan_rows.proofs.close.Tie as tie
+
+returns : tie.Need-returns
+returns c = (rw (c .before .before .before .before .before .before .before .before .close-at .ensures) at (c .before .before .put-close .ensures), rw (c .before .before .before .before .before .before .before .before .close-at .ensures) at (c .before .before .before .before .before .before .put-record .ensures))
+
+pub close-spec : {M : Type 1} → statement M
+close-spec =
+    tie.close
+    (tie.spec
+    (λ c κs. search needs)
+    (λ c κs. search needs)
+    (λ c κs. search needs)
+    (λ c. search needs)
+    (λ c. search needs)
+    returns)

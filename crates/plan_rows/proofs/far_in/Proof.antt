@@ -1,0 +1,56 @@
+-- `plan_rows::far_in` meets its contract.
+use Prim.Native.Nat.{_*_, _-_, _≤_}
+use mathlib.Core.Path.{_≡_, refl}
+use mathlib.Core.Bool.{cond}
+use native.Mathlib.Omega.{arith}
+use Rattle.spec_rules.specs.Neighbour.{contextOf, near}
+use Rattle.spec_rules.specs.Checks.{maxUpTo}
+use Rattle.plan_bytes.specs.form.Numbers.{word}
+use Rattle.plan_rows.specs.form.Slots.{farIn}
+use Rattle.plan_bytes.proofs.Wholes.{max-step}
+use borrow.Author.Needs.{needs}
+use Rattle.plan_rows.proofs.far_in.Statement.{statement}
+use Rattle.plan_rows.proofs.far_in.Tie as tie
+
+abbrev Inv-loop : tie.InvT-loop
+Inv-loop s b x m₀ i₀ m i = (i ≤ 32) × (m ≡ maxUpTo (λ y. cond (near (contextOf s) x y) 0 (word b (4 * y))) i)
+
+abbrev μ-loop : tie.MeasureT-loop
+μ-loop s b x m₀ i₀ m i = 32 - i
+
+loop-holds : tie.Need-loop-holds Inv-loop μ-loop
+unfolding maxUpTo
+loop-holds c = (omega arith, refl)
+
+far-at-requires : tie.Need-far-at-requires Inv-loop μ-loop
+far-at-requires c κs = search needs
+
+latest-requires : tie.Need-latest-requires Inv-loop μ-loop
+latest-requires c κs = search needs
+
+add-i : tie.Need-add-i Inv-loop μ-loop
+add-i c = search needs
+
+loop-less : tie.Need-loop-less Inv-loop μ-loop
+loop-less c = search needs
+
+loop-again : tie.Need-loop-again Inv-loop μ-loop
+loop-again c = (search needs, max-step (λ y. cond (near (contextOf (c .before .before .before .before .before .args .s)) (c .before .before .before .before .before .args .x) y) 0 (word (c .before .before .before .before .before .args .b .now) (4 * y))) (c .before .before .before .loop .i) (c .before .before .before .loop .inv .1) (c .before .far-at .ensures) (c .latest .ensures))
+
+returns : tie.Need-returns Inv-loop μ-loop
+unfolding farIn
+returns c = let e : c .before .loop .i ≡ 32 = omega arith in rw e at (c .before .loop .inv .1)
+
+pub far-in-spec : {M : Type 1} → statement M
+far-in-spec =
+    tie.close
+    (tie.spec
+    Inv-loop
+    μ-loop
+    loop-holds
+    far-at-requires
+    latest-requires
+    add-i
+    loop-less
+    loop-again
+    returns)

@@ -1,0 +1,20 @@
+-- `plan_rows::row_base` meets its contract.
+use Rattle.plan_rows.specs.form.Slots.{rowBase}
+use borrow.Author.Needs.{needs}
+use Rattle.plan_rows.proofs.row_base.Statement.{statement}
+use Rattle.plan_rows.proofs.row_base.Tie as tie
+
+returns : tie.Need-returns
+unfolding rowBase
+returns c = rw (c .later2 .ensures, c .before .after .ensures, c .before .before .later .ensures, c .before .before .before .stored2 .ensures, c .before .before .before .before .stored .ensures)
+
+pub row-base-spec : {M : Type 1} → statement M
+row-base-spec =
+    tie.close
+    (tie.spec
+    (λ c κs. search needs)
+    (λ c κs. search needs)
+    (λ c κs. search needs)
+    (λ c κs. search needs)
+    (λ c κs. search needs)
+    returns)

@@ -1,0 +1,177 @@
+-- The steps of the plan on bytes, one command after the other.
+-- Assumes nothing.
+use Prim.Native.Nat.{ℕ, _+_, _*_, _<_, _≤_}
+use mathlib.Core.Path.{_≡_, refl, sym, ap, _∙_}
+use mathlib.Core.Bool.{Bool, true, false, not}
+use mathlib.Core.List.{List, [], _∷_}
+use native.Mathlib.Omega.{arith}
+use lib.Dec.{leb}
+use lib.ListN.{length}
+use Rattle.settings.specs.declared.Settings.{Settings}
+use Rattle.packet.specs.declared.RowPacket.the-variants.{Act, Prer}
+use Rattle.packet.specs.declared.ColPacket.the-variants.{Nocop}
+use Rattle.record.specs.declared.Record.{Record}
+use Rattle.spec_rules.specs.declared.Write.{Write}
+use Rattle.spec_rules.specs.Neighbour.{bankCount, Context, contextOf, near}
+use Rattle.spec_rules.specs.History.{isClosed, anyWrite}
+use Rattle.spec_rules.proofs.NeighbourLaws.{split-neighbours}
+use Rattle.spec_plan.specs.declared.PlannerState.{PlannerState}
+use Rattle.spec_plan.specs.Plan.{Draft, rowPacket, colPacket, when, waiting, stateIn, openOn, anyWaits, sent, flushed, flushedWhile, closed, closedUpTo, reached}
+use Rattle.spec_plan.specs.PlannerBytes.{plannerBytes, plannerIn}
+use Rattle.spec_plan.proofs.Trace.{trace-start}
+use Rattle.spec_plan.proofs.SentLaws.{while-state}
+use Rattle.spec_plan.proofs.PlanLaws.{Good, good-while, good-up-to, good-cleared}
+use Rattle.plan_bytes.specs.form.Drawn.{bare, drafted, Ready, OpenAt, NearShut, Fits, Drawn}
+use Rattle.plan_bytes.proofs.Marks.{Marked, marked-more, marked-while, marked-up-to, marked-all}
+use Rattle.plan_bytes.proofs.ReadyLaws.{readies, inv}
+use Rattle.plan_bytes.proofs.Again.{start, After, after-step}
+use Rattle.plan_bytes.proofs.Compose.{Blind, sent-blind, fits-first, fits-then, drawn-then, one-sent}
+use Rattle.plan_steps.proofs.Ranges.{up-to-next, up-to-grows, turn-blind}
+
+-- one record
+pub one-flushed : (cx : Context) (p : PlannerState) → length (flushed cx (bare p) .records) ≡ 1
+unfolding flushed
+one-flushed cx p = one-sent cx (colPacket (Nocop 0xFFFF)) p
+
+-- a test on a waiting write passes only where one waits
+pub any-waits : (q : Write → Bool) (ws : List Write) → anyWrite q ws ≡ true → anyWaits ws ≡ true
+any-waits q [] e = e
+any-waits q (w ∷ ws) e = refl
+
+pub loses-waits : (cx : Context) (d : Draft) (x : ℕ) (q : Bool) → q ≡ anyWrite (λ w. near cx x (w .bank)) (waiting d) → q ≡ true → anyWaits (waiting d) ≡ true
+loses-waits cx d x q e w = any-waits (λ w. near cx x (w .bank)) (waiting d) (sym e ∙ w)
+
+-- a NOCOP that is sent where a test passes
+pub while-is : (cx : Context) (test : List Write → Bool) (d : Draft) (b : Bool) → b ≡ test (waiting d) → when b (flushed cx) d ≡ flushedWhile cx test d
+unfolding flushedWhile
+while-is cx test d b e = ap (λ (b : Bool). when b (flushed cx) d) e
+
+module _ (s : Settings) (top : ℕ) (b : List ℕ) (k : Ready s top b) where
+  abbrev cx : Context
+  cx = contextOf s
+
+  abbrev d : Draft
+  d = drafted b
+
+  pub good : Good cx (plannerIn b) d
+  good = record { trace = trace-start cx (plannerIn b); inv = inv s top b k }
+
+  -- the bytes of a draft that a step has come to
+  pub after-of : (hi high : ℕ) (z : Draft) → hi ≤ high + 3 → high ≤ 999999000 → Marked s hi z → Good cx (plannerIn b) z → (b1 : List ℕ) → b1 ≡ plannerBytes (z .planner) → After s high z b1
+  after-of hi high z l h m g b1 e = after-step s (readies s top b k .figures) high z (omega arith) (marked-more s hi (high + 3) l z m) (g .inv) b1 e
+
+  -- ---- a bank closed
+
+  module _ (h : top ≤ 999998000) (x : ℕ) (l : x < 32) where
+    abbrev test : List Write → Bool
+    test = anyWrite (λ w. near cx x (w .bank))
+
+    abbrev saved : Draft
+    saved = flushedWhile cx test d
+
+    pub saved-after : (b1 : List ℕ) → b1 ≡ plannerBytes (saved .planner) → After s 999999000 saved b1
+    saved-after =
+        after-of (top + 3 + 64) 999999000 saved (omega arith) (omega arith) (marked-while s (readies s top b k .figures) test (top + 3) d (start s top b k) (omega arith))
+        (good-while cx (split-neighbours s) (plannerIn b) d good test refl)
+
+    pub saved-open : (b1 : List ℕ) → plannerIn b1 ≡ saved .planner → OpenAt b x → OpenAt b1 x
+    unfolding bankCount
+    saved-open b1 back o = rw back (rw (while-state cx test refl d (inv s top b k .size) x l) o)
+
+    -- the room of the NOCOP, of the PRER, and what both make
+    module _ (room : List ℕ) (at : ℕ) (fits : Fits (closed cx x d) room at) where
+      abbrev prer : Record
+      prer = rowPacket (Prer x)
+
+      all-fits : Fits (sent cx prer saved) room at
+      unfolding closed
+      all-fits = fits
+
+      -- by a test of the code
+      pub close-first : (q : Bool) → q ≡ test (waiting d) → Fits (when q (flushed cx) d) room at
+      close-first q e = rw (while-is cx test d q e) (fits-first (sent cx prer) (sent-blind cx prer) saved room at all-fits)
+
+      pub saved-drawn : (q : Bool) → q ≡ test (waiting d) → (b1 room1 : List ℕ) (to1 : ℕ) → Drawn s (when q (flushed cx) d) room at b1 room1 to1 → Drawn s saved room at b1 room1 to1
+      saved-drawn q e b1 room1 to1 w = rw (while-is cx test d q e) at w
+
+      module _ (b1 room1 : List ℕ) (to1 : ℕ) (w : Drawn s saved room at b1 room1 to1) where
+        abbrev back : plannerIn b1 ≡ saved .planner
+        back = saved-after b1 (w .planner) .back
+
+        pub close-room : to1 + 32 ≤ length room1
+        close-room = omega (arith, fits-then s (sent cx prer) (sent-blind cx prer) saved room at b1 room1 to1 w back all-fits, one-sent cx prer (plannerIn b1))
+
+        pub close-drawn : (b2 room2 : List ℕ) (to2 : ℕ) → Drawn s (sent cx prer (drafted b1)) room1 to1 b2 room2 to2 → Drawn s (closed cx x d) room at b2 room2 to2
+        unfolding closed
+        close-drawn b2 room2 to2 v = drawn-then s (sent cx prer) (sent-blind cx prer) saved room at b1 room1 to1 w back all-fits b2 room2 to2 v
+
+  -- ---- the open ones of a range, bank after bank
+
+  module _ (h : top ≤ 999991000) (first end : ℕ) (m : end ≤ 32) where
+    abbrev pick : ℕ → Bool
+    pick y = leb first y
+
+    abbrev upTo : ℕ → Draft
+    upTo n = closedUpTo cx pick n d
+
+    pub up-to-after : (n : ℕ) → n ≤ end → (b1 : List ℕ) → b1 ≡ plannerBytes (upTo n .planner) → After s 999998000 (upTo n) b1
+    unfolding bankCount
+    up-to-after n l =
+        after-of (top + 3 + 128 * n) 999998000 (upTo n) (omega arith) (omega arith) (marked-up-to s (readies s top b k .figures) pick n (top + 3) d (start s top b k) (omega arith))
+        (good-up-to cx (split-neighbours s) (plannerIn b) d good pick n (omega arith))
+
+    -- a turn of the loop
+    module _ (room : List ℕ) (at : ℕ) (fits : Fits (upTo end) room at) (n : ℕ) (l : first ≤ n) (below : n < end) (b1 room1 : List ℕ) (to1 : ℕ) (w : Drawn s (upTo n) room at b1 room1 to1) where
+      abbrev turn : Draft → Draft
+      turn z = when (not (isClosed (stateIn z n))) (closed cx n) z
+
+      next-is : upTo (n + 1) ≡ turn (upTo n)
+      next-is = up-to-next cx d first n l
+
+      next-fits : Fits (turn (upTo n)) room at
+      next-fits = let f : Fits (upTo (n + 1)) room at = omega (arith, up-to-grows cx d pick (n + 1) end (omega arith)) in rw next-is at f
+
+      abbrev back-at : plannerIn b1 ≡ upTo n .planner
+      back-at = up-to-after n (omega arith) b1 (w .planner) .back
+
+      pub turn-fits : Fits (turn (drafted b1)) room1 to1
+      turn-fits = fits-then s turn (turn-blind cx n) (upTo n) room at b1 room1 to1 w back-at next-fits
+
+      pub turn-drawn : (b2 room2 : List ℕ) (to2 : ℕ) → Drawn s (turn (drafted b1)) room1 to1 b2 room2 to2 → Drawn s (upTo (n + 1)) room at b2 room2 to2
+      turn-drawn b2 room2 to2 v = rw next-is (drawn-then s turn (turn-blind cx n) (upTo n) room at b1 room1 to1 w back-at next-fits b2 room2 to2 v)
+
+  -- ---- the bank and its neighbours closed
+
+  module _ (h : top ≤ 999990000) (x : ℕ) where
+    abbrev cleared : Draft
+    cleared = closedUpTo cx (near cx x) bankCount d
+
+    pub cleared-after : (b1 : List ℕ) → b1 ≡ plannerBytes (cleared .planner) → After s 999998000 cleared b1
+    cleared-after =
+        after-of (top + 3 + 4096) 999998000 cleared (omega arith) (omega arith) (marked-all s (readies s top b k .figures) (near cx x) (top + 3) d (start s top b k) (omega arith))
+        (good-cleared cx (split-neighbours s) (plannerIn b) d good x .0)
+
+    pub cleared-shut : (b1 : List ℕ) → plannerIn b1 ≡ cleared .planner → NearShut s b1 x
+    unfolding NearShut bankCount
+    cleared-shut b1 back = rw back (good-cleared cx (split-neighbours s) (plannerIn b) d good x .1)
+
+    -- a step g after that, in a room for both
+    module _ (g : Draft → Draft) (blind : Blind g) (room : List ℕ) (fits : Fits (g cleared) room 0) where
+      pub cleared-first : Fits cleared room 0
+      cleared-first = fits-first g blind cleared room 0 fits
+
+      module _ (b1 room1 : List ℕ) (to1 : ℕ) (w : Drawn s cleared room 0 b1 room1 to1) where
+        pub cleared-fits : Fits (g (drafted b1)) room1 to1
+        cleared-fits = fits-then s g blind cleared room 0 b1 room1 to1 w (cleared-after b1 (w .planner) .back) fits
+
+        pub cleared-drawn : (b2 room2 : List ℕ) (to2 : ℕ) → Drawn s (g (drafted b1)) room1 to1 b2 room2 to2 → Drawn s (g cleared) room 0 b2 room2 to2
+        cleared-drawn b2 room2 to2 v = drawn-then s g blind cleared room 0 b1 room1 to1 w (cleared-after b1 (w .planner) .back) fits b2 room2 to2 v
+
+-- a row that is open, and one that is not
+pub row-open : (cx : Context) (bank row : ℕ) (d : Draft) → openOn (stateIn d bank) row ≡ true → reached cx bank row d ≡ d
+unfolding reached
+row-open cx bank row d e = rw e
+
+pub row-not : (cx : Context) (bank row : ℕ) (d : Draft) → openOn (stateIn d bank) row ≡ false → reached cx bank row d ≡ sent cx (rowPacket (Act bank row)) (closedUpTo cx (near cx bank) bankCount d)
+unfolding reached
+row-not cx bank row d e = rw e

@@ -1,0 +1,39 @@
+-- `plan_steps::close_near` meets its contract.
+use Prim.Native.Nat.{_<_}
+use native.Mathlib.Omega.{arith}
+use Rattle.chan_view.specs.form.Beside.{lastNear}
+use Rattle.plan_bytes.specs.form.Drawn.{drafted}
+use Rattle.plan_bytes.proofs.Again.{ready-more}
+use Rattle.plan_steps.proofs.Ranges.{first-last, near-range}
+use borrow.Author.Needs.{needs}
+use Rattle.plan_steps.proofs.close_near.Statement.{statement}
+use Rattle.plan_steps.proofs.close_near.Tie as tie
+
+close-from-requires : tie.Need-close-from-requires
+close-from-requires c κs =
+    let z = c .before .before .before .before .before .before in
+    let l = c .before .before .last-near .ensures .1 in
+    let m = z .pre .1 .1 .0 in
+    let e : lastNear (z .args .s) (z .args .x) < 32 = rw (c .before .before .last-near .ensures .0) at l in
+    let f = rw (← near-range (z .args .s) (z .args .x) (drafted (z .args .b .now)) e) at (z .pre .1 .1 .1) in (
+      ready-more _ 999990000 999991000 _ (omega arith) (z .pre .0),
+      (z .pre .1 .0, (omega (arith, first-last (z .args .s) (z .args .x), c .before .before .before .first-near .ensures .0, c .before .before .last-near .ensures .0), (omega arith, rw (c .before .before .before .first-near .ensures .0, c .before .before .last-near .ensures .0) f))),
+    )
+
+returns : tie.Need-returns
+returns c =
+    let z = c .before .before .before .before .before .before .before .before .before .before .before in
+    let e : lastNear (z .args .s) (z .args .x) < 32 = rw (c .before .before .before .before .before .before .before .last-near .ensures .0) at (c .before .before .before .before .before .before .before .last-near .ensures .1) in
+    rw (c .before .before .before .before .before .before .before .before .first-near .ensures .0, c .before .before .before .before .before .before .before .last-near .ensures .0, near-range (z .args .s) (z .args .x) (drafted (z .args .b .now)) e) at (c .before .before .before .before .close-from .ensures)
+
+pub close-near-spec : {M : Type 1} → statement M
+close-near-spec =
+    tie.close
+    (tie.spec
+    (λ c κs. search needs)
+    (λ c κs. search needs)
+    (λ c. search needs)
+    close-from-requires
+    (λ c. search needs)
+    (λ c. search needs)
+    returns)

@@ -1,0 +1,167 @@
+// The steps of the plan on the bytes of a planner.
+ghost use mathlib.Core.Path.{_≡_};
+ghost use mathlib.Core.Bool.{true, not};
+ghost use Prim.Native.Nat.{_+_, _*_, _<_, _≤_};
+ghost use lib.ListN.{length};
+ghost use lib.Dec.{leb};
+ghost use Rattle.packet.specs.declared.RowPacket.the-variants.{Act};
+ghost use Rattle.spec_rules.specs.Neighbour.{bankCount, contextOf, near};
+ghost use Rattle.spec_rules.specs.History.{isClosed, anyWrite};
+ghost use Rattle.spec_plan.specs.Plan.{rowPacket, when, waiting, stateIn, openOn, hits, anyWaits, sent, flushed, closed, closedUpTo, reached};
+ghost use Rattle.plan_bytes.specs.form.Numbers.{half};
+ghost use Rattle.plan_bytes.specs.form.Drawn.{drafted, Ready, OpenAt, Fits, Drawn};
+use chan_view::neighbours::first_near;
+use chan_view::neighbours::is_near;
+use chan_view::neighbours::last_near;
+use num::both;
+use num::u16_at;
+use num::wide;
+use plan_bytes::held_bank;
+use plan_bytes::waits;
+use plan_cols::nocop;
+use plan_rows::act;
+use plan_rows::prer;
+use settings::Settings;
+
+// The state of a bank as it is stored: 0 closed, 1 + its row where it is open.
+fn tag(b: &[u8], x: usize) -> u32
+    requires { ⌜ length (now b) ≡ 768 ⌝ }
+    requires { ⌜ x < 32 ⌝ }
+    ensures { λ r. ⌜ r ≡ half (now (b .entry)) (640 + 2 * x) ⌝ }
+{
+    u16_at(b, 640 + 2 * x)
+}
+
+// Whether the waiting write has that bank and column.
+pub fn hit(b: &[u8], bank: u32, column: u32) -> bool
+    requires { ⌜ length (now b) ≡ 768 ⌝ }
+    ensures { λ r. ⌜ r ≡ anyWrite (hits bank column) (waiting (drafted (now (b .entry)))) ⌝ }
+{
+    let own = both(held_bank(b) == bank, wide(b[737]) == column);
+    both(waits(b), own)
+}
+
+// Whether a PRER to a bank would lose the waiting write.
+fn loses(s: Settings, b: &[u8], bank: u32) -> bool
+    requires { ⌜ length (now b) ≡ 768 ⌝ }
+    ensures { λ r. ⌜ r ≡ anyWrite (λ w. near (contextOf s) bank (w .bank)) (waiting (drafted (now (b .entry)))) ⌝ }
+{
+    both(waits(b), is_near(s, bank, held_bank(b)))
+}
+
+// NOCOP where a test has passed that no empty buffer passes.
+pub fn flush_if(s: Settings, b: &mut [u8], test: bool, room: &mut [u8], to: usize) -> usize
+    requires { ⌜ Ready s 999999000 (now b) ⌝ }
+    requires { ⌜ length (now b) ≡ 768 ⌝ }
+    requires { ⌜ (test ≡ true → anyWaits (waiting (drafted (now b))) ≡ true) ⌝ }
+    requires { ⌜ Fits (when test (flushed (contextOf s)) (drafted (now b))) (now room) to ⌝ }
+    ensures { λ r. ⌜ Drawn s (when test (flushed (contextOf s)) (drafted (now (b .entry)))) (now (room .entry)) to (now (b .exit)) (now (room .exit)) r ⌝ }
+{
+    if test {
+        return nocop(s, b, room, to);
+    }
+    to
+}
+
+// "each by PRER; before a PRER that would lose a buffered write, send NOCOP"
+fn close_bank(s: Settings, b: &mut [u8], x: usize, room: &mut [u8], to: usize) -> usize
+    requires { ⌜ Ready s 999998000 (now b) ⌝ }
+    requires { ⌜ length (now b) ≡ 768 ⌝ }
+    requires { ⌜ x < 32 ⌝ }
+    requires { ⌜ OpenAt (now b) x ⌝ }
+    requires { ⌜ Fits (closed (contextOf s) x (drafted (now b))) (now room) to ⌝ }
+    ensures { λ r. ⌜ Drawn s (closed (contextOf s) x (drafted (now (b .entry)))) (now (room .entry)) to (now (b .exit)) (now (room .exit)) r ⌝ }
+{
+    let test = loses(s, b, x as u32);
+    let next = flush_if(s, b, test, room, to);
+    prer(s, b, x, room, next)
+}
+
+// The same where the bank is open.
+fn close_open(s: Settings, b: &mut [u8], x: usize, room: &mut [u8], to: usize) -> usize
+    requires { ⌜ Ready s 999998000 (now b) ⌝ }
+    requires { ⌜ length (now b) ≡ 768 ⌝ }
+    requires { ⌜ x < 32 ⌝ }
+    requires { ⌜ Fits (when (not (isClosed (stateIn (drafted (now b)) x))) (closed (contextOf s) x) (drafted (now b))) (now room) to ⌝ }
+    ensures { λ r. ⌜ Drawn s (when (not (isClosed (stateIn (drafted (now (b .entry))) x))) (closed (contextOf s) x) (drafted (now (b .entry)))) (now (room .entry)) to (now (b .exit)) (now (room .exit)) r ⌝ }
+{
+    if tag(b, x) == 0 {
+        return to;
+    }
+    close_bank(s, b, x, room, to)
+}
+
+// Of the banks from the first to before an end, "close the open ones in rising order".
+pub fn close_from(
+    s: Settings,
+    b: &mut [u8],
+    first: usize,
+    end: usize,
+    room: &mut [u8],
+    start: usize,
+) -> usize
+    requires { ⌜ Ready s 999991000 (now b) ⌝ }
+    requires { ⌜ length (now b) ≡ 768 ⌝ }
+    requires { ⌜ first ≤ end ⌝ }
+    requires { ⌜ end ≤ 32 ⌝ }
+    requires { ⌜ Fits (closedUpTo (contextOf s) (λ x. leb first x) end (drafted (now b))) (now room) start ⌝ }
+    ensures { λ r. ⌜ Drawn s (closedUpTo (contextOf s) (λ x. leb first x) end (drafted (now (b .entry)))) (now (room .entry)) start (now (b .exit)) (now (room .exit)) r ⌝ }
+{
+    let mut to = start;
+    let mut k = first;
+    while k < end {
+        to = close_open(s, b, k, room, to);
+        k += 1;
+    }
+    to
+}
+
+// "of the bank and its neighbours, close the open ones"
+pub fn close_near(s: Settings, b: &mut [u8], x: usize, room: &mut [u8]) -> usize
+    requires { ⌜ Ready s 999990000 (now b) ⌝ }
+    requires { ⌜ length (now b) ≡ 768 ⌝ }
+    requires { ⌜ x < 32 ⌝ }
+    requires { ⌜ Fits (closedUpTo (contextOf s) (near (contextOf s) x) bankCount (drafted (now b))) (now room) 0 ⌝ }
+    ensures { λ r. ⌜ Drawn s (closedUpTo (contextOf s) (near (contextOf s) x) bankCount (drafted (now (b .entry)))) (now (room .entry)) 0 (now (b .exit)) (now (room .exit)) r ⌝ }
+{
+    let first = first_near(s, x);
+    let end = last_near(s, x) + 1;
+    close_from(s, b, first, end, room, 0)
+}
+
+// Whether a bank is open on a row.
+fn on_row(b: &[u8], bank: u32, row: u32) -> bool
+    requires { ⌜ length (now b) ≡ 768 ⌝ }
+    requires { ⌜ bank < 32 ⌝ }
+    requires { ⌜ row < 512 ⌝ }
+    ensures { λ r. ⌜ r ≡ openOn (stateIn (drafted (now (b .entry))) bank) row ⌝ }
+{
+    tag(b, bank as usize) == row + 1
+}
+
+fn open_row(s: Settings, b: &mut [u8], bank: u32, row: u32, room: &mut [u8]) -> usize
+    requires { ⌜ Ready s 999990000 (now b) ⌝ }
+    requires { ⌜ length (now b) ≡ 768 ⌝ }
+    requires { ⌜ bank < 32 ⌝ }
+    requires { ⌜ row < s .rows ⌝ }
+    requires { ⌜ Fits (sent (contextOf s) (rowPacket (Act bank row)) (closedUpTo (contextOf s) (near (contextOf s) bank) bankCount (drafted (now b)))) (now room) 0 ⌝ }
+    ensures { λ r. ⌜ Drawn s (sent (contextOf s) (rowPacket (Act bank row)) (closedUpTo (contextOf s) (near (contextOf s) bank) bankCount (drafted (now (b .entry))))) (now (room .entry)) 0 (now (b .exit)) (now (room .exit)) r ⌝ }
+{
+    let to = close_near(s, b, bank as usize, room);
+    act(s, b, bank, row, room, to)
+}
+
+// "To reach a row that is not open".
+pub fn reach(s: Settings, b: &mut [u8], bank: u32, row: u32, room: &mut [u8]) -> usize
+    requires { ⌜ Ready s 999990000 (now b) ⌝ }
+    requires { ⌜ length (now b) ≡ 768 ⌝ }
+    requires { ⌜ bank < 32 ⌝ }
+    requires { ⌜ row < s .rows ⌝ }
+    requires { ⌜ Fits (reached (contextOf s) bank row (drafted (now b))) (now room) 0 ⌝ }
+    ensures { λ r. ⌜ Drawn s (reached (contextOf s) bank row (drafted (now (b .entry)))) (now (room .entry)) 0 (now (b .exit)) (now (room .exit)) r ⌝ }
+{
+    if on_row(b, bank, row) {
+        return 0;
+    }
+    open_row(s, b, bank, row, room)
+}
