@@ -1,0 +1,27 @@
+-- The result of a plan call from a state that is not refused, by what its request says.
+-- Assumes nothing.
+use Prim.Native.Nat.{ℕ}
+use mathlib.Core.List.{List}
+use lib.ListN.{length}
+use Rattle.num.specs.Bytes.{splice}
+use Rattle.record.specs.declared.RequestRead.{RequestRead}
+use Rattle.spec_rules.specs.Neighbour.{Context}
+use Rattle.spec_plan.specs.declared.Outcome.{Outcome}
+use Rattle.spec_plan.specs.declared.Outcome.the-variants.{Refused, Made}
+use Rattle.spec_plan.specs.PlannerBytes.{plannerBytes, plannerIn}
+use Rattle.spec_plan.specs.Plan.{Draft}
+use Rattle.spec_plan.specs.Call.{listBytes, outcomeBy, draftBy}
+use Rattle.spec_calls.specs.Plans.{planAnswer, PlanResult}
+
+-- a refusal, or a draft that is put to planner and room
+abbrev pub servedBy : Context → List ℕ → Draft → List ℕ → Outcome → PlanResult
+servedBy cx planner d room (Refused why) = record { answer = planAnswer (Refused why); planner = planner; room = room }
+servedBy cx planner d room (Made n) =
+    record {
+      answer = planAnswer (Made n);
+      planner = plannerBytes (d .planner);
+      room = splice room 0 (listBytes (cx .settings) (d .records));
+    }
+
+unfoldable pub served : Context → List ℕ → RequestRead → List ℕ → PlanResult
+served cx planner x room = servedBy cx planner (draftBy cx (plannerIn planner) x) room (outcomeBy cx (plannerIn planner) x (length room))

@@ -1,0 +1,56 @@
+// The calls of the planner on the bytes of a state.
+mod ways;
+
+ghost use mathlib.Core.Path.{_≡_};
+ghost use mathlib.Core.Bool.{true};
+ghost use Rattle.settings.specs.Settings.{valid};
+ghost use Rattle.spec_calls.specs.Plans.{plannerFresh, planUnder, planCall};
+use crate::ways::answer;
+use crate::ways::by_value;
+use crate::ways::in_place;
+use record::Refusal;
+use settings::Settings;
+use settings::SettingsRead;
+use spec_calls::PlanAnswer;
+use spec_plan::Outcome;
+
+// Puts a fresh planner into a buffer of its length.
+pub fn planner_fresh(planner: &mut [u8]) -> u32
+    ensures { λ r. ⌜ r ≡ plannerFresh (now (planner .entry)) .number ⌝ }
+    ensures { λ _. ⌜ now (planner .exit) ≡ plannerFresh (now (planner .entry)) .state ⌝ }
+{
+    if planner.len() != 768 {
+        return 1;
+    }
+    state_whole::fresh::put_fresh_planner(planner);
+    0
+}
+
+// A plan call under settings that are accepted: on the lent bytes where no packet can be late and the room has the most records.
+fn plan_under(s: Settings, planner: &mut [u8], request: &[u8], room: &mut [u8]) -> PlanAnswer
+    requires { ⌜ valid s ≡ true ⌝ }
+    ensures { λ r. ⌜ r ≡ planUnder (now (planner .entry)) (now (request .entry)) (now (room .entry)) s .answer ⌝ }
+    ensures { λ _. ⌜ now (planner .exit) ≡ planUnder (now (planner .entry)) (now (request .entry)) (now (room .entry)) s .planner ⌝ }
+    ensures { λ _. ⌜ now (room .exit) ≡ planUnder (now (planner .entry)) (now (request .entry)) (now (room .entry)) s .room ⌝ }
+{
+    if !state_bytes::planners::planner_right(s, planner) {
+        return answer(Outcome::Refused(Refusal::Settings));
+    }
+    let quick = plan_in_place::calm::calm(planner);
+    if quick & (544 <= room.len()) {
+        return in_place(s, planner, request, room);
+    }
+    by_value(s, planner, request, room)
+}
+
+// One request: its records go to the start of room, and planner becomes the next state.
+pub fn plan_call(settings: &[u8], planner: &mut [u8], request: &[u8], room: &mut [u8]) -> PlanAnswer
+    ensures { λ r. ⌜ r ≡ planCall (now (settings .entry)) (now (planner .entry)) (now (request .entry)) (now (room .entry)) .answer ⌝ }
+    ensures { λ _. ⌜ now (planner .exit) ≡ planCall (now (settings .entry)) (now (planner .entry)) (now (request .entry)) (now (room .entry)) .planner ⌝ }
+    ensures { λ _. ⌜ now (room .exit) ≡ planCall (now (settings .entry)) (now (planner .entry)) (now (request .entry)) (now (room .entry)) .room ⌝ }
+{
+    match settings::read::read_settings(settings) {
+        SettingsRead::Refused => answer(Outcome::Refused(Refusal::Settings)),
+        SettingsRead::Accepted(s) => plan_under(s, planner, request, room),
+    }
+}
