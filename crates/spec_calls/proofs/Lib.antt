@@ -2,3 +2,4 @@ pub mod ListOf
 pub mod BenchRun
 pub mod DeviceRun
 pub mod CallsRun
+pub mod Refused

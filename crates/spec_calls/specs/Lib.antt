@@ -2,4 +2,6 @@ pub mod Settings
 pub mod Plans
 pub mod Models
 pub mod Checks
+pub mod Logs
+pub mod Refused
 pub mod Runs
