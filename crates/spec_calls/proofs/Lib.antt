@@ -3,3 +3,5 @@ pub mod BenchRun
 pub mod DeviceRun
 pub mod CallsRun
 pub mod Refused
+pub mod Judges
+pub mod BreachLaws

@@ -12,28 +12,27 @@ use Rattle.settings.specs.declared.Settings.{Settings}
 use Rattle.settings.specs.declared.SettingsRead.{SettingsRead}
 use Rattle.settings.specs.declared.SettingsRead.the-variants as read
 use Rattle.settings.specs.Settings.{settingsRead}
-use Rattle.record.specs.declared.Refusal.the-variants as refusal
 use Rattle.spec_rules.specs.Neighbour.{Context, contextOf}
 use Rattle.spec_plan.specs.declared.PlannerState.{PlannerState}
 use Rattle.spec_plan.specs.declared.Outcome.{Outcome}
 use Rattle.spec_plan.specs.declared.Outcome.the-variants as outcome
-use Rattle.spec_plan.specs.PlannerBytes.{plannerLength, plannerIn, plannerRight}
+use Rattle.spec_plan.specs.PlannerBytes.{plannerIn, plannerRight}
 use Rattle.spec_plan.specs.Call.{planOutcome}
 use Rattle.spec_model.specs.declared.ModelState.{ModelState}
 use Rattle.spec_model.specs.declared.Stepped.{Stepped}
 use Rattle.spec_model.specs.declared.Stepped.the-variants as stepped
-use Rattle.spec_model.specs.ModelBytes.{modelLength, modelIn, modelRight}
+use Rattle.spec_model.specs.ModelBytes.{modelIn, modelRight}
 use Rattle.spec_model.specs.Step.{stepAnswer}
 use Rattle.log.specs.declared.Copied.{Copied}
 use Rattle.log.specs.declared.Copied.the-variants as copied
 use Rattle.log.specs.Log.{copied}
 use Rattle.meter.specs.Answer.{accepted}
-use Rattle.meter.specs.Meter.{feedAnswer, feedMeter}
+use Rattle.meter.specs.Meter.{feedMeter}
 use Rattle.meter.specs.Calls.{fedAnswered}
 use Rattle.spec_calls.specs.Settings.{bySettings, underSettings}
-use Rattle.spec_calls.specs.Plans.{FreshResult, freshInto, plannerFresh, planAnswer, PlanResult, planRefused, planBy, planUnder, planCall}
-use Rattle.spec_calls.specs.Models.{modelFresh, steppedAnswer, StepResult, stepRefused, stepBy, stepUnder, stepCall}
-use Rattle.spec_calls.specs.Logs.{copyAnswer, CopyResult, copyBy, copyCall, logEncodeCall, logDecodeCall}
+use Rattle.spec_calls.specs.Plans.{FreshResult, freshInto, plannerFresh, planAnswer, planBy, planUnder, planCall}
+use Rattle.spec_calls.specs.Models.{modelFresh, steppedAnswer, stepBy, stepUnder, stepCall}
+use Rattle.spec_calls.specs.Logs.{copyAnswer, CopyResult, copyCall, logEncodeCall, logDecodeCall}
 use Rattle.spec_calls.specs.Refused.{PlanKept, StepKept, RefusedCalls}
 
 -- what holds of both results of a test

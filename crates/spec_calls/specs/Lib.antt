@@ -4,4 +4,5 @@ pub mod Models
 pub mod Checks
 pub mod Logs
 pub mod Refused
+pub mod Judges
 pub mod Runs
