@@ -5,3 +5,4 @@ pub mod CallsRun
 pub mod Refused
 pub mod Judges
 pub mod BreachLaws
+pub mod RoundTrip

@@ -6,3 +6,4 @@ pub mod Logs
 pub mod Refused
 pub mod Judges
 pub mod Runs
+pub mod RoundTrip
