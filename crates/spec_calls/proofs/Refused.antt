@@ -12,6 +12,7 @@ use Rattle.settings.specs.declared.Settings.{Settings}
 use Rattle.settings.specs.declared.SettingsRead.{SettingsRead}
 use Rattle.settings.specs.declared.SettingsRead.the-variants as read
 use Rattle.settings.specs.Settings.{settingsRead}
+use Rattle.record.specs.declared.Refusal.the-variants as refusal
 use Rattle.spec_rules.specs.Neighbour.{Context, contextOf}
 use Rattle.spec_plan.specs.declared.PlannerState.{PlannerState}
 use Rattle.spec_plan.specs.declared.Outcome.{Outcome}
@@ -32,7 +33,7 @@ use Rattle.meter.specs.Calls.{fedAnswered}
 use Rattle.spec_calls.specs.Settings.{bySettings, underSettings}
 use Rattle.spec_calls.specs.Plans.{FreshResult, freshInto, plannerFresh, planAnswer, planBy, planUnder, planCall}
 use Rattle.spec_calls.specs.Models.{modelFresh, steppedAnswer, stepBy, stepUnder, stepCall}
-use Rattle.spec_calls.specs.Logs.{copyAnswer, CopyResult, copyCall, logEncodeCall, logDecodeCall}
+use Rattle.spec_calls.specs.Logs.{copyAnswer, CopyResult, copyBy, copyCall, logEncodeCall, logDecodeCall}
 use Rattle.spec_calls.specs.Refused.{PlanKept, StepKept, RefusedCalls}
 
 -- what holds of both results of a test
@@ -87,9 +88,11 @@ copy-by new lent (copied.Refused why) n = refl
 copy-by new lent (copied.Count k) n = absurd (n refl)
 
 copy-kept : (new lent : List ℕ) (answer : Settings → Copied) (settings : List ℕ) → copyCall new lent answer settings .answer .number ≢ 0 → copyCall new lent answer settings .lent ≡ lent
-unfolding copied copyCall
+unfolding copyCall
 copy-kept new lent answer settings =
-    under (λ (x : CopyResult). x .answer .number ≢ 0 → x .lent ≡ lent) settings (λ n. refl) (λ s. copy-by new lent (answer s))
+    under (λ (x : CopyResult). x .answer .number ≢ 0 → x .lent ≡ lent) settings {refused = copyBy new lent (copied.Refused refusal.Settings)} {call = λ s. copyBy new lent (answer s)}
+    (copy-by new lent (copied.Refused refusal.Settings))
+    (λ s. copy-by new lent (answer s))
 
 pub refused-changes-nothing : RefusedCalls
 unfolding plannerFresh modelFresh logEncodeCall logDecodeCall accepted feedMeter fedAnswered
