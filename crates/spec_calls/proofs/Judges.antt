@@ -5,7 +5,7 @@
 use Prim.Native.Nat.{ℕ}
 use mathlib.Core.Path.{_≡_, refl, sym, ap, _∙_}
 use mathlib.Core.Bool.{Bool, true, cond}
-use mathlib.Core.List.{List, [], _∷_}
+use mathlib.Core.List.{List, [], _∷_, _++_}
 use mathlib.Core.Logic.{_↔_}
 use lib.Dec.{eqb}
 use lib.ListN.{length}
@@ -17,7 +17,6 @@ use Rattle.settings.specs.Settings.{settingsRead, AcceptedWith}
 use Rattle.settings.proofs.SettingsLaws.{accepted-valid, accepted-iff}
 use Rattle.record.specs.declared.Record.{Record}
 use Rattle.record.specs.declared.Record.the-variants.{RowAt, ColAt, DataOf}
-use Rattle.record.specs.declared.RecordRead.{RecordRead}
 use Rattle.record.specs.declared.Refusal.the-variants as refusal
 use Rattle.record.specs.Refusal.{answerOf}
 use Rattle.record.specs.Record.{recordRead}
@@ -31,7 +30,7 @@ use Rattle.spec_model.specs.declared.Stepped.the-variants as stepped
 use Rattle.spec_model.specs.Model.{freshModel, modelValid, modelNext}
 use Rattle.spec_model.specs.ModelBytes.{modelBytes}
 use Rattle.spec_model.specs.Step.{stepAnswer, isTaken, stepModel}
-use Rattle.spec_model.specs.Judges.{ModelCall, modelAfter, withRecord, takenBy, StepBreach}
+use Rattle.spec_model.specs.Judges.{StepCall, modelAfter, recordSaid, takenBy, StepBreach}
 use Rattle.spec_model.proofs.ModelRoundTrip.{DataFits}
 use Rattle.spec_model.proofs.NextValid.{fresh-model-valid, step-keeps, step-valid}
 use Rattle.spec_model.proofs.Judges.{tracked, step-rule, rule-step}
@@ -79,22 +78,22 @@ step-fits cx m d stored given room w =
     step-keeps cx m (λ t n. DataFits (n .bytes)) stored given room d (λ r l e j. bytes-held r (m .bytes) (held-data r (record-read-held (cx .settings) given r l w e)) d)
 
 -- test and records apart, so that a definition that is wrong in one is refused there
-taken-same : (read : RecordRead) (p q : Bool) (es fs : List Record) → p ≡ q → es ≡ fs → cond p (withRecord read es) es ≡ cond q (withRecord read fs) fs
-taken-same read p q es fs e f = rw (e, f)
+taken-same : (said : List Record) (p q : Bool) (es fs : List Record) → p ≡ q → es ≡ fs → cond p said [] ++ es ≡ cond q said [] ++ fs
+taken-same said p q es fs e f = rw (e, f)
 
 module _ (settings : List ℕ) (s : Settings) (a : settingsRead settings ≡ Accepted s) where
   -- the bytes that calls leave, and the records of those that answered 0
-  record Follows (cs : List ModelCall) : Type 0 where
+  record Follows (cs : List StepCall) : Type 0 where
     good : modelValid (contextOf s) (modelAfter (contextOf s) cs) ≡ true
     fits : DataFits (modelAfter (contextOf s) cs .bytes)
     left : modelLeft settings cs ≡ modelBytes (modelAfter (contextOf s) cs)
     accepted : recordsAccepted settings s cs ≡ takenBy (contextOf s) cs
 
-  answer-is : (cs : List ModelCall) → Follows cs → (store given room : List ℕ)
+  answer-is : (cs : List StepCall) → Follows cs → (store given room : List ℕ)
       → stepCall settings (modelLeft settings cs) store given room .answer ≡ steppedAnswer (stepAnswer (contextOf s) (modelAfter (contextOf s) cs) (length store) given (length room))
   answer-is cs f store given room = rw (f .left) (step-answer settings s a (modelAfter (contextOf s) cs) (f .good) (f .fits) store given room)
 
-  follows : (cs : List ModelCall) → GivenBytes cs → Follows cs
+  follows : (cs : List StepCall) → GivenBytes cs → Follows cs
   unfolding contextOf freshModel modelAfter takenBy modelLeft recordsAccepted GivenBytes
   follows [] w = record { good = fresh-model-valid (contextOf s) (accepted-valid settings s a); fits = (omega arith, omega arith); left = refl; accepted = refl }
   follows (c ∷ cs) w =
@@ -106,10 +105,10 @@ module _ (settings : List ℕ) (s : Settings) (a : settingsRead settings ≡ Acc
         good = step-valid (contextOf s) (accepted-valid settings s a) (split-neighbours s) m (f .good) (length (c .store)) (c .given) (length (c .room));
         fits = step-fits (contextOf s) m (f .fits) (length (c .store)) (c .given) (length (c .room)) (w .0);
         left = ap (λ (b : List ℕ). stepCall settings b (c .store) (c .given) (c .room) .model) (f .left) ∙ step-model settings s a m (f .good) (f .fits) (c .store) (c .given) (c .room);
-        accepted = taken-same (recordRead s (c .given)) _ _ _ _ zero-taken (f .accepted);
+        accepted = taken-same (recordSaid (recordRead s (c .given))) _ _ _ _ zero-taken (f .accepted);
       }
 
-  under-accepted : (cs : List ModelCall) → Follows cs → (store given room : List ℕ) (n : ℕ)
+  under-accepted : (cs : List StepCall) → Follows cs → (store given room : List ℕ) (n : ℕ)
       → (stepCall settings (modelLeft settings cs) store given room .answer ≡ broken n) ↔ StepBreach (contextOf s) (recordsAccepted settings s cs) (length store) given n
   unfolding steppedAnswer answerOf
   under-accepted cs f store given room n =
@@ -127,7 +126,7 @@ refused-number : (settings model store given room : List ℕ) → settingsRead s
 unfolding underSettings stepCall steppedAnswer answerOf
 refused-number settings model store given room e = rw e
 
-pub calls-judge : (settings : List ℕ) (cs : List ModelCall) → GivenBytes cs → (store given room : List ℕ) (n : ℕ)
+pub calls-judge : (settings : List ℕ) (cs : List StepCall) → GivenBytes cs → (store given room : List ℕ) (n : ℕ)
     → (stepCall settings (modelLeft settings cs) store given room .answer ≡ record { number = 11; rule = n; event = 0; bytes = 0 })
     ↔ AcceptedWith settings (λ s. StepBreach (contextOf s) (recordsAccepted settings s cs) (length store) given n)
 calls-judge settings cs w store given room n =

@@ -4,7 +4,7 @@
 use Prim.Native.Nat.{ℕ}
 use mathlib.Core.Path.{_≡_, refl, sym, _∙_}
 use mathlib.Core.Bool.{Bool, true, false, cond}
-use mathlib.Core.List.{List, [], _∷_}
+use mathlib.Core.List.{List, [], _∷_, _++_}
 use mathlib.Core.Logic.{_↔_}
 use mathlib.Core.Option.{Option, none, some}
 use lib.Dec.{eqb, leb}
@@ -29,7 +29,7 @@ use Rattle.spec_model.specs.declared.Stepped.the-variants.{Refused, Read
 use Rattle.spec_model.specs.Store.{storeLength}
 use Rattle.spec_model.specs.Model.{freshModel, modelNext, retireMask, retiredWrite, readOf}
 use Rattle.spec_model.specs.Step.{retireAnswer, passedAnswer, recordAnswer, readAnswer, stepAnswer, taken, stepModel}
-use Rattle.spec_model.specs.Judges.{ModelCall, modelAfter, withRecord, takenBy, StepBreach}
+use Rattle.spec_model.specs.Judges.{StepCall, modelAfter, recordSaid, takenBy, StepBreach}
 use Rattle.spec_model.proofs.NextValid.{step-keeps}
 
 -- a record that breaks no rule has no 11
@@ -48,10 +48,10 @@ module _ (cx : Context) (ns : Neighbours cx) where
   module _ (m : ModelState) (es : List Record) (k : Tracks cx (m .channel) es) where
     -- so does the model that a call leaves, with the record if it was taken
     pub step-tracks : (stored : ℕ) (given : List ℕ) (room : ℕ)
-        → Tracks cx (stepModel cx m stored given room .channel) (cond (taken cx m stored given room) (withRecord (recordRead (cx .settings) given) es) es)
-    unfolding modelNext withRecord
+        → Tracks cx (stepModel cx m stored given room .channel) (cond (taken cx m stored given room) (recordSaid (recordRead (cx .settings) given)) [] ++ es)
+    unfolding modelNext recordSaid
     step-tracks stored given room =
-        step-keeps cx m (λ t n. Tracks cx (n .channel) (cond t (withRecord (recordRead (cx .settings) given) es) es)) stored given room k
+        step-keeps cx m (λ t n. Tracks cx (n .channel) (cond t (recordSaid (recordRead (cx .settings) given)) [] ++ es)) stored given room k
         (λ r l e j. rw e (tracks-next cx ns (m .channel) es k r (record-read-fits (cx .settings) given r e) (sym (judged-right cx ns (m .channel) es k r) ∙ j)))
 
     -- a call that is refused 11
@@ -89,12 +89,12 @@ module _ (cx : Context) (ns : Neighbours cx) where
         rw (eq-eqb _ _ (b .sized), eq-eqb _ _ (b .whole), b .said, j, ne-eqb n 0 (λ z. omega arith))
 
   -- the model's state is the summary of the records that it has taken
-  pub tracked : (cs : List ModelCall) → Tracks cx (modelAfter cx cs .channel) (takenBy cx cs)
+  pub tracked : (cs : List StepCall) → Tracks cx (modelAfter cx cs .channel) (takenBy cx cs)
   unfolding freshModel modelAfter takenBy
   tracked [] = tracks-fresh cx
   tracked (c ∷ cs) = step-tracks (modelAfter cx cs) (takenBy cx cs) (tracked cs) (length (c .store)) (c .given) (length (c .room))
 
-  pub model-judges : (cs : List ModelCall) (stored : ℕ) (given : List ℕ) (room n : ℕ)
+  pub model-judges : (cs : List StepCall) (stored : ℕ) (given : List ℕ) (room n : ℕ)
       → (stepAnswer cx (modelAfter cx cs) stored given room ≡ Refused (Rule n 0)) ↔ StepBreach cx (takenBy cx cs) stored given n
   model-judges cs stored given room n = (
     step-rule (modelAfter cx cs) (takenBy cx cs) (tracked cs) stored given room n 0,

@@ -4,7 +4,7 @@
 use Prim.Native.Nat.{ℕ}
 use mathlib.Core.Path.{_≡_}
 use mathlib.Core.Bool.{cond}
-use mathlib.Core.List.{List, [], _∷_}
+use mathlib.Core.List.{List, [], _∷_, _++_}
 use lib.ListN.{length}
 use Rattle.record.specs.declared.Record.{Record}
 use Rattle.record.specs.declared.RecordRead.{RecordRead}
@@ -18,27 +18,27 @@ use Rattle.spec_model.specs.Model.{freshModel}
 use Rattle.spec_model.specs.Step.{taken, stepModel}
 
 -- one model call: a store, the bytes of a record and an answer buffer, each of any bytes and any length
-pub record ModelCall : Type 0 where
+pub record StepCall : Type 0 where
   pub store : List ℕ
   pub given : List ℕ
   pub room : List ℕ
 
 -- a fresh model after these calls; a refused one leaves it as it was
-unfoldable pub modelAfter : Context → List ModelCall → ModelState
+unfoldable pub modelAfter : Context → List StepCall → ModelState
 modelAfter cx [] = freshModel
 modelAfter cx (c ∷ cs) = stepModel cx (modelAfter cx cs) (length (c .store)) (c .given) (length (c .room))
 
--- the record that a call's bytes say, and those before it
-unfoldable pub withRecord : RecordRead → List Record → List Record
-withRecord NoRecord es = es
-withRecord (Known r) es = r ∷ es
+-- the record that bytes say, where they say one
+unfoldable pub recordSaid : RecordRead → List Record
+recordSaid NoRecord = []
+recordSaid (Known r) = r ∷ []
 
 -- the records that these calls took
-unfoldable pub takenBy : Context → List ModelCall → List Record
+unfoldable pub takenBy : Context → List StepCall → List Record
 takenBy cx [] = []
 takenBy cx (c ∷ cs) =
-    let es : List Record = takenBy cx cs in
-    cond (taken cx (modelAfter cx cs) (length (c .store)) (c .given) (length (c .room))) (withRecord (recordRead (cx .settings) (c .given)) es) es
+    cond (taken cx (modelAfter cx cs) (length (c .store)) (c .given) (length (c .room))) (recordSaid (recordRead (cx .settings) (c .given))) []
+    ++ takenBy cx cs
 
 -- what 11 with rule n says of a call after the records es: neither 9 nor 13 nor 10 applies, and n is the lowest rule that the
 -- record breaks after es
