@@ -1,6 +1,6 @@
 // Packet words.
 ghost use mathlib.Core.Path.{_≡_};
-ghost use Rattle.word.specs.Words.{wordEncoded, wordDecoded};
+ghost use Rattle.word.specs.Words.{wordEncodeCall, wordDecodeCall};
 use word::PacketAnswer;
 use word::WordAnswer;
 
@@ -13,7 +13,7 @@ pub extern "C" fn rdram_word_encode(
     place: u32,
     mask: u32,
 ) -> WordAnswer
-    ensures { λ r. ⌜ r ≡ wordEncoded (now (settings .entry)) command bank place mask ⌝ }
+    ensures { λ r. ⌜ r ≡ wordEncodeCall (now (settings .entry)) command bank place mask ⌝ }
 {
     word::encode_by(settings, command, bank, place, mask)
 }
@@ -21,7 +21,7 @@ pub extern "C" fn rdram_word_encode(
 // The packet of a word under the settings; kind 0 is ROW, 1 COL.
 #[no_mangle]
 pub extern "C" fn rdram_word_decode(settings: &[u8], kind: u32, word: u64) -> PacketAnswer
-    ensures { λ r. ⌜ r ≡ wordDecoded (now (settings .entry)) kind word ⌝ }
+    ensures { λ r. ⌜ r ≡ wordDecodeCall (now (settings .entry)) kind word ⌝ }
 {
     word::decode_by(settings, kind, word)
 }

@@ -155,7 +155,7 @@ module _ (settings : List ℕ) (s : Settings) (a : settingsRead settings ≡ Acc
   unfolding stepCall underSettings stepUnder contextOf
   step-result = rw (a, model-right (contextOf s) v m k d, model-decode-encode (contextOf s) v m k d)
 
-  step-answer : stepCall settings (modelBytes m) store given room .answer ≡ steppedAnswer called
+  pub step-answer : stepCall settings (modelBytes m) store given room .answer ≡ steppedAnswer called
   step-answer = ap (λ (x : StepResult). x .answer) step-result ∙ go called
     where
       go : (o : Stepped) → stepBy (modelBytes m) store given room (contextOf s) m o .answer ≡ steppedAnswer o
@@ -164,7 +164,7 @@ module _ (settings : List ℕ) (s : Settings) (a : settingsRead settings ≡ Acc
       go (Retired n) = refl
       go Neither = refl
 
-  step-model : stepCall settings (modelBytes m) store given room .model ≡ modelBytes (stepModel (contextOf s) m (length store) given (length room))
+  pub step-model : stepCall settings (modelBytes m) store given room .model ≡ modelBytes (stepModel (contextOf s) m (length store) given (length room))
   unfolding stepModel isTaken
   step-model = ap (λ (x : StepResult). x .model) step-result ∙ go called refl
     where
@@ -252,7 +252,7 @@ pub record Stands (s : Settings) (list : List ℕ) (n : ℕ) (m : ModelState) (s
   pub data-in : Every DataIn l
   pub ready : Ready (contextOf s) m store l
 
-bytes-held : (r : Record) (d : Dualoct) → DataIn r → DataFits d → DataFits (bytesNext r d)
+pub bytes-held : (r : Record) (d : Dualoct) → DataIn r → DataFits d → DataFits (bytesNext r d)
 unfolding bytesNext
 bytes-held (RowAt t p) d i h = h
 bytes-held (ColAt t p) d i h = h

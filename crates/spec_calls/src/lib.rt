@@ -25,3 +25,11 @@ pub struct CheckAnswer {
     pub rule: u32,
     pub place: u64,
 }
+
+// What a copying call answers: number is 0 and count what it made, or the refusal's number and place.
+#[repr(C)]
+pub struct CopyAnswer {
+    pub number: u32,
+    pub place: u64,
+    pub count: u64,
+}

@@ -25,10 +25,11 @@ use Rattle.spec_rules.proofs.Bools.{not-both, and-left, and-right}
 use Rattle.spec_state.specs.Valid.{channelValid}
 use Rattle.spec_state.proofs.NextValid.{fresh-channel-valid, next-channel-valid}
 use Rattle.spec_model.specs.declared.ModelState.{ModelState}
+use Rattle.spec_model.specs.declared.Stepped.{Stepped}
 use Rattle.spec_model.specs.declared.Stepped.the-variants.{Refused}
 use Rattle.spec_model.specs.Store.{storeLength}
 use Rattle.spec_model.specs.Model.{freshModel, modelValid, refrBy, refrNext, modelNext, retiredWrite, readOf, retireMask}
-use Rattle.spec_model.specs.Step.{retireAnswer, passedAnswer, recordAnswer, readAnswer, stepAnswer, isTaken, modelBy, stepModel}
+use Rattle.spec_model.specs.Step.{retireAnswer, passedAnswer, recordAnswer, readAnswer, stepAnswer, isTaken, taken, modelBy, stepModel}
 
 pub fresh-model-valid : (cx : Context) → valid (cx .settings) ≡ true → modelValid cx freshModel ≡ true
 unfolding freshModel modelValid
@@ -48,14 +49,8 @@ refr-in cx n (RowAt t (Refp b)) refr h = h
 refr-in cx n (ColAt t p) refr h = h
 refr-in cx n (DataOf t d) refr h = h
 
-module _ (cx : Context) (v : valid (cx .settings) ≡ true) (ns : Neighbours cx) (m : ModelState) (k : modelValid cx m ≡ true) where
-  pub next-model-valid : (r : Record) → recordFits (cx .settings) r ≡ true → judged cx (m .channel) r ≡ 0 → modelValid cx (modelNext cx m r) ≡ true
-  unfolding modelValid modelNext
-  next-model-valid r f j =
-      let ch = next-channel-valid cx ns (m .channel) r (and-left (channelValid cx (m .channel)) _ k) f j in
-      let refr = refr-in cx (bounds (cx .settings) v .rows-least) r (m .refr) (ltb-true (m .refr) (cx .settings .rows) (and-right (channelValid cx (m .channel)) _ k)) in
-      rw (ch, lt-ltb _ _ refr)
-
+-- of a model before a call
+module _ (cx : Context) (m : ModelState) where
   -- a record that is taken breaks no rule
   taken-judged : (r : Record) (room : ℕ) → isTaken (recordAnswer cx m r room) ≡ true → judged cx (m .channel) r ≡ 0
   unfolding recordAnswer isTaken
@@ -67,21 +62,35 @@ module _ (cx : Context) (v : valid (cx .settings) ≡ true) (ns : Neighbours cx)
       go true h t = eqb-true _ 0 h
       go false h t = not-both false t refl
 
-  read-valid : (read : RecordRead) → ((r : Record) → read ≡ Known r → recordFits (cx .settings) r ≡ true) → (room : ℕ) → isTaken (readAnswer cx m read room) ≡ true
-      → modelValid cx (modelBy cx m read) ≡ true
-  unfolding readAnswer modelBy
-  read-valid NoRecord f room t = k
-  read-valid (Known r) f room t = next-model-valid r (f r refl) (taken-judged r room t)
+  -- what holds of this model, and of it after any record that is said by the call's 32 bytes and breaks no rule, holds after a call
+  pub step-keeps : (P : Bool → ModelState → Type 0) (stored : ℕ) (given : List ℕ) (room : ℕ) → P false m
+      → ((r : Record) → length given ≡ 32 → recordRead (cx .settings) given ≡ Known r → judged cx (m .channel) r ≡ 0 → P true (modelNext cx m r))
+      → P (taken cx m stored given room) (stepModel cx m stored given room)
+  unfolding stepModel stepAnswer readAnswer modelBy isTaken
+  step-keeps P stored given room same next = go (eqb stored (storeLength cx)) (eqb (length given) 32) (recordRead (cx .settings) given) refl refl
+    where
+      by : (r : Record) → length given ≡ 32 → recordRead (cx .settings) given ≡ Known r → (t : Bool) → isTaken (recordAnswer cx m r room) ≡ t → P t (cond t (modelNext cx m r) m)
+      by r l e true h = next r l e (taken-judged r room h)
+      by r l e false h = same
+
+      after : Stepped → RecordRead → Type 0
+      after a read = P (isTaken a) (cond (isTaken a) (modelBy cx m read) m)
+
+      go : (p q : Bool) (read : RecordRead) → eqb (length given) 32 ≡ q → recordRead (cx .settings) given ≡ read
+          → after (cond p (cond q (readAnswer cx m read room) (Refused Length)) (Refused Store)) read
+      go true true NoRecord l e = same
+      go true true (Known r) l e = by r (eqb-true _ _ l) e (isTaken (recordAnswer cx m r room)) refl
+      go true false read l e = same
+      go false q read l e = same
+
+module _ (cx : Context) (v : valid (cx .settings) ≡ true) (ns : Neighbours cx) (m : ModelState) (k : modelValid cx m ≡ true) where
+  pub next-model-valid : (r : Record) → recordFits (cx .settings) r ≡ true → judged cx (m .channel) r ≡ 0 → modelValid cx (modelNext cx m r) ≡ true
+  unfolding modelValid modelNext
+  next-model-valid r f j =
+      let ch = next-channel-valid cx ns (m .channel) r (and-left (channelValid cx (m .channel)) _ k) f j in
+      let refr = refr-in cx (bounds (cx .settings) v .rows-least) r (m .refr) (ltb-true (m .refr) (cx .settings .rows) (and-right (channelValid cx (m .channel)) _ k)) in
+      rw (ch, lt-ltb _ _ refr)
 
   pub step-valid : (stored : ℕ) (given : List ℕ) (room : ℕ) → modelValid cx (stepModel cx m stored given room) ≡ true
-  unfolding stepModel stepAnswer isTaken
-  step-valid stored given room = go (eqb stored (storeLength cx)) (eqb (length given) 32)
-    where
-      by : (t : Bool) → isTaken (readAnswer cx m (recordRead (cx .settings) given) room) ≡ t → modelValid cx (cond t (modelBy cx m (recordRead (cx .settings) given)) m) ≡ true
-      by true e = read-valid (recordRead (cx .settings) given) (λ r q. record-read-fits (cx .settings) given r q) room e
-      by false e = k
-
-      go : (p q : Bool) → modelValid cx (cond (isTaken (cond p (cond q (readAnswer cx m (recordRead (cx .settings) given) room) (Refused Length)) (Refused Store))) (modelBy cx m (recordRead (cx .settings) given)) m) ≡ true
-      go true true = by (isTaken (readAnswer cx m (recordRead (cx .settings) given) room)) refl
-      go true false = k
-      go false q = k
+  step-valid stored given room =
+      step-keeps cx m (λ t n. modelValid cx n ≡ true) stored given room k (λ r l e j. next-model-valid r (record-read-fits (cx .settings) given r e) j)

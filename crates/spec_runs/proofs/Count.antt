@@ -31,7 +31,8 @@ use Rattle.spec_model.specs.declared.Stepped.the-variants.{Refused, Read}
 use Rattle.spec_model.specs.Store.{governs, onesUpTo, ones, storeLength}
 use Rattle.spec_model.specs.Model.{freshModel, retireMask, retiredWrite, modelNext, readOf}
 use Rattle.spec_model.specs.Step.{retireAnswer, passedAnswer, recordAnswer, readAnswer, stepAnswer, isTaken, taken, modelBy, stepModel, stepStore}
-use Rattle.spec_runs.specs.Count.{writtenBy, maskIf, maskAt, masksAfter, retiredMasks, onesOf, ModelCall, recordSaid, writtenAll, takenAll}
+use Rattle.spec_model.specs.Judges.{recordSaid}
+use Rattle.spec_runs.specs.Count.{writtenBy, maskIf, maskAt, masksAfter, retiredMasks, onesOf, ModelCall, writtenAll, takenAll}
 use Rattle.spec_runs.proofs.PlainRun.{maskBy, masksAll}
 
 pub ones-append : (a b : List ℕ) → onesOf (a ++ b) ≡ onesOf a + onesOf b

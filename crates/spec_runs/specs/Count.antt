@@ -7,8 +7,6 @@ use mathlib.Core.List.{List, [], _∷_, _++_}
 use mathlib.Core.Option.{Option, none, some}
 use lib.ListN.{length}
 use Rattle.record.specs.declared.Record.{Record}
-use Rattle.record.specs.declared.RecordRead.{RecordRead}
-use Rattle.record.specs.declared.RecordRead.the-variants.{NoRecord, Known}
 use Rattle.record.specs.Record.{recordRead}
 use Rattle.spec_rules.specs.declared.Write.{Write}
 use Rattle.spec_rules.specs.Neighbour.{Context}
@@ -19,6 +17,7 @@ use Rattle.spec_model.specs.declared.Stepped.the-variants.{Refused, Read, Retir
 use Rattle.spec_model.specs.Store.{ones}
 use Rattle.spec_model.specs.Model.{retireMask}
 use Rattle.spec_model.specs.Step.{stepAnswer, taken, stepModel, stepStore}
+use Rattle.spec_model.specs.Judges.{recordSaid}
 
 -- the number of bytes that an answer says were written
 unfoldable pub writtenBy : Stepped → ℕ
@@ -55,11 +54,6 @@ onesOf (mask ∷ l) = ones mask + onesOf l
 pub record ModelCall : Type 0 where
   pub given : List ℕ
   pub room : ℕ
-
--- the record that bytes say, where they say one
-unfoldable pub recordSaid : RecordRead → List Record
-recordSaid NoRecord = []
-recordSaid (Known r) = r ∷ []
 
 module _ (cx : Context) where
   -- "their sum": of the numbers that the calls answer

@@ -30,8 +30,9 @@ use Rattle.packet.proofs.ColLaws.{col-decode-encode, col-encode-decode}
 use Rattle.record.specs.declared.Refusal.the-variants as refusal
 use Rattle.record.specs.Refusal.{answerOf}
 use Rattle.record.proofs.RefusalLaws.{refused-number}
+use Rattle.spec_calls.specs.Settings.{underSettings}
 use Rattle.word.specs.declared.PacketAnswer.{PacketAnswer}
-use Rattle.word.specs.Words.{fieldsRight, rowCommand, colCommand, commandCoded, noWordAnswer, whyNoWord, wordAnswer, wordUnder, wordEncoded, rowNumbers, colNumbers, noPacket, rowAnswer, colAnswer, packetAnswer, packetUnder, wordDecoded}
+use Rattle.word.specs.Words.{fieldsRight, rowCommand, colCommand, commandCoded, noWordAnswer, whyNoWord, wordAnswer, wordEncodeCall, rowNumbers, colNumbers, noPacket, rowAnswer, colAnswer, packetAnswer, wordDecodeCall}
 
 -- the kind of a command's word: ROW for 0 to 3, and else COL
 abbrev pub kindOfCommand : ℕ → ℕ
@@ -93,20 +94,20 @@ decoded s b command bank place mask w e =
     (chosen (leb command 3) _ _ _ (f .1))
 
 -- what was encoded is decoded
-pub word-decode-encode : (settings : List ℕ) (command bank place mask : ℕ) → wordEncoded settings command bank place mask .number ≡ 0
-    → wordDecoded settings (kindOfCommand command) (wordEncoded settings command bank place mask .word) ≡ record { number = 0; command = command; bank = bank; place = place; mask = mask }
-unfolding wordEncoded wordDecoded wordUnder packetUnder wordAnswer noWordAnswer answerOf
-word-decode-encode settings command bank place mask e = go (settingsRead settings) refl e
+pub word-decode-encode : (settings : List ℕ) (command bank place mask : ℕ) → wordEncodeCall settings command bank place mask .number ≡ 0
+    → wordDecodeCall settings (kindOfCommand command) (wordEncodeCall settings command bank place mask .word) ≡ record { number = 0; command = command; bank = bank; place = place; mask = mask }
+unfolding underSettings wordAnswer noWordAnswer wordEncodeCall wordDecodeCall
+word-decode-encode settings command bank place mask e = go (settingsRead settings) refl
   where
     word : (s : Settings) → Bounds s → (c : Coded) → commandCoded s command bank place mask ≡ c → wordAnswer (whyNoWord s command bank place) c .number ≡ 0
         → packetAnswer s (kindOfCommand command) (wordAnswer (whyNoWord s command bank place) c .word) ≡ numbers command bank place mask
     word s b NoWord q e = absurd (refused-number (whyNoWord s command bank place) e)
     word s b (Word w) q e = decoded s b command bank place mask w q
 
-    go : (r : SettingsRead) → settingsRead settings ≡ r → wordUnder r command bank place mask .number ≡ 0
-        → packetUnder r (kindOfCommand command) (wordUnder r command bank place mask .word) ≡ numbers command bank place mask
-    go Refused q e = absurd (omega arith)
-    go (Accepted s) q e = word s (bounds s (accepted-valid settings s q)) (commandCoded s command bank place mask) refl e
+    go : (r : SettingsRead) → settingsRead settings ≡ r
+        → wordDecodeCall settings (kindOfCommand command) (wordEncodeCall settings command bank place mask .word) ≡ numbers command bank place mask
+    go Refused q = absurd (refused-number refusal.Settings (rw q at e))
+    go (Accepted s) q = rw q (word s (bounds s (accepted-valid settings s q)) (commandCoded s command bank place mask) refl (rw q at e))
 
 -- ---- what was decoded is encoded
 
@@ -144,12 +145,12 @@ packet-back s kind w =
     (either (Encodes s w) (eqb kind 1) _ _ (col-back s w _ refl) (no-back s w))
 
 -- the numbers of a word that was decoded are encoded to that word
-pub word-encode-decode : (settings : List ℕ) (kind w : ℕ) (a : PacketAnswer) → wordDecoded settings kind w ≡ a → a .number ≡ 0
-    → wordEncoded settings (a .command) (a .bank) (a .place) (a .mask) ≡ record { number = 0; word = w }
-unfolding wordEncoded wordDecoded wordUnder packetUnder wordAnswer noPacket answerOf
-word-encode-decode settings kind w a e n = rw (← e) (go (settingsRead settings) (rw e n))
+pub word-encode-decode : (settings : List ℕ) (kind w : ℕ) (a : PacketAnswer) → wordDecodeCall settings kind w ≡ a → a .number ≡ 0
+    → wordEncodeCall settings (a .command) (a .bank) (a .place) (a .mask) ≡ record { number = 0; word = w }
+unfolding underSettings wordAnswer noPacket wordEncodeCall wordDecodeCall
+word-encode-decode settings kind w a e n = rw (← e) (go (settingsRead settings) refl (rw (← e) at n))
   where
-    go : (r : SettingsRead) → packetUnder r kind w .number ≡ 0
-        → wordUnder r (packetUnder r kind w .command) (packetUnder r kind w .bank) (packetUnder r kind w .place) (packetUnder r kind w .mask) ≡ record { number = 0; word = w }
-    go Refused n = absurd (omega arith)
-    go (Accepted s) n = rw (packet-back s kind w n)
+    go : (r : SettingsRead) → settingsRead settings ≡ r → wordDecodeCall settings kind w .number ≡ 0
+        → let b : PacketAnswer = wordDecodeCall settings kind w in wordEncodeCall settings (b .command) (b .bank) (b .place) (b .mask) ≡ record { number = 0; word = w }
+    go Refused q n = absurd (refused-number refusal.Settings (rw q at n))
+    go (Accepted s) q n = rw q (rw (packet-back s kind w (rw q at n)))

@@ -6,9 +6,6 @@ use mathlib.Core.Bool.{Bool, cond, _&&_, _||_}
 use mathlib.Core.List.{List}
 use lib.Dec.{eqb, leb}
 use Rattle.settings.specs.declared.Settings.{Settings}
-use Rattle.settings.specs.declared.SettingsRead.{SettingsRead}
-use Rattle.settings.specs.declared.SettingsRead.the-variants.{Refused, Accepted}
-use Rattle.settings.specs.Settings.{settingsRead}
 use Rattle.packet.specs.declared.Coded.{Coded}
 use Rattle.packet.specs.declared.Coded.the-variants.{NoWord, Word}
 use Rattle.packet.specs.declared.RowPacket.{RowPacket}
@@ -24,6 +21,7 @@ use Rattle.packet.specs.Col.{colCoded, colDecoded}
 use Rattle.record.specs.declared.Refusal.{Refusal}
 use Rattle.record.specs.declared.Refusal.the-variants as refusal
 use Rattle.record.specs.Refusal.{answerOf}
+use Rattle.spec_calls.specs.Settings.{underSettings}
 use Rattle.word.specs.declared.WordAnswer.{WordAnswer}
 use Rattle.word.specs.declared.PacketAnswer.{PacketAnswer}
 
@@ -69,13 +67,9 @@ wordAnswer why NoWord = noWordAnswer why
 wordAnswer why (Word w) = record { number = 0; word = w }
 
 -- 1 for settings out of range, then 4, 5, 6 and 10 for fields that have no word
-unfoldable pub wordUnder : SettingsRead → ℕ → ℕ → ℕ → ℕ → WordAnswer
-wordUnder Refused command bank place mask = noWordAnswer refusal.Settings
-wordUnder (Accepted s) command bank place mask =
-    wordAnswer (whyNoWord s command bank place) (commandCoded s command bank place mask)
-
-unfoldable pub wordEncoded : List ℕ → ℕ → ℕ → ℕ → ℕ → WordAnswer
-wordEncoded settings command bank place mask = wordUnder (settingsRead settings) command bank place mask
+unfoldable pub wordEncodeCall : List ℕ → ℕ → ℕ → ℕ → ℕ → WordAnswer
+wordEncodeCall settings command bank place mask =
+    underSettings settings (noWordAnswer refusal.Settings) (λ s. wordAnswer (whyNoWord s command bank place) (commandCoded s command bank place mask))
 
 -- a packet in numbers
 unfoldable pub rowNumbers : RowPacket → PacketAnswer
@@ -107,9 +101,5 @@ packetAnswer s kind w =
     (cond (eqb kind 1) (colAnswer (colDecoded (s .device) (s .columns) w)) (noPacket (refusal.Word 0)))
 
 -- 1 for settings out of range, then 10
-unfoldable pub packetUnder : SettingsRead → ℕ → ℕ → PacketAnswer
-packetUnder Refused kind w = noPacket refusal.Settings
-packetUnder (Accepted s) kind w = packetAnswer s kind w
-
-unfoldable pub wordDecoded : List ℕ → ℕ → ℕ → PacketAnswer
-wordDecoded settings kind w = packetUnder (settingsRead settings) kind w
+unfoldable pub wordDecodeCall : List ℕ → ℕ → ℕ → PacketAnswer
+wordDecodeCall settings kind w = underSettings settings (noPacket refusal.Settings) (λ s. packetAnswer s kind w)

@@ -1,7 +1,7 @@
 // Packet words in numbers, as C callers give and take them.
 ghost use mathlib.Core.Path.{_≡_};
 ghost use Prim.Native.Nat.{_<_};
-ghost use Rattle.word.specs.Words.{fieldsRight, rowCommand, colCommand, commandCoded, noWordAnswer, whyNoWord, wordAnswer, wordEncoded, rowNumbers, colNumbers, noPacket, rowAnswer, colAnswer, packetAnswer, wordDecoded};
+ghost use Rattle.word.specs.Words.{fieldsRight, rowCommand, colCommand, commandCoded, noWordAnswer, whyNoWord, wordAnswer, wordEncodeCall, rowNumbers, colNumbers, noPacket, rowAnswer, colAnswer, packetAnswer, wordDecodeCall};
 use packet::Coded;
 use packet::ColDecoded;
 use packet::ColPacket;
@@ -235,7 +235,7 @@ fn packet_answer(s: Settings, kind: u32, word: u64) -> PacketAnswer
 
 // The word of a packet under settings as bytes.
 pub fn encode_by(settings: &[u8], command: u32, bank: u32, place: u32, mask: u32) -> WordAnswer
-    ensures { λ r. ⌜ r ≡ wordEncoded (now (settings .entry)) command bank place mask ⌝ }
+    ensures { λ r. ⌜ r ≡ wordEncodeCall (now (settings .entry)) command bank place mask ⌝ }
 {
     match settings::read::read_settings(settings) {
         SettingsRead::Refused => no_word(Refusal::Settings),
@@ -248,7 +248,7 @@ pub fn encode_by(settings: &[u8], command: u32, bank: u32, place: u32, mask: u32
 
 // The packet of a word under settings as bytes; kind 0 is ROW, 1 COL.
 pub fn decode_by(settings: &[u8], kind: u32, word: u64) -> PacketAnswer
-    ensures { λ r. ⌜ r ≡ wordDecoded (now (settings .entry)) kind word ⌝ }
+    ensures { λ r. ⌜ r ≡ wordDecodeCall (now (settings .entry)) kind word ⌝ }
 {
     match settings::read::read_settings(settings) {
         SettingsRead::Refused => no_packet(Refusal::Settings),

@@ -1,6 +1,7 @@
 -- `decode_by` meets its contract: each arm is a case of the definition.
 use mathlib.Core.Path.{_∙_, sym}
-use Rattle.word.specs.Words.{wordDecoded, packetUnder}
+use Rattle.spec_calls.specs.Settings.{underSettings}
+use Rattle.word.specs.Words.{wordDecodeCall}
 use borrow.Author.Needs.{needs}
 use Rattle.word.proofs.decode_by.Statement.{statement}
 use Rattle.word.proofs.decode_by.Tie as tie
@@ -21,11 +22,11 @@ packet-answer-requires : tie.Need-packet-answer-requires
 packet-answer-requires c κs = search needs
 
 returns : tie.Need-returns
-unfolding wordDecoded packetUnder
+unfolding underSettings wordDecodeCall
 returns c = rw (sym (c .before .before .before .read-settings .ensures) ∙ c .before .enum-told .given .1) (c .no-packet .ensures)
 
 returns-2 : tie.Need-returns-2
-unfolding wordDecoded packetUnder
+unfolding underSettings wordDecodeCall
 returns-2 c = rw (sym (c .before .before .before .before .read-settings .ensures) ∙ c .before .before .s .given .1) (c .packet-answer .ensures)
 
 pub decode-by-spec : {M : Type 1} → statement M

@@ -2,7 +2,8 @@
 use mathlib.Core.Path.{_∙_, sym}
 use native.Mathlib.Omega.{arith}
 use Rattle.settings.proofs.SettingsLaws.{bounds, accepted-valid}
-use Rattle.word.specs.Words.{wordEncoded, wordUnder}
+use Rattle.spec_calls.specs.Settings.{underSettings}
+use Rattle.word.specs.Words.{wordEncodeCall}
 use borrow.Author.Needs.{needs}
 use Rattle.word.proofs.encode_by.Statement.{statement}
 use Rattle.word.proofs.encode_by.Tie as tie
@@ -32,11 +33,11 @@ word-answer-requires : tie.Need-word-answer-requires
 word-answer-requires c κs = search needs
 
 returns : tie.Need-returns
-unfolding wordEncoded wordUnder
+unfolding underSettings wordEncodeCall
 returns c = rw (sym (c .before .before .before .read-settings .ensures) ∙ c .before .enum-told .given .1) (c .no-word .ensures)
 
 returns-2 : tie.Need-returns-2
-unfolding wordEncoded wordUnder
+unfolding underSettings wordEncodeCall
 returns-2 c =
     let d = c .before .before in
     rw (sym (d .before .before .before .before .read-settings .ensures) ∙ d .before .before .s .given .1, ← c .before .command-coded .ensures, ← d .why-no-word .ensures) (c .word-answer .ensures)
