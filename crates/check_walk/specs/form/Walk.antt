@@ -12,7 +12,7 @@ use Rattle.record.specs.Record.{recordRead, wellFormed}
 use Rattle.spec_rules.specs.Neighbour.{Context}
 use Rattle.spec_rules.specs.Checks.{foundAt}
 use Rattle.spec_check.specs.Check.{known}
-use Rattle.check_list.specs.declared.Stop.{Stop}
+use Rattle.check_walk.specs.declared.Stop.{Stop}
 
 -- the place of record i: in a log its block has 512 bytes and 15 records
 unfoldable pub placeIn : Bool → ℕ → ℕ
