@@ -2,7 +2,7 @@
 -- Assumes nothing.
 use Prim.Native.Nat.{ℕ, _+_, _<_}
 use mathlib.Core.Path.{_≡_, refl, sym, _∙_, ap, ap₂}
-use mathlib.Core.Bool.{Bool, true, false, _&&_, cond, and-false}
+use mathlib.Core.Bool.{Bool, true, false, cond, and-false}
 use mathlib.Core.List.{List}
 use native.Mathlib.Omega.{arith}
 use borrow.Author.Tests.{eq-eqb, eqb-true}
@@ -38,11 +38,11 @@ use Rattle.chan_least.specs.form.Quick.{actBy, recordWell}
 use Rattle.chan_least.proofs.PassLaws.{Met, passes-legal, passes-data}
 use Rattle.spec_check.specs.Check.{known}
 use Rattle.check_walk.specs.declared.Latest.{Latest}
-use Rattle.check_walk.specs.form.Turn.{viewIn, tracksWith, openedTrack, newestNext, latestNext, channelOf}
+use Rattle.check_walk.specs.form.Turn.{viewIn, tracksWith, openedTrack, latestNext, channelOf}
 use Rattle.check_walk.specs.form.Walk.{placeIn, recordsVia, formedVia, foundVia}
 use Rattle.check_walk.proofs.ViaLaws.{via-at, channel-next}
 use Rattle.check_walk.proofs.StopLaws.{holds}
-use Rattle.check_walk.proofs.StoreLaws.{Within, Opened, fits-bank, held-within, within-next, opened-next, length-retired, length-next, withRd, withRetire, retireStore, openStore, threeStores, closeStores, ownStores, slot-in, turn-stored}
+use Rattle.check_walk.proofs.StoreLaws.{Within, Opened, fits-bank, held-within, within-next, opened-next, length-retired, length-next, withRd, withRetire, retireStore, openStore, closeStores, ownStores, slot-in, turn-stored}
 
 -- ---- the record that is read
 
