@@ -1,0 +1,4 @@
+pub mod FitLaws
+pub mod ModelLaws
+pub mod NextLaws
+pub mod TakenLaws
