@@ -11,7 +11,7 @@ use Rattle.spec_rules.specs.declared.BankTrack.{BankTrack}
 use Rattle.spec_rules.specs.Neighbour.{bankCount, Context}
 use Rattle.spec_rules.specs.Channel.{idle}
 use Rattle.spec_rules.proofs.Bools.{and-left}
-use Rattle.spec_state.specs.ChannelBytes.{lastsIn, instantIn, trackIn, channelIn}
+use Rattle.spec_state.specs.ChannelBytes.{bufferIn, lastsIn, instantIn, trackIn, channelIn}
 use Rattle.spec_state.proofs.PlaneLaws.{length-tracks, tracks-at}
 use Rattle.spec_model.specs.ModelBytes.{modelLength, modelRight}
 
@@ -22,6 +22,10 @@ banks-count b = length-tracks b 32
 pub track-read : (b : List ℕ) (x : ℕ) → x < 32 → trackIn b x ≡ getD (channelIn b .banks) x idle
 unfolding channelIn bankCount
 track-read b x l = sym (tracks-at b 32 x l)
+
+pub buffer-read : (b : List ℕ) → bufferIn b ≡ channelIn b .buffer
+unfolding channelIn
+buffer-read b = refl
 
 pub lasts-read : (b : List ℕ) → lastsIn b ≡ channelIn b .lasts
 unfolding channelIn
