@@ -10,5 +10,11 @@ planner-rest-right-requires c κs =
     let z = c .before .before in
     (z .pre .0, calm-stored (z .args .b .now) (sym (z .pre .1) ∙ c .if1 .taken))
 
+returns : tie.Need-returns
+returns c = c .planner-rest-right .ensures
+
+returns-2 : tie.Need-returns-2
+returns-2 c = c .planner-right .ensures
+
 pub right-spec : {M : Type 1} → statement M
-right-spec = tie.close (tie.spec planner-rest-right-requires (λ c. search needs) (λ c κs. search needs) (λ c. search needs))
+right-spec = tie.close (tie.spec planner-rest-right-requires returns (λ c κs. search needs) returns-2)
