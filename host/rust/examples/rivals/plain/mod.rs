@@ -11,7 +11,7 @@ pub mod planner;
 
 use crate::rivals::tuned_state::{beside, since, Figures, Write, LAST, UNDER_REFRESH};
 
-pub const CHANNEL_BYTES: usize = 732;
+pub const CHANNEL_BYTES: usize = 752;
 
 #[derive(Clone, Copy, PartialEq, Eq)]
 pub enum Bank {
@@ -180,27 +180,27 @@ impl Channel {
 
     // ---- Bytes ----
 
-    /// None where the buffer's bytes are of no kind.
+    /// None where the bytes from 724 on are of no buffer.
     pub fn decode(bytes: &[u8; CHANNEL_BYTES]) -> Option<Channel> {
         let mut banks = [Track::CLOSED; 32];
         for (x, t) in banks.iter_mut().enumerate() {
             *t = Track {
                 bank: Bank::of(half(bytes, 640 + 2 * x)),
-                opened: word(bytes, 4 * x),
-                act: word(bytes, 128 + 4 * x),
-                pre: word(bytes, 256 + 4 * x),
-                rd: word(bytes, 384 + 4 * x),
-                retire: word(bytes, 512 + 4 * x),
+                opened: instant(bytes, 4 * x),
+                act: instant(bytes, 128 + 4 * x),
+                pre: instant(bytes, 256 + 4 * x),
+                rd: instant(bytes, 384 + 4 * x),
+                retire: instant(bytes, 512 + 4 * x),
             };
         }
         Some(Channel {
             banks,
-            last: word(bytes, 704),
-            last_row: word(bytes, 708),
-            last_col: word(bytes, 712),
-            last_pre: word(bytes, 716),
-            last_rd: word(bytes, 720),
-            buffer: Buffer::of(bytes[724..732].try_into().unwrap())?,
+            last: instant(bytes, 704),
+            last_row: instant(bytes, 708),
+            last_col: instant(bytes, 712),
+            last_pre: instant(bytes, 716),
+            last_rd: instant(bytes, 720),
+            buffer: Buffer::of(bytes.last_chunk().unwrap())?,
         })
     }
 
@@ -227,19 +227,19 @@ impl Channel {
 
     pub fn encode(&self, bytes: &mut [u8; CHANNEL_BYTES]) {
         for (x, t) in self.banks.iter().enumerate() {
-            put_word(bytes, 4 * x, t.opened);
-            put_word(bytes, 128 + 4 * x, t.act);
-            put_word(bytes, 256 + 4 * x, t.pre);
-            put_word(bytes, 384 + 4 * x, t.rd);
-            put_word(bytes, 512 + 4 * x, t.retire);
+            put_instant(bytes, 4 * x, t.opened);
+            put_instant(bytes, 128 + 4 * x, t.act);
+            put_instant(bytes, 256 + 4 * x, t.pre);
+            put_instant(bytes, 384 + 4 * x, t.rd);
+            put_instant(bytes, 512 + 4 * x, t.retire);
             put_half(bytes, 640 + 2 * x, t.bank.tag());
         }
-        put_word(bytes, 704, self.last);
-        put_word(bytes, 708, self.last_row);
-        put_word(bytes, 712, self.last_col);
-        put_word(bytes, 716, self.last_pre);
-        put_word(bytes, 720, self.last_rd);
-        bytes[724..].copy_from_slice(&self.buffer.bytes());
+        put_instant(bytes, 704, self.last);
+        put_instant(bytes, 708, self.last_row);
+        put_instant(bytes, 712, self.last_col);
+        put_instant(bytes, 716, self.last_pre);
+        put_instant(bytes, 720, self.last_rd);
+        *bytes.last_chunk_mut().unwrap() = self.buffer.bytes();
     }
 }
 
@@ -286,29 +286,34 @@ impl Track {
 }
 
 impl Buffer {
-    fn of(bytes: [u8; 8]) -> Option<Buffer> {
-        let [kind, bank, column, zero, at @ ..] = bytes;
+    /// None where the numbers of writes and of data due are of no buffer, or a byte that is not used
+    /// is not 0.
+    fn of(bytes: &[u8; 28]) -> Option<Buffer> {
         let w = Write {
-            bank: bank.into(),
-            column: column.into(),
-            at: u32::from_le_bytes(at),
+            bank: bytes[12].into(),
+            column: bytes[13].into(),
+            at: instant(bytes, 16),
         };
-        match kind {
-            0 => (bytes == [0; 8]).then_some(Buffer::Empty),
-            1 => (zero == 0).then_some(Buffer::Waiting(w)),
-            2 => (zero == 0).then_some(Buffer::Due(w)),
-            _ => None,
-        }
+        let buffer = match bytes[4..6] {
+            [0, 0] => Buffer::Empty,
+            [1, 0] => Buffer::Waiting(w),
+            [1, 1] => Buffer::Due(w),
+            _ => return None,
+        };
+        (buffer.bytes() == *bytes).then_some(buffer)
     }
 
-    fn bytes(self) -> [u8; 8] {
-        let (kind, w) = match self {
-            Buffer::Empty => return [0; 8],
-            Buffer::Waiting(w) => (1, w),
-            Buffer::Due(w) => (2, w),
+    fn bytes(self) -> [u8; 28] {
+        let mut bytes = [0; 28];
+        let (due, w) = match self {
+            Buffer::Empty => return bytes,
+            Buffer::Waiting(w) => (0, w),
+            Buffer::Due(w) => (1, w),
         };
-        let [a, b, c, d] = w.at.to_le_bytes();
-        [kind, w.bank as u8, w.column as u8, 0, a, b, c, d]
+        (bytes[4], bytes[5]) = (1, due);
+        (bytes[12], bytes[13]) = (w.bank as u8, w.column as u8);
+        put_instant(&mut bytes, 16, w.at);
+        bytes
     }
 }
 
@@ -320,16 +325,20 @@ fn is_last(at: u32) -> bool {
     at == 0 || is_instant(at)
 }
 
-pub fn word(bytes: &[u8], at: usize) -> u32 {
-    u32::from_le_bytes(bytes[at..at + 4].try_into().unwrap())
+/// An instant that is stored less 3, and 0 for never. One that is too large stays so.
+pub fn instant(bytes: &[u8], at: usize) -> u32 {
+    match u32::from_le_bytes(bytes[at..at + 4].try_into().unwrap()) {
+        0 => 0,
+        stored => stored.saturating_add(3),
+    }
 }
 
 pub fn half(bytes: &[u8], at: usize) -> u16 {
     u16::from_le_bytes(bytes[at..at + 2].try_into().unwrap())
 }
 
-pub fn put_word(bytes: &mut [u8], at: usize, number: u32) {
-    bytes[at..at + 4].copy_from_slice(&number.to_le_bytes());
+pub fn put_instant(bytes: &mut [u8], at: usize, instant: u32) {
+    bytes[at..at + 4].copy_from_slice(&instant.saturating_sub(3).to_le_bytes());
 }
 
 pub fn put_half(bytes: &mut [u8], at: usize, number: u16) {

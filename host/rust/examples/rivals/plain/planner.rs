@@ -1,6 +1,6 @@
 //! The planner of the rival "plain".
 
-use super::{half, is_instant, put_half, put_word, word, Bank, Buffer, Channel};
+use super::{half, instant, is_instant, put_half, put_instant, Bank, Buffer, Channel};
 use crate::rivals::tuned_plan::STATE_BYTES;
 use crate::rivals::tuned_requests::{Asked, Out, Refused, Request, RECORDS};
 use crate::rivals::tuned_state::{
@@ -198,13 +198,15 @@ impl Planner {
 
     // ---- State bytes ----
 
+    /// None where the bytes are of no buffer, or a byte that is not used is not 0.
     fn decode(state: &[u8; STATE_BYTES]) -> Option<Planner> {
-        Some(Planner {
+        let planner = Planner {
             channel: Channel::decode(state.first_chunk().unwrap())?,
-            now: word(state, 732),
-            refresh: half(state, 736),
-            mask: half(state, 738),
-        })
+            now: instant(state, 752),
+            refresh: half(state, 756),
+            mask: half(state, 760),
+        };
+        (state[758..760] == [0; 2] && state[762..] == [0; 6]).then_some(planner)
     }
 
     /// Whether refusal 1 has nothing against the planner.
@@ -219,9 +221,10 @@ impl Planner {
 
     pub fn encode(&self, state: &mut [u8; STATE_BYTES]) {
         self.channel.encode(state.first_chunk_mut().unwrap());
-        put_word(state, 732, self.now);
-        put_half(state, 736, self.refresh);
-        put_half(state, 738, self.mask);
+        state[752..].fill(0);
+        put_instant(state, 752, self.now);
+        put_half(state, 756, self.refresh);
+        put_half(state, 760, self.mask);
     }
 }
 
