@@ -9,7 +9,7 @@ pub mod log;
 pub mod model;
 pub mod planner;
 
-use crate::rivals::tuned_state::{beside, since, Figures, Write, LAST, UNDER_REFRESH};
+use crate::rivals::tuned_state::{beside, since, Figures, Write, MOST, UNDER_REFRESH};
 
 pub const CHANNEL_BYTES: usize = 752;
 
@@ -20,7 +20,8 @@ pub enum Bank {
     Refresh,
 }
 
-/// A bank with the instants of its last packets; an instant is 0 for never.
+/// A bank with the instants of its last packets; an instant is counted from `BASE`, as in the bytes,
+/// and 0 for never.
 #[derive(Clone, Copy)]
 pub struct Track {
     pub bank: Bank,
@@ -186,20 +187,20 @@ impl Channel {
         for (x, t) in banks.iter_mut().enumerate() {
             *t = Track {
                 bank: Bank::of(half(bytes, 640 + 2 * x)),
-                opened: instant(bytes, 4 * x),
-                act: instant(bytes, 128 + 4 * x),
-                pre: instant(bytes, 256 + 4 * x),
-                rd: instant(bytes, 384 + 4 * x),
-                retire: instant(bytes, 512 + 4 * x),
+                opened: word(bytes, 4 * x),
+                act: word(bytes, 128 + 4 * x),
+                pre: word(bytes, 256 + 4 * x),
+                rd: word(bytes, 384 + 4 * x),
+                retire: word(bytes, 512 + 4 * x),
             };
         }
         Some(Channel {
             banks,
-            last: instant(bytes, 704),
-            last_row: instant(bytes, 708),
-            last_col: instant(bytes, 712),
-            last_pre: instant(bytes, 716),
-            last_rd: instant(bytes, 720),
+            last: word(bytes, 704),
+            last_row: word(bytes, 708),
+            last_col: word(bytes, 712),
+            last_pre: word(bytes, 716),
+            last_rd: word(bytes, 720),
             buffer: Buffer::of(bytes.last_chunk().unwrap())?,
         })
     }
@@ -227,18 +228,18 @@ impl Channel {
 
     pub fn encode(&self, bytes: &mut [u8; CHANNEL_BYTES]) {
         for (x, t) in self.banks.iter().enumerate() {
-            put_instant(bytes, 4 * x, t.opened);
-            put_instant(bytes, 128 + 4 * x, t.act);
-            put_instant(bytes, 256 + 4 * x, t.pre);
-            put_instant(bytes, 384 + 4 * x, t.rd);
-            put_instant(bytes, 512 + 4 * x, t.retire);
+            put_word(bytes, 4 * x, t.opened);
+            put_word(bytes, 128 + 4 * x, t.act);
+            put_word(bytes, 256 + 4 * x, t.pre);
+            put_word(bytes, 384 + 4 * x, t.rd);
+            put_word(bytes, 512 + 4 * x, t.retire);
             put_half(bytes, 640 + 2 * x, t.bank.tag());
         }
-        put_instant(bytes, 704, self.last);
-        put_instant(bytes, 708, self.last_row);
-        put_instant(bytes, 712, self.last_col);
-        put_instant(bytes, 716, self.last_pre);
-        put_instant(bytes, 720, self.last_rd);
+        put_word(bytes, 704, self.last);
+        put_word(bytes, 708, self.last_row);
+        put_word(bytes, 712, self.last_col);
+        put_word(bytes, 716, self.last_pre);
+        put_word(bytes, 720, self.last_rd);
         *bytes.last_chunk_mut().unwrap() = self.buffer.bytes();
     }
 }
@@ -292,7 +293,7 @@ impl Buffer {
         let w = Write {
             bank: bytes[12].into(),
             column: bytes[13].into(),
-            at: instant(bytes, 16),
+            at: word(bytes, 16),
         };
         let buffer = match bytes[4..6] {
             [0, 0] => Buffer::Empty,
@@ -312,33 +313,29 @@ impl Buffer {
         };
         (bytes[4], bytes[5]) = (1, due);
         (bytes[12], bytes[13]) = (w.bank as u8, w.column as u8);
-        put_instant(&mut bytes, 16, w.at);
+        put_word(&mut bytes, 16, w.at);
         bytes
     }
 }
 
 pub fn is_instant(at: u32) -> bool {
-    (4..=LAST).contains(&at)
+    (1..=MOST).contains(&at)
 }
 
 fn is_last(at: u32) -> bool {
-    at == 0 || is_instant(at)
+    at <= MOST
 }
 
-/// An instant that is stored less 3, and 0 for never. One that is too large stays so.
-pub fn instant(bytes: &[u8], at: usize) -> u32 {
-    match u32::from_le_bytes(bytes[at..at + 4].try_into().unwrap()) {
-        0 => 0,
-        stored => stored.saturating_add(3),
-    }
+pub fn word(bytes: &[u8], at: usize) -> u32 {
+    u32::from_le_bytes(bytes[at..at + 4].try_into().unwrap())
 }
 
 pub fn half(bytes: &[u8], at: usize) -> u16 {
     u16::from_le_bytes(bytes[at..at + 2].try_into().unwrap())
 }
 
-pub fn put_instant(bytes: &mut [u8], at: usize, instant: u32) {
-    bytes[at..at + 4].copy_from_slice(&instant.saturating_sub(3).to_le_bytes());
+pub fn put_word(bytes: &mut [u8], at: usize, number: u32) {
+    bytes[at..at + 4].copy_from_slice(&number.to_le_bytes());
 }
 
 pub fn put_half(bytes: &mut [u8], at: usize, number: u16) {

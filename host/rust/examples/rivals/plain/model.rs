@@ -3,7 +3,7 @@
 use super::{half, put_half, Bank, Buffer, Channel};
 use crate::rivals::tuned_model::{Event, MODEL_BYTES};
 use crate::rivals::tuned_records::{dualoct, received, refused, Record, Refused};
-use crate::rivals::tuned_state::{beside, Figures, Write, FULL, LAST};
+use crate::rivals::tuned_state::{beside, Figures, Write, BASE, FULL, MOST};
 
 #[derive(Clone, Copy)]
 pub struct Model {
@@ -38,6 +38,7 @@ impl Model {
         answer: &mut [u8],
     ) -> Result<(Model, Event), Refused> {
         let (at, record) = received(f, store, record)?;
+        let at = at.wrapping_sub(BASE); // out of range where it wraps
         if let Err(rule) = self.judge(f, at, &record) {
             return Err(Refused { number: 11, rule });
         }
@@ -55,7 +56,7 @@ impl Model {
             Record::D { .. } => (0, 0),
             _ => (last, 0),
         };
-        rule(1, at >= from.max(4) && at <= LAST - delay)?;
+        rule(1, at >= from.max(1) && at <= MOST - delay)?;
         match *record {
             Record::Act { bank, .. } | Record::Refa { bank } => self.judge_opening(f, at, bank),
             Record::Prer { bank } => self.judge_prer(f, at, bank),
