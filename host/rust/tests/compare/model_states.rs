@@ -9,8 +9,10 @@ use crate::random::{bytes, rounds, set_h, Random};
 use crate::reference::{Fields, ACT, COLUMNS, NOCOP, PRER, REFA, ROWS, T_CWD, WR};
 use crate::reference_model::{state_fits, STATE_BYTES};
 use crate::reference_rules::near;
-use crate::reference_state::{instant, put, put_write, tag, DUE, WRITE_AT};
-use crate::state_bytes::{assert_every_byte, ends, fields, unused, Field, Instants, UNUSED};
+use crate::reference_state::{instant, put, put_write, tag, DUE, WAITING, WRITE_AT};
+use crate::state_bytes::{
+    any_counts, assert_every_byte, ends, fields, unused, Field, Instants, UNUSED,
+};
 use rdram::raw::rdram_model_fresh;
 use std::ops::Range;
 
@@ -218,6 +220,28 @@ fn bank_of_the_waiting_write() {
             let want = if due { Err((11, 15)) } else { Ok(0) };
             assert_eq!(answer, if open { want } else { Err((1, 0)) });
         }
+    }
+}
+
+/// One write waits, its data due or not, or none and its fields are 0.
+#[test]
+fn counts_of_writes() {
+    let (numbers, store) = (set_h(2, 4, 0), vec![3; 4096]);
+    for (count, due, write) in any_counts() {
+        let mut state = fresh();
+        put(&mut state, 640, 2, 1);
+        if write {
+            put_write(&mut state, 0, 3, 4, false);
+        }
+        (state[WAITING], state[DUE]) = (count, due);
+        let answer = call(&numbers, &state, &store, &late_prer(&numbers, 9));
+        let want = match (count, due) {
+            (0, 0) if !write => Ok(0),
+            (1, 0) if write => Ok(0),
+            (1, 1) if write => Err((11, 15)),
+            _ => Err((1, 0)),
+        };
+        assert_eq!(answer, want, "{count} writes, due {due}, {write}");
     }
 }
 

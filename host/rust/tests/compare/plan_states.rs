@@ -9,8 +9,10 @@ use crate::plan_streams::{bare, read, wait, write, Maker, DRAIN};
 use crate::random::{bytes, rounds, set_h, Random};
 use crate::reference::{COLUMNS, ROWS};
 use crate::reference_plan::{state_fits, STATE_BYTES};
-use crate::reference_state::{put, put_instant, put_write};
-use crate::state_bytes::{assert_every_byte, ends, fields, unused, Field, Instants, UNUSED};
+use crate::reference_state::{put, put_instant, put_write, DUE, WAITING};
+use crate::state_bytes::{
+    any_counts, assert_every_byte, ends, fields, unused, Field, Instants, UNUSED,
+};
 use crate::tuned_plan;
 use rdram::raw::rdram_planner_fresh;
 use std::ops::Range;
@@ -206,6 +208,27 @@ fn bank_of_the_waiting_write() {
             let open = bank < 32 && (tag == 1 || tag == 2);
             assert_eq!(number == 0, open, "bank {bank}, {tag}");
         }
+    }
+}
+
+/// One write waits, or none and its fields are 0; no data are due.
+#[test]
+fn counts_of_writes() {
+    let numbers = set_h(2, 4, 0);
+    for (count, due, write) in any_counts() {
+        let mut state = fresh();
+        put(&mut state, 640, 2, 1);
+        if write {
+            put_write(&mut state, 0, 3, 4, false);
+        }
+        (state[WAITING], state[DUE]) = (count, due);
+        let number = call(&numbers, &state, &bare(DRAIN), ENOUGH);
+        let fits = (count, due) == (write.into(), 0);
+        assert_eq!(
+            number,
+            u32::from(!fits),
+            "{count} writes, due {due}, {write}"
+        );
     }
 }
 

@@ -46,9 +46,19 @@ pub fn ends(numbers: &[u16; 16]) -> Vec<u64> {
         65_535,
     ];
     let instants = [LAST - 4, LAST - 3, LAST - 2, LAST - 1, LAST, LAST + 1];
-    // 2^32 - 3 and 3 are 0 in 32 bits.
+    // With 3 added the second and third are 0 and 1 in 32 bits.
     let large = [1 << 31, (1 << 32) - 3, (1 << 32) - 2, u64::MAX];
     [&small[..], &places, &instants, &large].concat()
+}
+
+/// How many writes wait and whether data are due, also what is out of range, and whether the fields of
+/// a write are there.
+pub fn any_counts() -> impl Iterator<Item = (u8, u8, bool)> {
+    let counts = [0, 1, 2, 3, 4, 16, 128, 255];
+    let pairs = counts
+        .into_iter()
+        .flat_map(move |n| counts.map(|due| (n, due)));
+    pairs.flat_map(|(n, due)| [(n, due, false), (n, due, true)])
 }
 
 /// Fields follow each other and end with the state.
