@@ -31,8 +31,8 @@ use Rattle.spec_plan.proofs.Bound.{most}
 use Rattle.spec_plan.proofs.Refused.{refused-room}
 use Rattle.plan_by_value.specs.Call.{planning}
 use Rattle.plan_bytes.specs.form.Numbers.{word, Tops, Below}
-use Rattle.plan_in_place.specs.form.Calm.{isCalm}
-use Rattle.plan_in_place.proofs.Highest.{calm-below}
+use Rattle.plan_calm.specs.form.Calm.{isCalm}
+use Rattle.plan_calm.proofs.CalmLaws.{calm-below}
 use Rattle.state_bytes.specs.form.Stored.{latest}
 use Rattle.state_bytes.specs.form.Tested.{allStored}
 use Rattle.spec_calls.specs.declared.PlanAnswer.{PlanAnswer}
