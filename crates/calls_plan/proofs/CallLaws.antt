@@ -6,7 +6,7 @@ use mathlib.Core.Bool.{Bool, true, false, _&&_, cond}
 use mathlib.Core.List.{List}
 use lib.Dec.{eqb, leb}
 use lib.ListN.{length}
-use borrow.Author.Tests.{eqb-true, ne-eqb, le-leb}
+use borrow.Author.Tests.{eqb-true, le-leb}
 use native.Mathlib.Omega.{arith}
 use Rattle.num.specs.Bytes.{number, part, splice}
 use Rattle.num.proofs.SearchLaws.{all-intro}
@@ -31,8 +31,8 @@ use Rattle.spec_plan.proofs.Bound.{most}
 use Rattle.spec_plan.proofs.Refused.{refused-room}
 use Rattle.plan_by_value.specs.Call.{planning}
 use Rattle.plan_bytes.specs.form.Numbers.{word, Tops, Below}
-use Rattle.plan_in_place.specs.form.Calm.{isCalm}
-use Rattle.plan_in_place.proofs.Highest.{calm-below}
+use Rattle.plan_calm.specs.form.Calm.{isCalm}
+use Rattle.plan_calm.proofs.CalmLaws.{calm-below}
 use Rattle.state_bytes.specs.form.Stored.{latest}
 use Rattle.state_bytes.specs.form.Tested.{allStored}
 use Rattle.spec_calls.specs.declared.PlanAnswer.{PlanAnswer}
@@ -77,10 +77,6 @@ module _ (s : Settings) (planner : List ℕ) where
   unfolding plannerRight
   right-valid h =
       and-right (channelSpare planner && (zeroPart planner 758 2 && zeroPart planner 762 6)) _ (and-right (eqb (length planner) plannerLength) _ h)
-
-  pub other-length : (length planner ≡ 768 → ⊥) → plannerRight (contextOf s) planner ≡ false
-  unfolding plannerRight plannerLength
-  other-length n = rw (ne-eqb (length planner) 768 n)
 
   module _ (request room : List ℕ) where
     pub turned-back : plannerRight (contextOf s) planner ≡ false → (r : PlanAnswer) → r ≡ planAnswer (Refused refusal.Settings)

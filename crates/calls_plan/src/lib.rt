@@ -8,7 +8,7 @@ ghost use Rattle.settings.specs.Settings.{valid};
 ghost use Rattle.spec_rules.specs.Neighbour.{contextOf};
 ghost use Rattle.spec_plan.specs.PlannerBytes.{plannerRight};
 ghost use Rattle.spec_calls.specs.Plans.{plannerFresh, planUnder, planCall};
-ghost use Rattle.plan_in_place.specs.form.Calm.{isCalm};
+ghost use Rattle.plan_calm.specs.form.Calm.{isCalm};
 use crate::ways::answer;
 use crate::ways::by_value;
 use crate::ways::in_place;
@@ -54,7 +54,7 @@ fn plan_under(s: Settings, planner: &mut [u8], request: &[u8], room: &mut [u8]) 
     if planner.len() != 768 {
         return answer(Outcome::Refused(Refusal::Settings));
     }
-    let quick = plan_in_place::calm::calm(planner);
+    let quick = plan_calm::calm(planner);
     if !right(s, planner, quick) {
         return answer(Outcome::Refused(Refusal::Settings));
     }

@@ -213,12 +213,13 @@ pub fn wr(
     ensures { λ r. ⌜ Drawn s (written (contextOf s) at mask d (drafted (now (b .entry)))) (now (room .entry)) to (now (b .exit)) (now (room .exit)) r ⌝ }
 {
     let t = wr_at(s, b, at.bank as usize);
+    let left = carried(b);
     let word = col_word(
         s.device,
         ColPacket::Wr {
             bank: at.bank,
             column: at.column,
-            mask: carried(b),
+            mask: left,
         },
     );
     put_record(room, to, t, 1, word, 0, 0);

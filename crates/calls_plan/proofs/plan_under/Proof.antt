@@ -2,7 +2,8 @@
 use mathlib.Core.Path.{sym, _∙_}
 use borrow.Author.Tests.{not-true, not-false, leb-true}
 use Rattle.spec_rules.proofs.Bools.{and-left, and-right}
-use Rattle.calls_plan.proofs.CallLaws.{other-length, turned-back}
+use Rattle.state_bytes.proofs.RightLaws.{planner-length-wrong}
+use Rattle.calls_plan.proofs.CallLaws.{turned-back}
 use borrow.Author.Needs.{needs}
 use Rattle.calls_plan.proofs.plan_under.Statement.{statement}
 use Rattle.calls_plan.proofs.plan_under.Tie as tie
@@ -10,7 +11,7 @@ use Rattle.calls_plan.proofs.plan_under.Tie as tie
 returns : tie.Need-returns
 returns c =
     let a = c .before .before .before .before .before .args in
-    turned-back (a .s) (a .planner .now) (a .request .now) (a .room .now) (other-length (a .s) (a .planner .now) (c .before .if1 .taken)) _ (c .answer .ensures)
+    turned-back (a .s) (a .planner .now) (a .request .now) (a .room .now) (planner-length-wrong (a .s) (a .planner .now) (c .before .if1 .taken)) _ (c .answer .ensures)
 
 returns-2 : tie.Need-returns-2
 returns-2 c =

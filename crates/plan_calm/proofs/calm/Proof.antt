@@ -1,9 +1,9 @@
--- `plan_in_place::calm::calm` meets its contract.
-use Rattle.plan_in_place.specs.form.Calm.{isCalm}
-use Rattle.plan_in_place.proofs.Highest.{low-calm}
+-- `plan_calm::calm` meets its contract.
+use Rattle.plan_calm.specs.form.Calm.{isCalm}
+use Rattle.plan_calm.proofs.CalmLaws.{low-calm}
 use borrow.Author.Needs.{needs}
-use Rattle.plan_in_place.proofs.calm.calm.Statement.{statement}
-use Rattle.plan_in_place.proofs.calm.calm.Tie as tie
+use Rattle.plan_calm.proofs.calm.Statement.{statement}
+use Rattle.plan_calm.proofs.calm.Tie as tie
 
 returns : tie.Need-returns
 returns c = low-calm (c .before .before .before .args .b .now) _ (c .before .top .ensures) (c .if1 .taken)

@@ -1,8 +1,8 @@
--- `plan_in_place::calm::highest` meets its contract.
-use Rattle.plan_in_place.specs.form.Calm.{highestIn}
+-- `plan_calm::highest` meets its contract.
+use Rattle.plan_calm.specs.form.Calm.{highestIn}
 use borrow.Author.Needs.{needs}
-use Rattle.plan_in_place.proofs.calm.highest.Statement.{statement}
-use Rattle.plan_in_place.proofs.calm.highest.Tie as tie
+use Rattle.plan_calm.proofs.highest.Statement.{statement}
+use Rattle.plan_calm.proofs.highest.Tie as tie
 
 returns : tie.Need-returns
 unfolding highestIn

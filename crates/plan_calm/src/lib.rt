@@ -4,7 +4,7 @@ ghost use Prim.Native.Nat.{_*_, _≤_};
 ghost use lib.ListN.{length};
 ghost use Rattle.spec_rules.specs.Checks.{maxUpTo};
 ghost use Rattle.plan_bytes.specs.form.Numbers.{word};
-ghost use Rattle.plan_in_place.specs.form.Calm.{highestIn, isCalm};
+ghost use Rattle.plan_calm.specs.form.Calm.{highestIn, isCalm};
 use num::u32_at;
 use plan_bytes::latest;
 
@@ -23,7 +23,7 @@ fn banks_top(b: &[u8]) -> u32
 }
 
 // All instants of the state, or-ed.
-pub fn top(b: &[u8]) -> u32
+fn top(b: &[u8]) -> u32
     requires { ⌜ length (now b) ≡ 768 ⌝ }
     ensures { λ r. ⌜ highestIn (now (b .entry)) ≤ r ⌝ }
 {

@@ -12,7 +12,7 @@ use borrow.Author.Tests.{leb-true, le-leb}
 use lib.Bits.{bitOr, or-add-and, and-le-l, and-le-r}
 use Rattle.spec_rules.specs.Checks.{maxUpTo}
 use Rattle.plan_bytes.specs.form.Numbers.{word, Below}
-use Rattle.plan_in_place.specs.form.Calm.{highestIn, isCalm}
+use Rattle.plan_calm.specs.form.Calm.{highestIn, isCalm}
 
 max-at : (f : ℕ → ℕ) (n k : ℕ) → k < n → f k ≤ maxUpTo f n
 unfolding maxUpTo
