@@ -1,11 +1,11 @@
 -- The stores of one turn of the walk make the banks of the next state, and what the walk keeps beside that state stays right.
 -- Assumes nothing.
-use Prim.Native.Nat.{ℕ, zero, suc, _≤_, _<_}
+use Prim.Native.Nat.{ℕ, zero, suc, _≤_, _<_, max}
 use mathlib.Core.Path.{_≡_, refl, sym, _∙_, ap}
 use mathlib.Core.Bool.{Bool, true, false, cond}
 use mathlib.Core.List.{List}
 use native.Mathlib.Omega.{arith}
-use borrow.Author.Tests.{lt-ltb, ltb-true, ltb-false}
+use borrow.Author.Tests.{lt-ltb, ltb-true}
 use lib.Dec.{eqb, ltb}
 use lib.ListN.{length, getD, set, replicate}
 use lib.Seq.{set-getD}
@@ -22,7 +22,7 @@ use Rattle.spec_rules.specs.declared.BankTrack.{BankTrack}
 use Rattle.spec_rules.specs.declared.Write.{Write}
 use Rattle.spec_rules.specs.declared.Buffer.{Buffer}
 use Rattle.spec_rules.specs.declared.Buffer.the-variants.{Empty, One}
-use Rattle.spec_rules.specs.Channel.{never, idle, waitingOf, bufferOf}
+use Rattle.spec_rules.specs.Channel.{idle, waitingOf, bufferOf}
 use Rattle.spec_rules.proofs.Bools.{not-both, and-left}
 use Rattle.chan_view.specs.declared.View.{View}
 use Rattle.chan_view.specs.form.Beside.{lowOf, highOf, firstNear, lastNear, slotOf}
@@ -30,7 +30,7 @@ use Rattle.chan_view.specs.form.View.{rowView, colView, seenOf, heldOf}
 use Rattle.chan_step.specs.form.Banks.{actTrack, refaTrack, prerTrack, sideTrack, readTrack, retiredTrack, changed, closedBanks, rowBanks, colBanks, retiredBanks, banksNext}
 use Rattle.chan_step.specs.form.Lasts.{leftBuffer, joinedBuffer, colBuffer, bufferNext}
 use Rattle.chan_step.proofs.BankLaws.{changed-at, length-changed, closed-near}
-use Rattle.check_walk.specs.form.Turn.{viewIn, openedTrack, newestNext, noneYet, channelOf}
+use Rattle.check_walk.specs.form.Turn.{viewIn, openedTrack, newestNext, noLasts, channelOf}
 
 -- ---- the banks that records name
 
@@ -84,8 +84,8 @@ within-next (DataOf t d) out b i f = f
 -- ---- the newest ACT or REFA
 
 -- no bank was opened later
-abbrev pub Opened : PacketAt → List BankTrack → Type 0
-Opened u l = (x : ℕ) → x < 32 → getD l x idle .opened .0 ≤ u .0
+abbrev pub Opened : ℕ → List BankTrack → Type 0
+Opened u l = (x : ℕ) → x < 32 → getD l x idle .opened .0 ≤ u
 
 all-idle : (n x : ℕ) → getD (replicate n idle) x idle ≡ idle
 all-idle zero x = refl
@@ -93,30 +93,23 @@ all-idle (suc n) zero = refl
 all-idle (suc n) (suc x) = all-idle n x
 
 -- none was opened at first
-pub opened-fresh : Opened never (replicate 32 idle)
+pub opened-fresh : Opened 0 (replicate 32 idle)
 opened-fresh x h = rw (all-idle 32 x) (omega arith)
 
-pub opened-same : (u : PacketAt) (l m : List BankTrack) → l ≡ m → Opened u m → Opened u l
+pub opened-same : (u : ℕ) (l m : List BankTrack) → l ≡ m → Opened u m → Opened u l
 opened-same u l m q o = rw q o
 
-module _ (u : PacketAt) (l : List BankTrack) (e : length l ≡ 32) (o : Opened u l) where
-  changed-opened : (f : BankTrack → BankTrack) → ((k : BankTrack) → k .opened .0 ≤ u .0 → f k .opened .0 ≤ u .0) → (x : ℕ) → Opened u (changed f x l)
+module _ (u : ℕ) (l : List BankTrack) (e : length l ≡ 32) (o : Opened u l) where
+  changed-opened : (f : BankTrack → BankTrack) → ((k : BankTrack) → k .opened .0 ≤ u → f k .opened .0 ≤ u) → (x : ℕ) → Opened u (changed f x l)
   changed-opened f g x i h = rw (changed-at f x l i (omega arith)) (go (eqb i x))
     where
-      go : (t : Bool) → cond t (f (getD l i idle)) (getD l i idle) .opened .0 ≤ u .0
+      go : (t : Bool) → cond t (f (getD l i idle)) (getD l i idle) .opened .0 ≤ u
       go true = g (getD l i idle) (o i h)
       go false = o i h
 
   retired-opened : (out : Bool) (w : ℕ) (t : PacketAt) → Opened u (retiredBanks out w t l)
   retired-opened true w t = changed-opened (retiredTrack t) (λ k m. m) w
   retired-opened false w t = o
-
-later-least : (a t : ℕ) → (a ≤ cond (ltb a t) t a) × (t ≤ cond (ltb a t) t a)
-later-least a t = go (ltb a t) refl
-  where
-    go : (u : Bool) → ltb a t ≡ u → (a ≤ cond u t a) × (t ≤ cond u t a)
-    go true q = let m = ltb-true a t q in (omega arith, omega arith)
-    go false q = let m = ltb-false a t q in (omega arith, omega arith)
 
 pub length-retired : (out : Bool) (w : ℕ) (t : PacketAt) (l : List BankTrack) → length (retiredBanks out w t l) ≡ length l
 length-retired true w t l = length-changed (retiredTrack t) w l
@@ -136,11 +129,9 @@ length-next s (ColAt t (Wr b c m)) l = refl
 length-next s (ColAt t (Rd b c m)) l = length-changed (readTrack t) b l
 length-next s (DataOf t d) l = refl
 
-module _ (s : Settings) (u : PacketAt) (l : List BankTrack) (e : length l ≡ 32) (o : Opened u l) where
-  opens-opened : (t : PacketAt) (f : BankTrack → BankTrack) → ((k : BankTrack) → f k .opened ≡ t) → (x : ℕ) → Opened (record { 0 = cond (ltb (u .0) (t .0)) (t .0) (u .0) }) (changed f x l)
-  opens-opened t f g x =
-      let m = later-least (u .0) (t .0) in
-      changed-opened (record { 0 = cond (ltb (u .0) (t .0)) (t .0) (u .0) }) l e (λ i h. omega (arith, o i h, m .0)) f (λ k n. rw (g k) (m .1)) x
+module _ (s : Settings) (u : ℕ) (l : List BankTrack) (e : length l ≡ 32) (o : Opened u l) where
+  opens-opened : (t : PacketAt) (f : BankTrack → BankTrack) → ((k : BankTrack) → f k .opened ≡ t) → (x : ℕ) → Opened (max u (t .0)) (changed f x l)
+  opens-opened t f g x = changed-opened (max u (t .0)) l e (λ i h. omega (arith, o i h)) f (λ k n. rw (g k) (omega arith)) x
 
   closes-opened : (t : PacketAt) (b : ℕ) → Opened u (closedBanks t b (lowOf s b) (highOf s b) l)
   closes-opened t b =
@@ -151,7 +142,7 @@ module _ (s : Settings) (u : PacketAt) (l : List BankTrack) (e : length l ≡ 32
       changed-opened u l2 e2 (changed-opened u l1 e1 (changed-opened u l e o (prerTrack t) (λ k m. m) b) (sideTrack t) (λ k m. m) (lowOf s b)) (sideTrack t) (λ k m. m) (highOf s b)
 
   own-opened : (r : Record) → Opened (newestNext (viewIn (seenOf r)) u) (banksNext s r l)
-  unfolding newestNext viewIn seenOf rowView colView banksNext rowBanks colBanks
+  unfolding viewIn seenOf rowView colView banksNext rowBanks colBanks
   own-opened (RowAt t (Act b row)) = opens-opened t (actTrack row t) (λ k. refl) b
   own-opened (RowAt t (Prer b)) = closes-opened t b
   own-opened (RowAt t (Refa b)) = opens-opened t (refaTrack t) (λ k. refl) b
@@ -161,7 +152,7 @@ module _ (s : Settings) (u : PacketAt) (l : List BankTrack) (e : length l ≡ 32
   own-opened (ColAt t (Rd b c m)) = changed-opened u l e o (readTrack t) (λ k m. m) b
   own-opened (DataOf t d) = o
 
-pub opened-next : (s : Settings) (r : Record) (u : PacketAt) (out : Bool) (w : ℕ) (t : PacketAt) (l : List BankTrack) → length l ≡ 32 → Opened u l
+pub opened-next : (s : Settings) (r : Record) (u : ℕ) (out : Bool) (w : ℕ) (t : PacketAt) (l : List BankTrack) → length l ≡ 32 → Opened u l
     → Opened (newestNext (viewIn (seenOf r)) u) (banksNext s r (retiredBanks out w t l))
 opened-next s r u out w t l e o = own-opened s u (retiredBanks out w t l) (length-retired out w t l ∙ e) (retired-opened u l e o out w t) r
 
@@ -177,10 +168,6 @@ withRetire t k = record { bank = k .bank; opened = k .opened; act = k .act; pre 
 abbrev pub retireStore : Bool → ℕ → PacketAt → List BankTrack → List BankTrack
 retireStore out w t l = set l w (withRetire (cond out (t .0) (getD l w idle .retire .0)) (getD l w idle))
 
--- of an ACT or REFA
-abbrev pub openStore : View → ℕ → List BankTrack → List BankTrack
-openStore v x l = cond (v .opens) (set l x (openedTrack v (getD l x idle))) l
-
 -- the three of a PRER or REFP
 abbrev pub threeStores : PacketAt → ℕ → ℕ → ℕ → List BankTrack → List BankTrack
 threeStores t x y z l =
@@ -188,12 +175,11 @@ threeStores t x y z l =
     let l2 : List BankTrack = set l1 y (sideTrack t (getD l1 y idle)) in
     set l2 z (sideTrack t (getD l2 z idle))
 
-abbrev pub closeStores : View → ℕ → ℕ → ℕ → List BankTrack → List BankTrack
-closeStores v x y z l = cond (v .precharges) (threeStores (v .at) x y z l) l
-
--- of every record, at the bank that it names
-abbrev pub readStore : View → ℕ → List BankTrack → List BankTrack
-readStore v x l = set l x (withRd (cond (v .reads) (v .at .0) (getD l x idle .rd .0)) (getD l x idle))
+-- of the packet itself
+abbrev pub ownStores : View → ℕ → ℕ → ℕ → List BankTrack → List BankTrack
+ownStores v x y z l =
+    cond (v .opens) (set l x (openedTrack v (getD l x idle)))
+    (cond (v .precharges) (threeStores (v .at) x y z l) (cond (v .reads) (set l x (withRd (v .at .0) (getD l x idle))) l))
 
 pub slot-in : (b : ℕ) → b < 32 → slotOf b ≡ b
 slot-in b i = rw (lt-ltb b 32 i)
@@ -204,27 +190,24 @@ unfolding changed
 retire-stored true w t l f = rw (slot-in w (f refl))
 retire-stored false w t l f = set-getD l (slotOf w) idle
 
-abbrev pub ownStores : View → ℕ → ℕ → ℕ → List BankTrack → List BankTrack
-ownStores v x y z l = readStore v x (closeStores v x y z (openStore v x l))
-
 abbrev pub storedAt : Settings → View → List BankTrack → List BankTrack
 storedAt s v l = ownStores v (slotOf (v .bank)) (firstNear s (slotOf (v .bank))) (lastNear s (slotOf (v .bank))) l
 
 module _ (s : Settings) (l : List BankTrack) (e : length l ≡ 32) where
   close-stored : (t : PacketAt) (b : ℕ) → b < 32 → storedAt s (viewIn (seenOf (RowAt t (Prer b)))) l ≡ banksNext s (RowAt t (Prer b)) l
   unfolding viewIn seenOf rowView banksNext rowBanks changed
-  close-stored t b i = rw (slot-in b i) (set-getD (threeStores t b (firstNear s b) (lastNear s b) l) b idle ∙ sym (closed-near s t b (channelOf l (noneYet .lasts) Empty false) e))
+  close-stored t b i = rw (slot-in b i) (sym (closed-near s t b (channelOf l noLasts Empty false) e))
 
   own-stored : (r : Record) → viewIn (seenOf r) .bank < 32 → storedAt s (viewIn (seenOf r)) l ≡ banksNext s r l
   unfolding viewIn seenOf rowView colView banksNext rowBanks colBanks changed
-  own-stored (RowAt t (Act b row)) i = rw (slot-in b i) (set-getD (set l b (actTrack row t (getD l b idle))) b idle)
+  own-stored (RowAt t (Act b row)) i = rw (slot-in b i)
   own-stored (RowAt t (Prer b)) i = close-stored t b i
-  own-stored (RowAt t (Refa b)) i = rw (slot-in b i) (set-getD (set l b (refaTrack t (getD l b idle))) b idle)
+  own-stored (RowAt t (Refa b)) i = rw (slot-in b i)
   own-stored (RowAt t (Refp b)) i = close-stored t b i
-  own-stored (ColAt t (Nocop m)) i = set-getD l _ idle
-  own-stored (ColAt t (Wr b c m)) i = set-getD l (slotOf b) idle
+  own-stored (ColAt t (Nocop m)) i = refl
+  own-stored (ColAt t (Wr b c m)) i = refl
   own-stored (ColAt t (Rd b c m)) i = rw (slot-in b i)
-  own-stored (DataOf t d) i = set-getD l _ idle
+  own-stored (DataOf t d) i = refl
 
 pub turn-stored : (s : Settings) (r : Record) (out : Bool) (w : ℕ) (l : List BankTrack) → length l ≡ 32 → (out ≡ true → w < 32) → viewIn (seenOf r) .bank < 32
     → storedAt s (viewIn (seenOf r)) (retireStore out (slotOf w) (viewIn (seenOf r) .at) l) ≡ banksNext s r (retiredBanks out w (viewIn (seenOf r) .at) l)

@@ -1,6 +1,6 @@
 -- One turn of the walk: what the record that is read, the quick test and the stores say.
 -- Assumes nothing.
-use Prim.Native.Nat.{ℕ, _+_, _<_}
+use Prim.Native.Nat.{ℕ, _+_, _<_, max}
 use mathlib.Core.Path.{_≡_, refl, sym, _∙_, ap, ap₂}
 use mathlib.Core.Bool.{Bool, true, false, cond, and-false}
 use mathlib.Core.List.{List}
@@ -37,12 +37,11 @@ use Rattle.chan_step.proofs.AfterLaws.{packet-after, data-after}
 use Rattle.chan_least.specs.form.Quick.{actBy, recordWell}
 use Rattle.chan_least.proofs.PassLaws.{Met, passes-legal, passes-data}
 use Rattle.spec_check.specs.Check.{known}
-use Rattle.check_walk.specs.declared.Latest.{Latest}
-use Rattle.check_walk.specs.form.Turn.{viewIn, tracksWith, openedTrack, latestNext, channelOf}
+use Rattle.check_walk.specs.form.Turn.{viewIn, tracksWith, openedTrack, newestNext, channelOf}
 use Rattle.check_walk.specs.form.Walk.{placeIn, recordsVia, formedVia, foundVia}
 use Rattle.check_walk.proofs.ViaLaws.{via-at, channel-next}
 use Rattle.check_walk.proofs.StopLaws.{holds}
-use Rattle.check_walk.proofs.StoreLaws.{Within, Opened, fits-bank, held-within, within-next, opened-next, length-retired, length-next, withRd, withRetire, retireStore, openStore, closeStores, ownStores, slot-in, turn-stored}
+use Rattle.check_walk.proofs.StoreLaws.{Within, Opened, fits-bank, held-within, within-next, opened-next, length-retired, length-next, withRd, withRetire, retireStore, ownStores, slot-in, turn-stored}
 
 -- ---- the record that is read
 
@@ -85,9 +84,9 @@ data-same s (DataOf t p) d q banks l out b = (refl, refl, refl)
 
 -- ---- the state before a turn, and the values that it finds
 
-pub record Turn (s : Settings) (r : Record) (banks : List BankTrack) (l : Latest) (buffer : Buffer) (due : Bool) (v : View) (h : Held) (x y z w : ℕ) : Type 0 where
+pub record Turn (s : Settings) (r : Record) (banks : List BankTrack) (lasts : LastInstants) (newest : ℕ) (buffer : Buffer) (due : Bool) (v : View) (h : Held) (x y z w : ℕ) : Type 0 where
   pub size : length banks ≡ 32
-  pub top : Opened (l .newest) banks
+  pub top : Opened newest banks
   pub within : Within buffer
   pub inside : viewIn (seenOf r) .bank < 32
   pub view : v ≡ viewIn (seenOf r)
@@ -97,20 +96,20 @@ pub record Turn (s : Settings) (r : Record) (banks : List BankTrack) (l : Latest
   pub high : z ≡ lastNear s x
   pub waiting : w ≡ slotOf (h .bank)
 
-module _ {s : Settings} {r : Record} {banks : List BankTrack} {l : Latest} {buffer : Buffer} {due : Bool} {v : View} {h : Held} {x y z w : ℕ} (t : Turn s r banks l buffer due v h x y z w) where
+module _ {s : Settings} {r : Record} {banks : List BankTrack} {lasts : LastInstants} {newest : ℕ} {buffer : Buffer} {due : Bool} {v : View} {h : Held} {x y z w : ℕ} (t : Turn s r banks lasts newest buffer due v h x y z w) where
   abbrev state : Channel
-  state = channelOf banks (l .lasts) buffer due
+  state = channelOf banks lasts buffer due
 
   -- the quick test
   pub quick-here : (k : Tracks) (ok : Bool) → k ≡ tracksWith (getD banks x idle) (getD banks y idle) (getD banks z idle) (getD banks w idle)
-      → ok ≡ recordWell s r h k (l .lasts) (actBy s k (l .newest)) → ok ≡ true → judged (contextOf s) state r ≡ 0
+      → ok ≡ recordWell s r h k lasts (actBy s k (record { 0 = newest })) → ok ≡ true → judged (contextOf s) state r ≡ 0
   unfolding viewIn
   quick-here k ok kq p q = go (seenOf r) refl
     where
       at : (i j : ℕ) → i ≡ j → getD banks i idle ≡ getD banks j idle
       at i j e = ap (λ (n : ℕ). getD banks n idle) e
 
-      passed : recordWell s r (heldOf buffer due) k (l .lasts) (actBy s k (l .newest)) ≡ true
+      passed : recordWell s r (heldOf buffer due) k lasts (actBy s k (record { 0 = newest })) ≡ true
       passed = rw (sym (t .held)) (sym p ∙ q)
 
       met : (u : View) → seenOf r ≡ Packet u → Met s state (u .bank) k
@@ -128,22 +127,25 @@ module _ {s : Settings} {r : Record} {banks : List BankTrack} {l : Latest} {buff
           }
 
       go : (u : Seen) → seenOf r ≡ u → judged (contextOf s) state r ≡ 0
-      go (Packet u) e = passes-legal s state r u e k (met u e) (l .newest) (t .top) passed
-      go (Data d) e = eqb-true _ 0 (sym (passes-data s state r d e k (l .newest)) ∙ passed)
+      go (Packet u) e = passes-legal s state r u e k (met u e) (record { 0 = newest }) (t .top) passed
+      go (Data d) e = eqb-true _ 0 (sym (passes-data s state r d e k (record { 0 = newest })) ∙ passed)
 
-  -- the stores that some records make, by the way that the turn took
-  pub open-here : (m n : List BankTrack) (o : BankTrack) → v .opens ≡ true → o ≡ openedTrack v (getD m x idle) → n ≡ set m x o → n ≡ openStore v x m
-  open-here m n o e oq q = rw (q, oq, e)
+  -- the stores of the packet itself and the newest ACT or REFA, by the way that the turn took
+  abbrev pub Stored : List BankTrack → List BankTrack → ℕ → Type 0
+  Stored m n u = (n ≡ ownStores v x y z m) × (u ≡ newestNext v newest)
 
-  pub unopened-here : (m n : List BankTrack) → v .opens ≡ false → n ≡ m → n ≡ openStore v x m
-  unopened-here m n e q = rw (q, e)
+  pub open-here : (m n : List BankTrack) (o : BankTrack) (u a : ℕ) → v .opens ≡ true → o ≡ openedTrack v (getD m x idle) → n ≡ set m x o → a ≡ max newest (v .at .0) → u ≡ a → Stored m n u
+  open-here m n o u a e oq q aq uq = (rw (q, oq, e), rw (uq, aq, e))
 
-  pub close-here : (m n : List BankTrack) (o a c : BankTrack) → v .precharges ≡ true → o ≡ prerTrack (v .at) (getD m x idle) → a ≡ sideTrack (v .at) (getD (set m x o) y idle)
-      → c ≡ sideTrack (v .at) (getD (set (set m x o) y a) z idle) → n ≡ set (set (set m x o) y a) z c → n ≡ closeStores v x y z m
-  close-here m n o a c e oq aq cq q = rw (q, cq, aq, oq, e)
+  pub close-here : (m n : List BankTrack) (o a c : BankTrack) (u : ℕ) → v .opens ≡ false → v .precharges ≡ true → o ≡ prerTrack (v .at) (getD m x idle)
+      → a ≡ sideTrack (v .at) (getD (set m x o) y idle) → c ≡ sideTrack (v .at) (getD (set (set m x o) y a) z idle) → n ≡ set (set (set m x o) y a) z c → u ≡ newest → Stored m n u
+  close-here m n o a c u d e oq aq cq q uq = (rw (q, cq, aq, oq, d, e), rw (uq, d))
 
-  pub unclosed-here : (m n : List BankTrack) → v .precharges ≡ false → n ≡ m → n ≡ closeStores v x y z m
-  unclosed-here m n e q = rw (q, e)
+  pub read-here : (m n : List BankTrack) (u : ℕ) → v .opens ≡ false → v .precharges ≡ false → v .reads ≡ true → n ≡ set m x (withRd (v .at .0) (getD m x idle)) → u ≡ newest → Stored m n u
+  read-here m n u d e f q uq = (rw (q, d, e, f), rw (uq, d))
+
+  pub none-here : (m n : List BankTrack) (u : ℕ) → v .opens ≡ false → v .precharges ≡ false → v .reads ≡ false → n ≡ m → u ≡ newest → Stored m n u
+  none-here m n u d e f q uq = (rw (q, d, e, f), rw (uq, d))
 
   -- the banks after the turn
   abbrev next : List BankTrack
@@ -155,29 +157,28 @@ module _ {s : Settings} {r : Record} {banks : List BankTrack} {l : Latest} {buff
       (turn-stored s r (leaves s h (viewIn (seenOf r))) (h .bank) banks (t .size)
       (λ m. rw (t .held) (held-within buffer due (t .within) (rw (t .held) at (and-left (h .waits) _ m)))) (t .inside))
 
-  pub banks-here : (out : Bool) (retire rd : ℕ) (m n o : List BankTrack) → out ≡ leaves s h v → retire ≡ cond out (v .at .0) (getD banks w idle .retire .0)
-      → m ≡ set banks w (withRetire retire (getD banks w idle)) → n ≡ openStore v x m → o ≡ closeStores v x y z n → rd ≡ cond (v .reads) (v .at .0) (getD o x idle .rd .0)
-      → set o x (withRd rd (getD o x idle)) ≡ next
-  banks-here out retire rd m n o uq rq mq nq oq dq = rw (dq, oq, nq, mq, rq, uq) stores-here
+  pub banks-here : (out : Bool) (retire : ℕ) (m n : List BankTrack) → out ≡ leaves s h v → retire ≡ cond out (v .at .0) (getD banks w idle .retire .0)
+      → m ≡ set banks w (withRetire retire (getD banks w idle)) → n ≡ ownStores v x y z m → n ≡ next
+  banks-here out retire m n uq rq mq nq = nq ∙ rw (mq, rq, uq) stores-here
 
   pub length-here : length next ≡ 32
   length-here = length-next s r _ ∙ length-retired (leaves s h v) (h .bank) (v .at) banks ∙ t .size
 
-  pub opened-here : (u : Latest) → u ≡ latestNext r v l → Opened (u .newest) next
-  opened-here u q = rw (q, t .view) (opened-next s r (l .newest) (leaves s h (viewIn (seenOf r))) (h .bank) (viewIn (seenOf r) .at) banks (t .size) (t .top))
+  pub opened-here : (u : ℕ) → u ≡ newestNext v newest → Opened u next
+  opened-here u q = rw (q, t .view) (opened-next s r newest (leaves s h (viewIn (seenOf r))) (h .bank) (viewIn (seenOf r) .at) banks (t .size) (t .top))
 
   pub within-here : (out : Bool) (c : Buffer) → c ≡ bufferNext r out buffer → Within c
   within-here out c q = rw q (within-next r out buffer (t .inside) (t .within))
 
   -- the state after the turn
-  pub state-here : (u : Latest) (out : Bool) (c : Buffer) → u ≡ latestNext r v l → out ≡ leaves s h v → c ≡ bufferNext r out buffer
-      → channelOf next (u .lasts) c (v .writes) ≡ after (contextOf s) state r
+  pub state-here : (u : LastInstants) (out : Bool) (c : Buffer) → u ≡ lastsNext r lasts → out ≡ leaves s h v → c ≡ bufferNext r out buffer
+      → channelOf next u c (v .writes) ≡ after (contextOf s) state r
   unfolding viewIn
   state-here u out c uq oq cq = go (seenOf r) refl
     where
-      go : (p : Seen) → seenOf r ≡ p → channelOf next (u .lasts) c (v .writes) ≡ after (contextOf s) state r
+      go : (p : Seen) → seenOf r ≡ p → channelOf next u c (v .writes) ≡ after (contextOf s) state r
       go (Packet p) e = let q : v ≡ p = t .view ∙ ap viewIn e in rw (uq, cq, oq, q, t .held) (sym (packet-after s state (t .size) r p e))
       go (Data d) e =
           let q : v ≡ plain never = t .view ∙ ap viewIn e in
-          let m = data-same s r d e banks (l .lasts) false buffer in
+          let m = data-same s r d e banks lasts false buffer in
           rw (uq, cq, oq, q, and-false (h .waits), m .0, m .1, m .2) (sym (data-after s state (t .size) r d e))

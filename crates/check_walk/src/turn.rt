@@ -1,10 +1,9 @@
-// What one record is to the walk, and what it makes of one bank and of the latest instants.
+// What one record is to the walk, and what it makes of one bank.
 ghost use mathlib.Core.Path.{_≡_};
 ghost use mathlib.Core.Bool.{cond};
+ghost use Prim.Native.Nat.{max};
 ghost use Rattle.chan_view.specs.form.View.{seenOf};
-ghost use Rattle.check_walk.specs.form.Turn.{viewIn, tracksWith, channelOf, openedTrack, newestNext, noneYet, latestNext};
-use crate::Latest;
-use chan_step::lasts_after;
+ghost use Rattle.check_walk.specs.form.Turn.{viewIn, tracksWith, noLasts, channelOf, openedTrack};
 use chan_view::Seen;
 use chan_view::Tracks;
 use chan_view::View;
@@ -55,31 +54,31 @@ pub(crate) fn tracks_of(own: BankTrack, low: BankTrack, high: BankTrack, held: B
 }
 
 // Before every record.
-pub(crate) fn none_yet() -> Latest
-    ensures { λ l. ⌜ l ≡ noneYet ⌝ }
+pub(crate) fn no_lasts() -> LastInstants
+    ensures { λ l. ⌜ l ≡ noLasts ⌝ }
 {
     let never = PacketAt(0);
-    let lasts = LastInstants {
+    LastInstants {
         packet: never,
         row: never,
         col: never,
         pre: never,
         rd: never,
-    };
-    Latest {
-        lasts: lasts,
-        newest: never,
     }
 }
 
 // The state of the channel from its parts.
-pub(crate) fn channel_of(banks: [BankTrack; 32], l: Latest, buffer: Buffer, due: bool) -> Channel
-    ensures { λ c. ⌜ c ≡ channelOf banks (l .lasts) buffer due ⌝ }
+pub(crate) fn channel_of(
+    banks: [BankTrack; 32],
+    l: LastInstants,
+    buffer: Buffer,
+    due: bool,
+) -> Channel
+    ensures { λ c. ⌜ c ≡ channelOf banks l buffer due ⌝ }
 {
-    let lasts = l.lasts;
     Channel {
         banks: banks,
-        lasts: lasts,
+        lasts: l,
         buffer: buffer,
         due: due,
     }
@@ -90,6 +89,13 @@ pub(crate) fn pick(first: bool, a: u32, b: u32) -> u32
     ensures { λ r. ⌜ r ≡ cond first a b ⌝ }
 {
     if first { a } else { b }
+}
+
+// The larger of two numbers.
+pub(crate) fn larger(a: u32, b: u32) -> u32
+    ensures { λ r. ⌜ r ≡ max a b ⌝ }
+{
+    if a < b { b } else { a }
 }
 
 // A bank after an ACT or REFA.
@@ -103,23 +109,5 @@ pub(crate) fn opened_track(v: View, k: BankTrack) -> BankTrack
         opened: at,
         act: PacketAt(pick(v.acts, v.at.0, k.act.0)),
         ..k
-    }
-}
-
-// The newest ACT or REFA after a record.
-fn newest_after(v: View, newest: PacketAt) -> PacketAt
-    ensures { λ r. ⌜ r ≡ newestNext v newest ⌝ }
-{
-    PacketAt(pick(v.opens & (newest.0 < v.at.0), v.at.0, newest.0))
-}
-
-// The latest instants after a record.
-pub(crate) fn latest_after(r: Record, v: View, l: Latest) -> Latest
-    ensures { λ k. ⌜ k ≡ latestNext r v l ⌝ }
-{
-    let lasts = l.lasts;
-    Latest {
-        lasts: lasts_after(r, lasts),
-        newest: newest_after(v, l.newest),
     }
 }

@@ -17,23 +17,23 @@ use Rattle.check_walk.specs.form.Turn.{channelOf}
 use Rattle.check_walk.specs.form.Walk.{recordsVia}
 use Rattle.check_walk.proofs.StopLaws.{holds, stop-end, stop-bad, stop-broken}
 use Rattle.check_walk.proofs.StoreLaws.{Within, Opened, within-none, opened-fresh, opened-same, withRetire}
-use Rattle.check_walk.proofs.TurnLaws.{Turn, formed-here, bank-here, found-here, after-here, holds-here, unformed, quick-here, open-here, unopened-here, close-here, unclosed-here, banks-here, length-here, opened-here, within-here, state-here}
+use Rattle.check_walk.proofs.TurnLaws.{Turn, Stored, formed-here, bank-here, found-here, after-here, holds-here, unformed, quick-here, open-here, close-here, read-here, none-here, banks-here, length-here, opened-here, within-here, state-here}
 use borrow.Author.Needs.{needs}
 use Rattle.check_walk.proofs.walk.Statement.{statement}
 use Rattle.check_walk.proofs.walk.Tie as tie
 
 abbrev Inv-loop : tie.InvT-loop
-Inv-loop s b n blocks banks₀ l₀ buffer₀ due₀ i₀ banks l buffer due i =
-    (i ≤ n) × (channelOf banks (l .lasts) buffer due ≡ channelAfter (contextOf s) (recordsVia (contextOf s .settings) blocks b n) i) × (length banks ≡ 32) × Opened (l .newest) banks
-    × Within buffer × ((j : ℕ) → j < i → holds (contextOf s) blocks b n j ≡ true)
+Inv-loop s b n blocks banks₀ l₀ newest₀ buffer₀ due₀ i₀ banks l newest buffer due i =
+    (i ≤ n) × (channelOf banks l buffer due ≡ channelAfter (contextOf s) (recordsVia (contextOf s .settings) blocks b n) i) × (length banks ≡ 32) × Opened newest banks × Within buffer
+    × ((j : ℕ) → j < i → holds (contextOf s) blocks b n j ≡ true)
 
 abbrev μ-loop : tie.MeasureT-loop
-μ-loop s b n blocks banks₀ l₀ buffer₀ due₀ i₀ banks l buffer due i = n - i
+μ-loop s b n blocks banks₀ l₀ newest₀ buffer₀ due₀ i₀ banks l newest buffer due i = n - i
 
 loop-holds : tie.Need-loop-holds Inv-loop μ-loop
 unfolding channelAfter fresh bankCount
 loop-holds c =
-    (omega arith, rw (c .none-yet .ensures, c .before .unused .ensures), refl, opened-same _ _ (replicate 32 idle) (ap (replicate 32) (c .before .unused .ensures)) (rw (c .none-yet .ensures) opened-fresh), within-none, λ j l. absurd (omega arith))
+    (omega arith, rw (c .no-lasts .ensures, c .before .unused .ensures), refl, opened-same _ _ (replicate 32 idle) (ap (replicate 32) (c .before .unused .ensures)) opened-fresh, within-none, λ j l. absurd (omega arith))
 
 place-of-requires : tie.Need-place-of-requires Inv-loop μ-loop
 place-of-requires c κs =
@@ -60,7 +60,7 @@ returns-2 c =
     let e = sym q ∙ c .before .before .before .before .before .before .before .before .before .before .before .before .before .before .before .before .before .r .given .1 in
     let m = c .before .judge .ensures ∙ ap (λ (x : Channel). judged (contextOf (a .s)) x r) (c .before .before .channel-of .ensures) in
     stop-broken (contextOf (a .s)) (a .blocks) (a .b .now) (a .n) (k .i) _ (k .inv .5) lt (formed-here (a .s) (a .blocks) (a .b .now) (a .n) (k .i) lt r e)
-    (found-here (a .s) (a .blocks) (a .b .now) (a .n) (k .i) lt r e (channelOf (k .banks) (k .l .lasts) (k .buffer) (k .due)) (k .inv .1) ∙ sym m) (c .if2 .taken)
+    (found-here (a .s) (a .blocks) (a .b .now) (a .n) (k .i) lt r e (channelOf (k .banks) (k .l) (k .buffer) (k .due)) (k .inv .1) ∙ sym m) (c .if2 .taken)
 
 mul-opened-track : tie.Need-mul-opened-track Inv-loop μ-loop
 mul-opened-track c = let e = c .before .before .before .before .before .before .before .before .before .before .before .before .before .before .slot-of .ensures .1 in omega arith
@@ -110,12 +110,6 @@ mul-banks-5 c = let e = c .before .before .before .before .before .before .befor
 array-set-from-banks-4 : tie.Need-array-set-from-banks-4 Inv-loop μ-loop
 array-set-from-banks-4 c = let e = c .before .before .before .before .before .before .before .before .before .before .before .before .before .before .before .before .before .before .before .last-near .ensures .1 in omega arith
 
-mul-pick-2 : tie.Need-mul-pick-2 Inv-loop μ-loop
-mul-pick-2 c = let e = c .before .before .before .before .before .before .before .before .before .before .before .before .before .before .before .slot-of .ensures .1 in omega arith
-
-element-copy-out-pick-2 : tie.Need-element-copy-out-pick-2 Inv-loop μ-loop
-element-copy-out-pick-2 c = let e = c .before .before .before .before .before .before .before .before .before .before .before .before .before .before .before .slot-of .ensures .1 in omega arith
-
 mul-banks-6 : tie.Need-mul-banks-6 Inv-loop μ-loop
 mul-banks-6 c = let e = c .before .before .before .before .before .before .before .before .before .before .before .before .before .before .before .before .slot-of .ensures .1 in omega arith
 
@@ -124,27 +118,27 @@ way-write-given-banks-2 c = let e = c .before .before .before .before .before .b
 
 add-i : tie.Need-add-i Inv-loop μ-loop
 add-i c =
-    let l = c .before .before .before .before .before .before .before .before .before .before .before .before .before .before .before .before .before .before .before .before .before .before .before .before .before .before .before .loop-test .taken in
-    let p = c .before .before .before .before .before .before .before .before .before .before .before .before .before .before .before .before .before .before .before .before .before .before .before .before .before .before .before .before .before .before .before .before .pre .0 in
+    let l = c .before .before .before .before .before .before .before .before .before .before .before .before .before .before .before .before .before .before .before .before .before .before .before .before .loop-test .taken in
+    let p = c .before .before .before .before .before .before .before .before .before .before .before .before .before .before .before .before .before .before .before .before .before .before .before .before .before .before .before .before .before .pre .0 in
     omega arith
 
 loop-less : tie.Need-loop-less Inv-loop μ-loop
 loop-less c =
-    let l = c .before .before .before .before .before .before .before .before .before .before .before .before .before .before .before .before .before .before .before .before .before .before .before .before .before .before .before .loop-test .taken in
+    let l = c .before .before .before .before .before .before .before .before .before .before .before .before .before .before .before .before .before .before .before .before .before .before .before .before .loop-test .taken in
     omega arith
 
 loop-again : tie.Need-loop-again Inv-loop μ-loop
 loop-again c =
-    let g = c .before .before .before .before .before .before .before .before .before .before .before .before .before .before .before .before in
+    let g = c .before .before .before .before .before .before .before .before .before .before .before .before .before in
     let a = g .before .before .before .before .before .before .before .before .before .before .before .before .before .before .before .before .args in
     let k = g .before .before .before .before .before .before .before .before .before .before .before .before .loop in
     let lt = g .before .before .before .before .before .before .before .before .before .before .before .loop-test .taken in
     let r = g .before .before .before .before .before .before .before .r .given .0 .0 in
     let e = sym (rw (g .before .before .before .before .before .before .before .before .before .before .place-of .ensures) at (g .before .before .before .before .before .before .before .before .before .read-record .ensures)) ∙ g .before .before .before .before .before .before .before .r .given .1 in
-    let ch : Channel = channelOf (k .banks) (k .l .lasts) (k .buffer) (k .due) in
+    let ch : Channel = channelOf (k .banks) (k .l) (k .buffer) (k .due) in
     let v = g .before .before .before .before .before .view-of .result in
     let w = g .slot-of2 .result in
-    let t : Turn (a .s) r (k .banks) (k .l) (k .buffer) (k .due) v (g .before .before .before .before .held-of .result) (g .before .before .before .slot-of .result) (g .before .before .first-near .result) (g .before .last-near .result) w =
+    let t : Turn (a .s) r (k .banks) (k .l) (k .newest) (k .buffer) (k .due) v (g .before .before .before .before .held-of .result) (g .before .before .before .slot-of .result) (g .before .before .first-near .result) (g .before .last-near .result) w =
     record {
       size = k .inv .2;
       top = k .inv .3;
@@ -157,20 +151,24 @@ loop-again c =
       high = g .before .last-near .ensures .0;
       waiting = g .slot-of2 .ensures .0;
     } in
-    let m : List BankTrack = set (k .banks) w (withRetire (c .before .before .before .before .before .before .before .pick .result) (getD (k .banks) w idle)) in
-    let n = c .before .before .before .before .before .if3 .banks in
-    let o = c .before .before .before .before .if4 .banks in
     let zero : judged (contextOf (a .s)) ch r ≡ 0 =
-    ⊎-elim (λ o. sym (o .2 .ensures ∙ ap (λ (n : Channel). judged (contextOf (a .s)) n r) (o .1 .ensures)) ∙ o .3 .left) (λ o. quick-here t _ _ (c .before .before .before .before .before .before .before .before .before .before .before .tracks-of .ensures) (c .before .before .before .before .before .before .before .before .before .before .passes .ensures) (not-false _ (o .left))) (c .before .before .before .before .before .before .before .before .before .if1 .came)
+    ⊎-elim (λ o. sym (o .2 .ensures ∙ ap (λ (n : Channel). judged (contextOf (a .s)) n r) (o .1 .ensures)) ∙ o .3 .left) (λ o. quick-here t _ _ (c .before .before .before .before .before .before .before .before .tracks-of .ensures) (c .before .before .before .before .before .before .before .passes .ensures) (not-false _ (o .left))) (c .before .before .before .before .before .before .if1 .came)
     in
-    let opens = ⊎-elim (λ o. open-here t m n _ (o .0 .taken) (o .2 .ensures) (o .3)) (λ o. unopened-here t m n (o .0 .left) (o .1)) (c .before .before .before .before .before .if3 .came) in
-    let closes = ⊎-elim (λ p. close-here t n o _ _ _ (p .0 .taken) (p .2 .ensures) (p .4 .ensures) (p .6 .ensures) (p .7)) (λ p. unclosed-here t n o (p .0 .left) (p .1)) (c .before .before .before .before .if4 .came) in
-    let banks = banks-here t _ _ _ m n o (c .before .before .before .before .before .before .before .before .leaving .ensures) (c .before .before .before .before .before .before .before .pick .ensures) refl opens closes (c .before .before .before .pick2 .ensures) in (
+    let m : List BankTrack = set (k .banks) w (withRetire (c .before .before .before .before .pick .result) (getD (k .banks) w idle)) in
+    let n = c .before .before .if3 .banks in
+    let u = c .before .before .if3 .newest in
+    let stored : Stored t m n u =
+    ⊎-elim (λ o. open-here t m n _ u _ (o .0 .taken) (o .2 .ensures) (o .4) (o .3 .ensures) (o .5))
+    (⊎-elim (λ o. close-here t m n _ _ _ u (o .0 .left) (o .1 .taken) (o .3 .ensures) (o .5 .ensures) (o .7 .ensures) (o .8) (o .9))
+    (⊎-elim (λ o. read-here t m n u (o .0 .left) (o .1 .left) (o .2 .taken) (o .4) (o .5)) (λ o. none-here t m n u (o .0 .left) (o .1 .left) (o .2 .left) (o .3) (o .4))))
+    (c .before .before .if3 .came)
+    in
+    let banks = banks-here t _ _ m n (c .before .before .before .before .before .leaving .ensures) (c .before .before .before .before .pick .ensures) refl (stored .0) in (
       omega arith,
-      ap (λ (n : List BankTrack). channelOf n (c .before .latest-after .result .lasts) (c .buffer-after .result) (v .writes)) banks ∙ state-here t _ _ _ (c .before .latest-after .ensures) (c .before .before .before .before .before .before .before .before .leaving .ensures) (c .buffer-after .ensures)
+      ap (λ (n : List BankTrack). channelOf n (c .before .lasts-after .result) (c .buffer-after .result) (v .writes)) banks ∙ state-here t _ _ _ (c .before .lasts-after .ensures) (c .before .before .before .before .before .leaving .ensures) (c .buffer-after .ensures)
           ∙ after-here (a .s) (a .blocks) (a .b .now) (a .n) (k .i) lt r e ch (k .inv .1),
       ap length banks ∙ length-here t,
-      opened-same _ _ _ banks (opened-here t _ (c .before .latest-after .ensures)),
+      opened-same _ _ _ banks (opened-here t _ (stored .1)),
       within-here t _ _ (c .buffer-after .ensures),
       below-more _ _ (k .inv .5) (holds-here (a .s) (a .blocks) (a .b .now) (a .n) (k .i) lt r e ch (k .inv .1) zero),
     )
@@ -226,6 +224,7 @@ walk-spec =
     (λ c κs. search needs)
     mul-banks-2
     array-set-from-banks
+    (λ c κs. search needs)
     mul-closed-track
     array-copy-out-closed-track
     (λ c κs. search needs)
@@ -241,9 +240,6 @@ walk-spec =
     (λ c κs. search needs)
     mul-banks-5
     array-set-from-banks-4
-    mul-pick-2
-    element-copy-out-pick-2
-    (λ c κs. search needs)
     mul-banks-6
     way-write-given-banks-2
     (λ c κs. search needs)

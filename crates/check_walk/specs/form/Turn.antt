@@ -1,10 +1,8 @@
--- What one record is to the walk, and what it makes of one bank and of the latest instants.
+-- What one record is to the walk, and what it makes of one bank and of the newest ACT or REFA.
 -- Assumes nothing.
-use mathlib.Core.Bool.{Bool, _&&_, cond}
+use Prim.Native.Nat.{ℕ, max}
+use mathlib.Core.Bool.{Bool, cond}
 use mathlib.Core.List.{List}
-use lib.Dec.{ltb}
-use Rattle.settings.specs.declared.PacketAt.{PacketAt}
-use Rattle.record.specs.declared.Record.{Record}
 use Rattle.spec_rules.specs.declared.BankTrack.{BankTrack}
 use Rattle.spec_rules.specs.declared.LastInstants.{LastInstants}
 use Rattle.spec_rules.specs.declared.Buffer.{Buffer}
@@ -15,8 +13,6 @@ use Rattle.chan_view.specs.declared.Seen.{Seen}
 use Rattle.chan_view.specs.declared.Seen.the-variants.{Packet, Data}
 use Rattle.chan_view.specs.declared.Tracks.{Tracks}
 use Rattle.chan_view.specs.form.View.{plain}
-use Rattle.chan_step.specs.form.Lasts.{lastsNext}
-use Rattle.check_walk.specs.declared.Latest.{Latest}
 
 -- a record as flags: data name no bank and change none
 unfoldable pub viewIn : Seen → View
@@ -39,15 +35,12 @@ openedTrack v k =
     }
 
 -- the newest ACT or REFA after a record
-unfoldable pub newestNext : View → PacketAt → PacketAt
-newestNext v newest = record { 0 = cond (v .opens && ltb (newest .0) (v .at .0)) (v .at .0) (newest .0) }
+abbrev pub newestNext : View → ℕ → ℕ
+newestNext v newest = cond (v .opens) (max newest (v .at .0)) newest
 
--- the latest instants before every record, and after one of this view
-abbrev pub noneYet : Latest
-noneYet = record { lasts = record { packet = never; row = never; col = never; pre = never; rd = never }; newest = never }
-
-abbrev pub latestNext : Record → View → Latest → Latest
-latestNext r v l = record { lasts = lastsNext r (l .lasts); newest = newestNext v (l .newest) }
+-- no instant of any packet
+abbrev pub noLasts : LastInstants
+noLasts = record { packet = never; row = never; col = never; pre = never; rd = never }
 
 -- the state of the channel from its parts
 abbrev pub channelOf : List BankTrack → LastInstants → Buffer → Bool → Channel
