@@ -7,6 +7,7 @@ use record::Refusal;
 use settings::Settings;
 use settings::SettingsRead;
 use spec_calls::StepAnswer;
+use spec_model::MODEL_BYTES;
 use spec_model::Stepped;
 
 // Puts a fresh model into a buffer of its length.
@@ -14,7 +15,7 @@ pub fn model_fresh(model: &mut [u8]) -> u32
     ensures { λ r. ⌜ r ≡ modelFresh (now (model .entry)) .number ⌝ }
     ensures { λ _. ⌜ now (model .exit) ≡ modelFresh (now (model .entry)) .state ⌝ }
 {
-    if model.len() != 792 {
+    if model.len() != MODEL_BYTES {
         return 1;
     }
     state_whole::fresh::put_fresh_model(model);

@@ -16,7 +16,9 @@ use record::Refusal;
 use settings::Settings;
 use settings::SettingsRead;
 use spec_calls::PlanAnswer;
+use spec_plan::MOST_BYTES;
 use spec_plan::Outcome;
+use spec_plan::PLANNER_BYTES;
 use state_bytes::planners::planner_rest_right;
 use state_bytes::planners::planner_right;
 
@@ -25,7 +27,7 @@ pub fn planner_fresh(planner: &mut [u8]) -> u32
     ensures { λ r. ⌜ r ≡ plannerFresh (now (planner .entry)) .number ⌝ }
     ensures { λ _. ⌜ now (planner .exit) ≡ plannerFresh (now (planner .entry)) .state ⌝ }
 {
-    if planner.len() != 768 {
+    if planner.len() != PLANNER_BYTES {
         return 1;
     }
     state_whole::fresh::put_fresh_planner(planner);
@@ -51,14 +53,14 @@ fn plan_under(s: Settings, planner: &mut [u8], request: &[u8], room: &mut [u8]) 
     ensures { λ _. ⌜ now (planner .exit) ≡ planUnder (now (planner .entry)) (now (request .entry)) (now (room .entry)) s .planner ⌝ }
     ensures { λ _. ⌜ now (room .exit) ≡ planUnder (now (planner .entry)) (now (request .entry)) (now (room .entry)) s .room ⌝ }
 {
-    if planner.len() != 768 {
+    if planner.len() != PLANNER_BYTES {
         return answer(Outcome::Refused(Refusal::Settings));
     }
     let quick = plan_calm::calm(planner);
     if !right(s, planner, quick) {
         return answer(Outcome::Refused(Refusal::Settings));
     }
-    if quick & (544 <= room.len()) {
+    if quick & (MOST_BYTES <= room.len()) {
         return in_place(s, planner, request, room);
     }
     by_value(s, planner, request, room)

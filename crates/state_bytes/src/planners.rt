@@ -15,6 +15,7 @@ use crate::tested::buffer_right;
 use crate::tested::channel_right;
 use crate::tested::tags_right;
 use settings::Settings;
+use spec_plan::PLANNER_BYTES;
 use spec_plan::PlannerState;
 
 // The fields after the channel's.
@@ -30,7 +31,7 @@ fn fields_right(b: &[u8]) -> bool
 pub fn planner_right(s: Settings, b: &[u8]) -> bool
     ensures { λ r. ⌜ r ≡ plannerRight (contextOf s) (now (b .entry)) ⌝ }
 {
-    if b.len() != 768 {
+    if b.len() != PLANNER_BYTES {
         return false;
     }
     fields_right(b) & channel_right(s, 0, 1, b)
