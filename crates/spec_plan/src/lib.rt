@@ -3,13 +3,14 @@ use record::Refusal;
 use settings::PacketAt;
 use spec_rules::Channel;
 
-// A planner between two requests: the channel after its packets, now, the bank of the next refresh, and the mask of the
-// waiting write.
+// A planner between two requests: the channel after its packets, now, the bank of the next refresh, and the masks of the
+// waiting writes, that of the older one first.
 pub struct PlannerState {
     pub channel: Channel,
     pub now: PacketAt,
     pub refresh: u32,
     pub mask: u32,
+    pub second: u32,
 }
 
 // What a plan call answers: the number of records that it made, or why it is refused.
