@@ -3,11 +3,12 @@ use record::Dualoct;
 use record::Refusal;
 use spec_rules::Channel;
 
-// A model between two records: the channel, REFR, and the data of the waiting write.
+// A model between two records: the channel, REFR, and the data of the waiting writes, those of the older one first.
 pub struct ModelState {
     pub channel: Channel,
     pub refr: u32,
     pub bytes: Dualoct,
+    pub second: Dualoct,
 }
 
 // What a model call answers: the dualoct is in the answer buffer; a write was retired, with the number of bytes that it wrote;
