@@ -71,7 +71,10 @@ parts m =
 abbrev pub DataFits : Dualoct → Type 0
 DataFits d = (d .dqa < 2 ^ 64) × (d .dqb < 2 ^ 64)
 
-module _ (cx : Context) (v : valid (cx .settings) ≡ true) (m : ModelState) (k : modelValid cx m ≡ true) (fits : DataFits (m .bytes)) (newer-fits : DataFits (m .second)) where
+abbrev pub HeldFits : ModelState → Type 0
+HeldFits m = (DataFits (m .bytes)) × (DataFits (m .second))
+
+module _ (cx : Context) (v : valid (cx .settings) ≡ true) (m : ModelState) (k : modelValid cx m ≡ true) (fits : HeldFits m) where
   channel-back : (channelIn (modelBytes m) ≡ m .channel) × (channelSpare (modelBytes m) ≡ true)
   unfolding modelValid
   channel-back =
@@ -88,13 +91,13 @@ module _ (cx : Context) (v : valid (cx .settings) ≡ true) (m : ModelState) (k 
         q .refr,
         number-bytes 2 (m .refr) refr,
         q .dqa,
-        number-bytes 8 (m .bytes .dqa) (fits .0),
+        number-bytes 8 (m .bytes .dqa) (fits .0 .0),
         q .dqb,
-        number-bytes 8 (m .bytes .dqb) (fits .1),
+        number-bytes 8 (m .bytes .dqb) (fits .0 .1),
         q .second-dqa,
-        number-bytes 8 (m .second .dqa) (newer-fits .0),
+        number-bytes 8 (m .second .dqa) (fits .1 .0),
         q .second-dqb,
-        number-bytes 8 (m .second .dqb) (newer-fits .1),
+        number-bytes 8 (m .second .dqb) (fits .1 .1),
       )
 
   pub model-right : modelRight cx (modelBytes m) ≡ true
