@@ -98,7 +98,7 @@ module _ (settings : List ℕ) (s : Settings) (a : settingsRead settings ≡ Acc
         taken = omega arith;
         within = omega arith;
         model-valid = fresh-model-valid (contextOf s) v;
-        data-held = (omega arith, omega arith);
+        data-held = ((omega arith, omega arith), (omega arith, omega arith));
         fits = run-fits (contextOf s) v (split-neighbours s) (callsOf calls) of-bytes;
         data-in = run-data (contextOf s) v (split-neighbours s) (callsOf calls) of-bytes;
         ready = ready;

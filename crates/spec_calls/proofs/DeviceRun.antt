@@ -19,7 +19,6 @@ use Rattle.settings.specs.Settings.{settingsRead, valid}
 use Rattle.settings.proofs.SettingsLaws.{bounds, accepted-valid}
 use Rattle.packet.specs.declared.ColPacket.the-variants.{Nocop, Wr, Rd}
 use Rattle.packet.specs.Col.{colFits}
-use Rattle.record.specs.declared.Dualoct.{Dualoct}
 use Rattle.record.specs.declared.Record.{Record}
 use Rattle.record.specs.declared.Record.the-variants.{RowAt, ColAt, DataOf}
 use Rattle.record.specs.declared.Refusal.{Refusal}
@@ -32,7 +31,8 @@ use Rattle.spec_rules.specs.declared.Bank.the-variants.{Closed, Open, Refresh}
 use Rattle.spec_rules.specs.declared.Write.{Write}
 use Rattle.spec_rules.specs.declared.Channel.{Channel}
 use Rattle.spec_rules.specs.Neighbour.{bankCount, Context, contextOf}
-use Rattle.spec_rules.specs.Channel.{stateOf}
+use Rattle.spec_rules.specs.History.{two}
+use Rattle.spec_rules.specs.Channel.{stateOf, waitingOf}
 use Rattle.spec_rules.specs.Checks.{judged}
 use Rattle.spec_rules.proofs.Bools.{and-left, and-right}
 use Rattle.spec_rules.proofs.NeighbourLaws.{split-neighbours}
@@ -43,11 +43,11 @@ use Rattle.spec_model.specs.declared.ModelState.{ModelState}
 use Rattle.spec_model.specs.declared.Stepped.{Stepped}
 use Rattle.spec_model.specs.declared.Stepped.the-variants.{Refused, Read, Retired, Neither}
 use Rattle.spec_model.specs.Store.{storeLength, dualoct, dualoctAt}
-use Rattle.spec_model.specs.Model.{modelValid, openRow, bytesNext, modelNext, storeNext, readOf, retiredWrite, retireMask}
+use Rattle.spec_model.specs.Model.{modelValid, openRow, bytesLeft, bytesNext, secondNext, modelNext, storeNext, readOf, retiredWrite, retireMask}
 use Rattle.spec_model.specs.ModelBytes.{modelBytes}
 use Rattle.spec_model.specs.Step.{retireAnswer, passedAnswer, recordAnswer, readAnswer, stepAnswer, isTaken, modelBy, stepModel, stepStore, bytesRead, bytesBy, stepRoom}
 use Rattle.spec_model.proofs.StoreLaws.{dualoct-in}
-use Rattle.spec_model.proofs.ModelRoundTrip.{DataFits, model-decode-encode, model-right}
+use Rattle.spec_model.proofs.ModelRoundTrip.{DataFits, HeldFits, model-decode-encode, model-right}
 use Rattle.spec_model.proofs.NextValid.{next-model-valid}
 use Rattle.spec_runs.specs.Count.{writtenBy}
 use Rattle.spec_runs.specs.Drive.{Drive, returned, leftBy, isFull, fails, calledOn, driven}
@@ -143,7 +143,7 @@ device-same : (m n st su : List ℕ) (a b : List (List ℕ)) (c d i j : ℕ) (p 
     _≡_ {A = Device} (record { model = m; store = st; answers = a; written = c; next = i; failed = p }) (record { model = n; store = su; answers = b; written = d; next = j; failed = q })
 device-same m n st su a b c d i j p q e f g h k l = rw (e, f, g, h, k, l)
 
-module _ (settings : List ℕ) (s : Settings) (a : settingsRead settings ≡ Accepted s) (m : ModelState) (k : modelValid (contextOf s) m ≡ true) (d : DataFits (m .bytes)) (store given room : List ℕ) where
+module _ (settings : List ℕ) (s : Settings) (a : settingsRead settings ≡ Accepted s) (m : ModelState) (k : modelValid (contextOf s) m ≡ true) (d : HeldFits m) (store given room : List ℕ) where
   v : valid s ≡ true
   v = accepted-valid settings s a
 
@@ -247,16 +247,24 @@ pub record Stands (s : Settings) (list : List ℕ) (n : ℕ) (m : ModelState) (s
   pub taken : length before ≡ 32 * (n - length l)
   pub within : length l ≤ n
   pub model-valid : modelValid (contextOf s) m ≡ true
-  pub data-held : DataFits (m .bytes)
+  pub data-held : HeldFits m
   pub fits : Every (λ r. recordFits s r ≡ true) l
   pub data-in : Every DataIn l
   pub ready : Ready (contextOf s) m store l
 
-pub bytes-held : (r : Record) (d : Dualoct) → DataIn r → DataFits d → DataFits (bytesNext r d)
-unfolding bytesNext
-bytes-held (RowAt t p) d i h = h
-bytes-held (ColAt t p) d i h = h
-bytes-held (DataOf t e) d i h = i
+pub bytes-held : (cx : Context) (m : ModelState) (r : Record) → DataIn r → HeldFits m → HeldFits (modelNext cx m r)
+unfolding modelNext bytesNext secondNext
+bytes-held cx m (RowAt t p) i h = h
+bytes-held cx m (ColAt t p) i h = (go (retiredWrite cx m (ColAt t p)), h .1)
+  where
+    go : (o : Option Write) → DataFits (bytesLeft o (m .bytes) (m .second))
+    go none = h .0
+    go (some w) = h .1
+bytes-held cx m (DataOf t d) i h = go (two (waitingOf (m .channel .buffer)))
+  where
+    go : (b : Bool) → (DataFits (cond b (m .bytes) d)) × (DataFits (cond b d (m .second)))
+    go true = (h .0, i)
+    go false = (i, h .1)
 
 module _ (settings : List ℕ) (s : Settings) (a : settingsRead settings ≡ Accepted s) (list : List ℕ) (n : ℕ) (whole : length list ≡ 32 * n) where
   stands-next : (m : ModelState) (store : List ℕ) (r : Record) (l : List Record) → Stands s list n m store (r ∷ l) → Stands s list n (modelNext (contextOf s) m r) (storeNext (contextOf s) m r store) l
@@ -268,7 +276,7 @@ module _ (settings : List ℕ) (s : Settings) (a : settingsRead settings ≡ Acc
         taken = length-append (k .before) (recordBytes s r) ∙ omega (arith, k .taken, length-record (contextOf s) r, k .within);
         within = omega (arith, k .within);
         model-valid = next-model-valid (contextOf s) (accepted-valid settings s a) (split-neighbours s) m (k .model-valid) r (k .fits .0) (k .ready .passing .0);
-        data-held = bytes-held r (m .bytes) (k .data-in .0) (k .data-held);
+        data-held = bytes-held (contextOf s) m r (k .data-in .0) (k .data-held);
         fits = k .fits .1;
         data-in = k .data-in .1;
         ready = ready-next (contextOf s) m store r l (k .ready);

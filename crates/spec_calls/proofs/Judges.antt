@@ -27,11 +27,11 @@ use Rattle.spec_rules.proofs.NeighbourLaws.{split-neighbours}
 use Rattle.spec_model.specs.declared.ModelState.{ModelState}
 use Rattle.spec_model.specs.declared.Stepped.{Stepped}
 use Rattle.spec_model.specs.declared.Stepped.the-variants as stepped
-use Rattle.spec_model.specs.Model.{freshModel, modelValid, modelNext}
+use Rattle.spec_model.specs.Model.{freshModel, modelValid}
 use Rattle.spec_model.specs.ModelBytes.{modelBytes}
 use Rattle.spec_model.specs.Step.{stepAnswer, isTaken, stepModel}
 use Rattle.spec_model.specs.Judges.{StepCall, modelAfter, recordSaid, takenBy, StepBreach}
-use Rattle.spec_model.proofs.ModelRoundTrip.{DataFits}
+use Rattle.spec_model.proofs.ModelRoundTrip.{HeldFits}
 use Rattle.spec_model.proofs.NextValid.{fresh-model-valid, step-keeps, step-valid}
 use Rattle.spec_model.proofs.Judges.{tracked, step-rule, rule-step}
 use Rattle.spec_runs.proofs.Sim.{DataIn}
@@ -72,10 +72,9 @@ held-data (RowAt t p) h = tt
 held-data (ColAt t p) h = tt
 held-data (DataOf t d) h = (h .1, h .2)
 
-step-fits : (cx : Context) (m : ModelState) → DataFits (m .bytes) → (stored : ℕ) (given : List ℕ) (room : ℕ) → Bytes given → DataFits (stepModel cx m stored given room .bytes)
-unfolding modelNext
+step-fits : (cx : Context) (m : ModelState) → HeldFits m → (stored : ℕ) (given : List ℕ) (room : ℕ) → Bytes given → HeldFits (stepModel cx m stored given room)
 step-fits cx m d stored given room w =
-    step-keeps cx m (λ t n. DataFits (n .bytes)) stored given room d (λ r l e j. bytes-held r (m .bytes) (held-data r (record-read-held (cx .settings) given r l w e)) d)
+    step-keeps cx m (λ t n. HeldFits n) stored given room d (λ r l e j. bytes-held cx m r (held-data r (record-read-held (cx .settings) given r l w e)) d)
 
 -- test and records apart, so that a definition that is wrong in one is refused there
 taken-same : (said : List Record) (p q : Bool) (es fs : List Record) → p ≡ q → es ≡ fs → cond p said [] ++ es ≡ cond q said [] ++ fs
@@ -85,7 +84,7 @@ module _ (settings : List ℕ) (s : Settings) (a : settingsRead settings ≡ Acc
   -- the bytes that calls leave, and the records of those that answered 0
   record Follows (cs : List StepCall) : Type 0 where
     good : modelValid (contextOf s) (modelAfter (contextOf s) cs) ≡ true
-    fits : DataFits (modelAfter (contextOf s) cs .bytes)
+    fits : HeldFits (modelAfter (contextOf s) cs)
     left : modelLeft settings cs ≡ modelBytes (modelAfter (contextOf s) cs)
     accepted : recordsAccepted settings s cs ≡ takenBy (contextOf s) cs
 
@@ -95,7 +94,7 @@ module _ (settings : List ℕ) (s : Settings) (a : settingsRead settings ≡ Acc
 
   follows : (cs : List StepCall) → GivenBytes cs → Follows cs
   unfolding contextOf freshModel modelAfter takenBy modelLeft recordsAccepted GivenBytes
-  follows [] w = record { good = fresh-model-valid (contextOf s) (accepted-valid settings s a); fits = (omega arith, omega arith); left = refl; accepted = refl }
+  follows [] w = record { good = fresh-model-valid (contextOf s) (accepted-valid settings s a); fits = ((omega arith, omega arith), (omega arith, omega arith)); left = refl; accepted = refl }
   follows (c ∷ cs) w =
       let f : Follows cs = follows cs (w .1) in
       let m : ModelState = modelAfter (contextOf s) cs in

@@ -29,17 +29,19 @@ use Rattle.spec_model.specs.ModelBytes.{modelLength, modelBytes, modelIn
 
 pub model-length : (m : ModelState) → length (modelBytes m) ≡ 792
 unfolding modelBytes
-model-length m = simp (length-append, channel-length, length-bytes, length-zeros)
+model-length m = simp (length-append, channel-length, length-bytes)
 
 pub model-bytes : (m : ModelState) → Bytes (modelBytes m)
 unfolding modelBytes
 model-bytes m =
-    let rest : List ℕ = bytes 8 (m .bytes .dqa) ++ (bytes 8 (m .bytes .dqb) ++ zeros 16) in
+    let newer : List ℕ = bytes 8 (m .second .dqa) ++ bytes 8 (m .second .dqb) in
+    let rest : List ℕ = bytes 8 (m .bytes .dqa) ++ (bytes 8 (m .bytes .dqb) ++ newer) in
     Bytes-append (channelBytes (m .channel)) (bytes 2 (m .refr) ++ (zeros 6 ++ rest)) (channel-bytes (m .channel))
     (Bytes-append (bytes 2 (m .refr)) (zeros 6 ++ rest) (Bytes-bytes 2 (m .refr))
     (Bytes-append (zeros 6) rest (Bytes-zeros 6)
-    (Bytes-append (bytes 8 (m .bytes .dqa)) (bytes 8 (m .bytes .dqb) ++ zeros 16) (Bytes-bytes 8 (m .bytes .dqa))
-    (Bytes-append (bytes 8 (m .bytes .dqb)) (zeros 16) (Bytes-bytes 8 (m .bytes .dqb)) (Bytes-zeros 16)))))
+    (Bytes-append (bytes 8 (m .bytes .dqa)) (bytes 8 (m .bytes .dqb) ++ newer) (Bytes-bytes 8 (m .bytes .dqa))
+    (Bytes-append (bytes 8 (m .bytes .dqb)) newer (Bytes-bytes 8 (m .bytes .dqb))
+    (Bytes-append (bytes 8 (m .second .dqa)) (bytes 8 (m .second .dqb)) (Bytes-bytes 8 (m .second .dqa)) (Bytes-bytes 8 (m .second .dqb)))))))
 
 -- ---- written, then read
 
@@ -50,7 +52,8 @@ record Parts (b : List ℕ) (m : ModelState) : Type 0 where
   after-refr : part b 754 6 ≡ zeros 6
   dqa : part b 760 8 ≡ bytes 8 (m .bytes .dqa)
   dqb : part b 768 8 ≡ bytes 8 (m .bytes .dqb)
-  second : part b 776 16 ≡ zeros 16
+  second-dqa : part b 776 8 ≡ bytes 8 (m .second .dqa)
+  second-dqb : part b 784 8 ≡ bytes 8 (m .second .dqb)
 
 parts : (m : ModelState) → Parts (modelBytes m) m
 unfolding modelBytes
@@ -61,13 +64,17 @@ parts m =
     let p2 = part-split b 754 6 32 _ _ (length-zeros 6) (p1 .1) in
     let p3 = part-split b 760 8 24 _ _ (length-bytes 8 (m .bytes .dqa)) (p2 .1) in
     let p4 = part-split b 768 8 16 _ _ (length-bytes 8 (m .bytes .dqb)) (p3 .1) in
-    record { channel = p0 .0; refr = p1 .0; after-refr = p2 .0; dqa = p3 .0; dqb = p4 .0; second = p4 .1 }
+    let p5 = part-split b 776 8 8 _ _ (length-bytes 8 (m .second .dqa)) (p4 .1) in
+    record { channel = p0 .0; refr = p1 .0; after-refr = p2 .0; dqa = p3 .0; dqb = p4 .0; second-dqa = p5 .0; second-dqb = p5 .1 }
 
 -- the data are two numbers of 64 bits
 abbrev pub DataFits : Dualoct → Type 0
 DataFits d = (d .dqa < 2 ^ 64) × (d .dqb < 2 ^ 64)
 
-module _ (cx : Context) (v : valid (cx .settings) ≡ true) (m : ModelState) (k : modelValid cx m ≡ true) (fits : DataFits (m .bytes)) where
+abbrev pub HeldFits : ModelState → Type 0
+HeldFits m = (DataFits (m .bytes)) × (DataFits (m .second))
+
+module _ (cx : Context) (v : valid (cx .settings) ≡ true) (m : ModelState) (k : modelValid cx m ≡ true) (fits : HeldFits m) where
   channel-back : (channelIn (modelBytes m) ≡ m .channel) × (channelSpare (modelBytes m) ≡ true)
   unfolding modelValid
   channel-back =
@@ -84,16 +91,20 @@ module _ (cx : Context) (v : valid (cx .settings) ≡ true) (m : ModelState) (k 
         q .refr,
         number-bytes 2 (m .refr) refr,
         q .dqa,
-        number-bytes 8 (m .bytes .dqa) (fits .0),
+        number-bytes 8 (m .bytes .dqa) (fits .0 .0),
         q .dqb,
-        number-bytes 8 (m .bytes .dqb) (fits .1),
+        number-bytes 8 (m .bytes .dqb) (fits .0 .1),
+        q .second-dqa,
+        number-bytes 8 (m .second .dqa) (fits .1 .0),
+        q .second-dqb,
+        number-bytes 8 (m .second .dqb) (fits .1 .1),
       )
 
   pub model-right : modelRight cx (modelBytes m) ≡ true
   unfolding modelRight modelLength
   model-right =
       let q : Parts (modelBytes m) m = parts m in
-      rw (model-length m, channel-back .1, zero-back (modelBytes m) 754 6 (q .after-refr), zero-back (modelBytes m) 776 16 (q .second), model-decode-encode, k)
+      rw (model-length m, channel-back .1, zero-back (modelBytes m) 754 6 (q .after-refr), model-decode-encode, k)
 
 -- ---- read, then written
 
@@ -101,11 +112,12 @@ pub model-encode-decode : (cx : Context) (b : List ℕ) → Bytes b → modelRig
 unfolding modelBytes modelIn modelRight modelLength
 model-encode-decode cx b w r =
     let n : length b ≡ 792 = eqb-true _ _ (and-left (eqb (length b) 792) _ r) in
-    let spare = and-left (channelSpare b && (zeroPart b 754 6 && zeroPart b 776 16)) _ (and-right (eqb (length b) 792) _ r) in
+    let spare = and-left (channelSpare b && zeroPart b 754 6) _ (and-right (eqb (length b) 792) _ r) in
     let zero = and-right (channelSpare b) _ spare in
     part-both b 0 752 40 _ _ (channel-encode-decode b w (omega arith) (and-left (channelSpare b) _ spare))
     (part-both b 752 2 38 _ _ (bytes-part b 752 2 w (omega arith))
-    (part-both b 754 6 32 _ _ (zero-in b 754 6 w (omega arith) (and-left (zeroPart b 754 6) _ zero))
+    (part-both b 754 6 32 _ _ (zero-in b 754 6 w (omega arith) zero)
     (part-both b 760 8 24 _ _ (bytes-part b 760 8 w (omega arith))
-    (part-both b 768 8 16 _ _ (bytes-part b 768 8 w (omega arith)) (zero-in b 776 16 w (omega arith) (and-right (zeroPart b 754 6) _ zero))))))
+    (part-both b 768 8 16 _ _ (bytes-part b 768 8 w (omega arith))
+    (part-both b 776 8 8 _ _ (bytes-part b 776 8 w (omega arith)) (bytes-part b 784 8 w (omega arith)))))))
     ∙ part-all b 792 (omega arith)

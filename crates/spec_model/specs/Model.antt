@@ -17,14 +17,15 @@ use Rattle.spec_rules.specs.declared.Bank.the-variants.{Closed, Open, Refresh}
 use Rattle.spec_rules.specs.declared.Write.{Write}
 use Rattle.spec_rules.specs.declared.Channel.{Channel}
 use Rattle.spec_rules.specs.Neighbour.{Context}
-use Rattle.spec_rules.specs.Channel.{fresh, stateOf, leavingOf, after}
+use Rattle.spec_rules.specs.History.{two}
+use Rattle.spec_rules.specs.Channel.{fresh, stateOf, waitingOf, leavingOf, after}
 use Rattle.spec_state.specs.Valid.{channelValid}
 use Rattle.spec_model.specs.declared.ModelState.{ModelState}
 use Rattle.spec_model.specs.Store.{dualoctAt, dualoct, dualoctBytes, masked}
 
 -- "The model's REFR starts at 0"; "A fresh model or checker has every bank closed, the buffer empty and no earlier record."
 unfoldable pub freshModel : ModelState
-freshModel = record { channel = fresh; refr = 0; bytes = record { dqa = 0; dqb = 0 } }
+freshModel = record { channel = fresh; refr = 0; bytes = record { dqa = 0; dqb = 0 }; second = record { dqa = 0; dqb = 0 } }
 
 -- a state that is not refused: REFR is below rows
 unfoldable pub modelValid : Context → ModelState → Bool
@@ -53,7 +54,7 @@ retireMask (DataOf t d) = 0xFFFF
 unfoldable pub retiredWrite : Context → ModelState → Record → Option Write
 retiredWrite cx m r = leavingOf cx (m .channel) r
 
--- the waiting write done in a store: "to the row open in its bank, under the mask"
+-- a waiting write done in a store: "to the row open in its bank, under the mask"
 abbrev pub retiredTo : Context → Channel → Option Write → ℕ → Dualoct → List ℕ → List ℕ
 retiredTo cx ch none mask d store = store
 retiredTo cx ch (some w) mask d store =
@@ -77,15 +78,26 @@ refrNext cx (RowAt t p) refr = refrBy cx p refr
 refrNext cx (ColAt t p) refr = refr
 refrNext cx (DataOf t d) refr = refr
 
--- "WR loads it", and its D brings the data
-unfoldable pub bytesNext : Record → Dualoct → Dualoct
-bytesNext (RowAt t p) bytes = bytes
-bytesNext (ColAt t p) bytes = bytes
-bytesNext (DataOf t d) bytes = d
+-- the data of the older write after a packet that retires this one: those of the newer move up
+abbrev pub bytesLeft : Option Write → Dualoct → Dualoct → Dualoct
+bytesLeft none older newer = older
+bytesLeft (some w) older newer = newer
+
+-- "WR loads it", and its D brings the data, "the second's data beside the first's"
+unfoldable pub bytesNext : Context → ModelState → Record → Dualoct
+bytesNext cx m (RowAt t p) = m .bytes
+bytesNext cx m (ColAt t p) = bytesLeft (retiredWrite cx m (ColAt t p)) (m .bytes) (m .second)
+bytesNext cx m (DataOf t d) = cond (two (waitingOf (m .channel .buffer))) (m .bytes) d
+
+unfoldable pub secondNext : ModelState → Record → Dualoct
+secondNext m (RowAt t p) = m .second
+secondNext m (ColAt t p) = m .second
+secondNext m (DataOf t d) = cond (two (waitingOf (m .channel .buffer))) d (m .second)
 
 -- the model after a record
 unfoldable pub modelNext : Context → ModelState → Record → ModelState
-modelNext cx m r = record { channel = after cx (m .channel) r; refr = refrNext cx r (m .refr); bytes = bytesNext r (m .bytes) }
+modelNext cx m r =
+    record { channel = after cx (m .channel) r; refr = refrNext cx r (m .refr); bytes = bytesNext cx m r; second = secondNext m r }
 
 -- ---- what a record answers
 

@@ -6,11 +6,12 @@ use spec_rules::Channel;
 // The bytes of a model.
 pub const MODEL_BYTES: usize = 792;
 
-// A model between two records: the channel, REFR, and the data of the waiting write.
+// A model between two records: the channel, REFR, and the data of the waiting writes, those of the older one first.
 pub struct ModelState {
     pub channel: Channel,
     pub refr: u32,
     pub bytes: Dualoct,
+    pub second: Dualoct,
 }
 
 // What a model call answers: the dualoct is in the answer buffer; a write was retired, with the number of bytes that it wrote;

@@ -1,4 +1,4 @@
--- "No request makes more than 17 records." (document 01, "Planner"), and a drain that makes 17.
+-- "a request may make 18 records." (document 02 a), and a drain that makes 18.
 -- Assumes nothing.
 use Prim.Native.Nat.{ℕ, zero, suc, _+_, _*_, _-_, _/_, _≤_, _<_}
 use mathlib.Core.Path.{_≡_, refl, sym, _∙_}
@@ -25,7 +25,7 @@ use Rattle.record.specs.Request.{usesByte, spareRight, placed, requestOf, reque
 use Rattle.spec_rules.specs.declared.Bank.{Bank}
 use Rattle.spec_rules.specs.declared.Write.{Write}
 use Rattle.spec_rules.specs.declared.Buffer.{Buffer}
-use Rattle.spec_rules.specs.declared.Buffer.the-variants.{Empty, One}
+use Rattle.spec_rules.specs.declared.Buffer.the-variants.{Empty, One, Two}
 use Rattle.spec_rules.specs.Neighbour.{bankCount, Context, split, near, contextOf}
 use Rattle.spec_rules.specs.Packets.{rowTraits, colTraits, traits, retireTraits, instant, isPacket}
 use Rattle.spec_rules.specs.History.{bankBy, isClosed, isOpen, rest, leaving, loads, anyWrite}
@@ -39,7 +39,7 @@ use Rattle.spec_plan.specs.declared.PlannerState.{PlannerState}
 use Rattle.spec_plan.specs.Planner.{freshPlanner, plannerValid}
 use Rattle.spec_plan.specs.Call.{inTime, timely, outcomeOf, outcomeBy, planOutcome, isMade, draftBy, planNext, planRecords}
 use Rattle.spec_plan.specs.Runs.{Call, plannerAfter}
-use Rattle.spec_plan.specs.Plan.{Draft, rowPacket, colPacket, when, waiting, stateIn, openOn, hits, anyWaits, slot, sent, flushed, flushedWhile, closed, loses, closedUpTo, cleared, reached, plannedRead, loaded, written, plannedWrite, turned, plannedRefresh, plannedWait, plannedDrain, stepsOf, planned}
+use Rattle.spec_plan.specs.Plan.{Draft, rowPacket, colPacket, when, waiting, stateIn, openOn, hits, anyWaits, slot, sent, flushed, flushedWhile, closed, loses, closedUpTo, cleared, delays, reached, plannedRead, loaded, written, plannedWrite, turned, plannedRefresh, plannedWait, plannedDrain, stepsOf, planned}
 use Rattle.spec_plan.proofs.SentLaws.{when-either, Sized, sent-records, flushed-waiting, row-waiting, read-waiting, while-keeps, while-size, while-state, saved, up-to-shut}
 use Rattle.spec_plan.proofs.Invariant.{Inv, Banked, valid-inv}
 
@@ -115,18 +115,19 @@ open-half s state k =
 cost : Draft → ℕ
 cost d = length (d .records) + length (waiting d)
 
-at-most-one : (b : Buffer) → length (waitingOf b) ≤ 1
+at-most-two : (b : Buffer) → length (waitingOf b) ≤ 2
 unfolding waitingOf
-at-most-one Empty = omega arith
-at-most-one (One w) = omega arith
+at-most-two Empty = omega arith
+at-most-two (One x) = omega arith
+at-most-two (Two x y) = omega arith
 
 records-cost : (d : Draft) → length (d .records) ≤ cost d
 unfolding cost
 records-cost d = omega arith
 
-start-cost : (p : PlannerState) → cost (record { planner = p; records = [] }) ≤ 1
+start-cost : (p : PlannerState) → cost (record { planner = p; records = [] }) ≤ 2
 unfolding cost
-start-cost p = omega (arith, at-most-one (p .channel .buffer))
+start-cost p = omega (arith, at-most-two (p .channel .buffer))
 
 module _ (cx : Context) where
   sent-length : (r : Record) (d : Draft) → length (sent cx r d .records) ≡ length (d .records) + 1
@@ -223,17 +224,17 @@ module _ (s : Settings) where
         open-half s (stateIn d) b,
       )
 
-  pub most : (p : PlannerState) → plannerValid (contextOf s) p ≡ true → (q : Request) → length (planned (contextOf s) q p .records) ≤ 17
+  pub most : (p : PlannerState) → plannerValid (contextOf s) p ≡ true → (q : Request) → length (planned (contextOf s) q p .records) ≤ 18
   unfolding planned stepsOf plannedRead plannedWrite plannedRefresh turned plannedWait
   most p v q = go q (valid-inv (contextOf s) p v)
     where
       d : Draft
       d = record { planner = p; records = [] }
 
-      go : (q : Request) → Inv (contextOf s) p → length (stepsOf (contextOf s) q d .records) ≤ 17
+      go : (q : Request) → Inv (contextOf s) p → length (stepsOf (contextOf s) q d .records) ≤ 18
       go (Read at) k =
           let z : Draft = reached (contextOf s) (at .bank) (at .row) d in
-          let test : List Write → Bool = anyWrite (hits (at .bank) (at .column)) in
+          let test : List Write → Bool = delays (contextOf s) at in
           let y : Draft = flushedWhile (contextOf s) test z in
           let r : Record = colPacket (Rd (at .bank) (at .column) 0xFFFF) in
           omega (
@@ -262,22 +263,22 @@ module _ (s : Settings) where
       go (Wait cycles) k = omega arith
       go Drain k = omega (arith, records-cost (plannedDrain (contextOf s) d), drained-cost d (k .size) (k .banked), start-cost p)
 
--- ---- a drain that makes 17: a write waits, and sixteen banks are open
+-- ---- a drain that makes 18: two writes wait, and sixteen banks are open
 
 place : ℕ → Place
 place bank = record { bank = bank; row = 0; column = 0 }
 
 -- reads of every other bank from 0 on, and a write to the last
 sixteen : List Request
-sixteen = reads 15 (WriteTo (place 30) 0xFFFF (record { dqa = 0; dqb = 0 }) ∷ [])
+sixteen = reads 15 (WriteTo (place 30) 0xFFFF (record { dqa = 0; dqb = 0 }) ∷ WriteTo (place 30) 0xFFFF (record { dqa = 0; dqb = 0 }) ∷ [])
   where
     reads : ℕ → List Request → List Request
     reads zero l = l
     reads (suc n) l = reads n (Read (place (2 * n)) ∷ l)
 
 pub calls : List Call
-calls = map (λ (q : Request). record { request = requestBytes q; room = 544 }) sixteen
+calls = map (λ (q : Request). record { request = requestBytes q; room = 576 }) sixteen
 
-pub most-reached : length (planRecords (contextOf setH) (plannerAfter (contextOf setH) freshPlanner calls) (requestBytes Drain) 544) ≡ 17
+pub most-reached : length (planRecords (contextOf setH) (plannerAfter (contextOf setH) freshPlanner calls) (requestBytes Drain) 576) ≡ 18
 unfolding setOf setH place sixteen calls bytes number allUpTo usesByte spareRight placed requestOf requestRead requestFields requestBytes split contextOf rowTraits colTraits traits instant isPacket bankBy isClosed isOpen bankCount dataDelay leaving loads fresh waitingOf bufferOf bankNext trackNext afterPacket trackRetired afterRetire afterData after maxUpTo bounds distances retireTraits placedAt under earliest leastFrom freshPlanner slot sent flushed flushedWhile closed closedUpTo reached plannedRead loaded written plannedWrite turned plannedRefresh plannedWait plannedDrain stepsOf planned inTime timely outcomeOf outcomeBy planOutcome isMade draftBy planNext planRecords plannerAfter
 most-reached = refl

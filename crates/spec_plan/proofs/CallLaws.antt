@@ -74,7 +74,7 @@ module _ (cx : Context) where
           record {
             channel = refl;
             each = tt;
-            inv = record { size = v .size; banked = v .banked; held = v .held; refresh-in = v .refresh-in; mask-in = v .mask-in; low = omega (arith, v .low) };
+            inv = record { size = v .size; banked = v .banked; held = v .held; refresh-in = v .refresh-in; mask-in = v .mask-in; second-in = v .second-in; low = omega (arith, v .low) };
           }
       go Drain i = made-good p _ (good-drain cx ns p d k)
 

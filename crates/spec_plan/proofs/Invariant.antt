@@ -4,7 +4,7 @@
 use Prim.Native.Nat.{ℕ, _≤_, _<_, _^_}
 use mathlib.Core.Path.{_≡_, refl, sym, _∙_}
 use mathlib.Core.Bool.{Bool, true, false, not, _&&_, _||_, cond, or-true}
-use mathlib.Core.List.{List, [], _∷_, _++_}
+use mathlib.Core.List.{List, [], _∷_}
 use mathlib.Core.Option.{Option, none, some}
 use lib.Dec.{eqb, leb, ltb}
 use lib.ListN.{length}
@@ -20,7 +20,7 @@ use Rattle.spec_rules.specs.declared.Write.{Write}
 use Rattle.spec_rules.specs.declared.Channel.{Channel}
 use Rattle.spec_rules.specs.Neighbour.{bankCount, Context, Neighbours, near}
 use Rattle.spec_rules.specs.Packets.{traits, isPacket}
-use Rattle.spec_rules.specs.History.{isClosed, isOpen, first, onlyWrite, leaving, left, bankOf, anyWrite, allWrites, reaches}
+use Rattle.spec_rules.specs.History.{isClosed, isOpen, first, left, queued, bankOf, anyWrite, allWrites, reaches}
 use Rattle.spec_rules.specs.Rules.{freeFor, openFor}
 use Rattle.spec_rules.specs.Channel.{trackOf, stateOf, waitingOf, dueOf}
 use Rattle.spec_rules.specs.Earliest.{fits}
@@ -28,7 +28,7 @@ use Rattle.spec_rules.proofs.Bools.{not-both, and-left, and-right, neither}
 use Rattle.spec_state.specs.Valid.{bankValid, trackValid, writeValid, lastsValid, apart, channelValid}
 use Rattle.spec_plan.specs.declared.PlannerState.{PlannerState}
 use Rattle.spec_plan.specs.Planner.{notRefresh, plannerValid}
-use Rattle.spec_plan.specs.Plan.{carried}
+use Rattle.spec_plan.specs.Plan.{carried, shifted}
 
 -- open rows are in range, no bank is under refresh, and of two neighbours one is closed
 pub record Banked (cx : Context) (state : ℕ → Bank) : Type 0 where
@@ -57,6 +57,7 @@ pub record Inv (cx : Context) (p : PlannerState) : Type 0 where
   pub held : Held cx (p .channel)
   pub refresh-in : p .refresh < bankCount
   pub mask-in : p .mask < 2 ^ 16
+  pub second-in : p .second < 2 ^ 16
   pub low : 4 ≤ p .now .0
 
 -- ---- a state that is not refused keeps it
@@ -75,6 +76,7 @@ pub record Tested (cx : Context) (p : PlannerState) : Type 0 where
   pub now-in : isInstant (p .now .0) ≡ true
   pub refresh-in : ltb (p .refresh) bankCount ≡ true
   pub mask-in : ltb (p .mask) 0x10000 ≡ true
+  pub second-in : ltb (p .second) 0x10000 ≡ true
 
 pub valid-tested : (cx : Context) (p : PlannerState) → plannerValid cx p ≡ true → Tested cx p
 unfolding plannerValid channelValid
@@ -104,13 +106,14 @@ valid-tested cx p e =
       no-due = and-left (not (ch .due)) _ g;
       now-in = and-left (isInstant (p .now .0)) _ h;
       refresh-in = and-left (ltb (p .refresh) bankCount) _ i;
-      mask-in = j;
+      mask-in = and-left (ltb (p .mask) 0x10000) _ j;
+      second-in = and-right (ltb (p .mask) 0x10000) _ j;
     }
 
 pub tested-valid : (cx : Context) (p : PlannerState) → Tested cx p → plannerValid cx p ≡ true
 unfolding plannerValid channelValid
 tested-valid cx p t =
-    rw (t .size, t .tracks, t .lasts, t .write, t .one-closed, t .opened, not-true (p .channel .due) (t .no-due), t .no-refresh, t .now-in, t .refresh-in, t .mask-in)
+    rw (t .size, t .tracks, t .lasts, t .write, t .one-closed, t .opened, not-true (p .channel .due) (t .no-due), t .no-refresh, t .now-in, t .refresh-in, t .mask-in, t .second-in)
 
 or-else : (a b : Bool) → not a || b ≡ true → a ≡ true → b ≡ true
 or-else a b h e = rw e at h
@@ -142,6 +145,7 @@ valid-inv cx p e =
       held = record { write-in = in-write cx (waitingOf (p .channel .buffer)) (t .write); opened = t .opened; no-due = not-true (p .channel .due) (t .no-due) };
       refresh-in = ltb-true _ _ (t .refresh-in);
       mask-in = ltb-true _ _ (t .mask-in);
+      second-in = ltb-true _ _ (t .second-in);
       low = leb-true _ _ (and-left (leb 4 (p .now .0)) _ (t .now-in));
     }
 
@@ -245,22 +249,17 @@ left-open state none ws h = h
 left-open state (some w) [] h = refl
 left-open state (some w) (x ∷ ws) h = and-right (isOpen (state (x .bank))) _ h
 
-pub joined-in : (cx : Context) (w : Write) (ws : List Write) → (w .bank < bankCount) × (w .column < cx .settings .columns) → WritesIn cx ws → WritesIn cx (ws ++ (w ∷ []))
-joined-in cx w [] i k = (i, tt)
-joined-in cx w (x ∷ ws) i k = (k .0, joined-in cx w ws i (k .1))
+pub queued-in : (cx : Context) (w : Write) (ws : List Write) → (w .bank < bankCount) × (w .column < cx .settings .columns) → WritesIn cx ws → WritesIn cx (queued ws w)
+queued-in cx w [] i k = (i, tt)
+queued-in cx w (x ∷ ws) i k = (k .0, (i, tt))
 
-pub joined-open : (state : ℕ → Bank) (w : Write) (ws : List Write) → isOpen (state (w .bank)) ≡ true → allOpen state ws ≡ true → allOpen state (ws ++ (w ∷ [])) ≡ true
-joined-open state w [] i h = rw i
-joined-open state w (x ∷ ws) i h = rw (and-left (isOpen (state (x .bank))) _ h) (joined-open state w ws i (and-right (isOpen (state (x .bank))) _ h))
+pub queued-open : (state : ℕ → Bank) (w : Write) (ws : List Write) → isOpen (state (w .bank)) ≡ true → allOpen state ws ≡ true → allOpen state (queued ws w) ≡ true
+queued-open state w [] i h = rw i
+queued-open state w (x ∷ ws) i h = rw (and-left (isOpen (state (x .bank))) _ h, i)
 
-pub leaving-open : (cx : Context) (state : ℕ → Bank) (ws : List Write) (r : Record) → allOpen state ws ≡ true → openFor state (bankOf (leaving cx ws r)) ≡ true
-unfolding leaving
-leaving-open cx state ws r h = go (traits r .notRead) ws h
-  where
-    go : (b : Bool) (ws : List Write) → allOpen state ws ≡ true → openFor state (bankOf (onlyWrite b (first ws))) ≡ true
-    go true [] h = refl
-    go true (w ∷ ws) h = and-left (isOpen (state (w .bank))) _ h
-    go false ws h = refl
+pub first-open : (state : ℕ → Bank) (ws : List Write) → allOpen state ws ≡ true → openFor state (bankOf (first ws)) ≡ true
+first-open state [] h = refl
+first-open state (w ∷ ws) h = and-left (isOpen (state (w .bank))) _ h
 
 -- ---- the tests on the state
 
@@ -292,3 +291,7 @@ free-near cx state b c = all-intro (λ x. not (near cx b x) || isClosed (state x
 pub carried-in : (o : Option Write) (mask : ℕ) → mask < 2 ^ 16 → carried o mask < 2 ^ 16
 carried-in none mask m = omega arith
 carried-in (some w) mask m = m
+
+pub shifted-in : (o : Option Write) (mask second : ℕ) → mask < 2 ^ 16 → second < 2 ^ 16 → shifted o mask second < 2 ^ 16
+shifted-in none mask second m n = m
+shifted-in (some w) mask second m n = n

@@ -3,7 +3,7 @@
 use Prim.Native.Nat.{ℕ, zero, suc, _+_, _≤_, _<_, _^_, max}
 use mathlib.Core.Path.{_≡_, refl, ap, _∙_}
 use mathlib.Core.Bool.{Bool, true, false, not, _&&_, _||_, cond, or-true}
-use mathlib.Core.List.{List, [], _∷_, _++_}
+use mathlib.Core.List.{List, [], _∷_}
 use mathlib.Core.Option.{Option, none, some}
 use lib.Dec.{eqb, ltb}
 use borrow.Author.Tests.{lt-ltb, eqb-true, eq-eqb, not-false}
@@ -25,16 +25,16 @@ use Rattle.spec_rules.specs.declared.Write.{Write}
 use Rattle.spec_rules.specs.declared.Channel.{Channel}
 use Rattle.spec_rules.specs.Neighbour.{bankCount, Context, Neighbours, near}
 use Rattle.spec_rules.specs.Packets.{traits, rowTraits, colTraits, isPacket}
-use Rattle.spec_rules.specs.History.{bankBy, isClosed, isOpen, rest, left, loads, bankOf, anyWrite}
-use Rattle.spec_rules.specs.Rules.{openFor}
-use Rattle.spec_rules.specs.Channel.{newestDue, dueOf, bankNext, afterData, after, leavingOf}
+use Rattle.spec_rules.specs.History.{bankBy, isClosed, isOpen, first, rest, left, queued, loads, bankOf, anyWrite, two}
+use Rattle.spec_rules.specs.Rules.{openFor, stays}
+use Rattle.spec_rules.specs.Channel.{newestDue, dueOf, bankNext, afterData, after}
 use Rattle.spec_rules.specs.Earliest.{placedAt, under, fits, earliest, soonest, leastFrom}
 use Rattle.spec_rules.proofs.Bools.{not-both, and-right, neither}
-use Rattle.spec_rules.proofs.EarliestLaws.{picked-late}
+use Rattle.spec_rules.proofs.EarliestLaws.{able, picked-late}
 use Rattle.spec_plan.specs.declared.PlannerState.{PlannerState}
-use Rattle.spec_plan.specs.Plan.{Draft, rowPacket, colPacket, when, waiting, stateIn, openOn, hits, anyWaits, slot, leaver, sent, flushed, flushedWhile, closed, loses, closedUpTo, cleared, reached, plannedRead, loaded, written, plannedWrite, turned, plannedRefresh, plannedDrain}
-use Rattle.spec_plan.proofs.SentLaws.{when-either, sent-now, sent-refresh, sent-size, sent-state, sent-due, sent-waiting, row-waiting, read-waiting, flushed-waiting, while-keeps, while-ends, while-state, saved, saved-far, up-to-picked}
-use Rattle.spec_plan.proofs.Invariant.{Banked, WritesIn, allOpen, inBanks, none-picked, Held, Inv, NearClosed, Changed, banked-shut, banked-open, held-far, far-other, held-stays, left-in, left-open, joined-in, joined-open, leaving-open, fits-by, free-near}
+use Rattle.spec_plan.specs.Plan.{Draft, rowPacket, colPacket, when, waiting, stateIn, openOn, hits, anyWaits, slot, leaver, sent, flushed, flushedWhile, loses, closed, closedUpTo, cleared, delays, reached, plannedRead, loaded, written, plannedWrite, turned, plannedRefresh, plannedDrain}
+use Rattle.spec_plan.proofs.SentLaws.{when-either, sent-now, sent-mask, sent-second, sent-refresh, sent-size, sent-state, sent-due, sent-waiting, row-waiting, read-waiting, flushed-waiting, while-keeps, while-ends, while-state, saved, saved-far, up-to-picked}
+use Rattle.spec_plan.proofs.Invariant.{Banked, WritesIn, allOpen, inBanks, none-picked, Held, Inv, NearClosed, Changed, banked-shut, banked-open, held-far, far-other, held-stays, left-in, left-open, queued-in, queued-open, first-open, fits-by, free-near, shifted-in}
 use Rattle.spec_plan.proofs.Trace.{Trace, trace-sent, trace-loaded}
 
 -- planner p has come this far in a call
@@ -44,12 +44,31 @@ pub record Good (cx : Context) (p : PlannerState) (d : Draft) : Type 0 where
 
 -- ---- one packet
 
+-- a ROW packet may leave the waiting writes, and RD where fewer than two wait
+row-able : (cx : Context) (ch : Channel) (ws : List Write) (p : RowPacket) → able cx ch ws (rowPacket p) ≡ true
+unfolding traits rowTraits
+row-able cx ch [] p = refl
+row-able cx ch (x ∷ []) (Act b row) = refl
+row-able cx ch (x ∷ []) (Prer b) = refl
+row-able cx ch (x ∷ []) (Refa b) = refl
+row-able cx ch (x ∷ []) (Refp b) = refl
+row-able cx ch (x ∷ y ∷ ws) (Act b row) = refl
+row-able cx ch (x ∷ y ∷ ws) (Prer b) = refl
+row-able cx ch (x ∷ y ∷ ws) (Refa b) = refl
+row-able cx ch (x ∷ y ∷ ws) (Refp b) = refl
+
+read-able : (cx : Context) (ch : Channel) (ws : List Write) (b c m : ℕ) → two ws ≡ false → able cx ch ws (colPacket (Rd b c m)) ≡ true
+unfolding traits colTraits
+read-able cx ch [] b c m e = refl
+read-able cx ch (x ∷ []) b c m e = refl
+read-able cx ch (x ∷ y ∷ ws) b c m e = not-both true refl e
+
 module _ (cx : Context) where
   sent-late : (r : Record) (d : Draft) → d .planner .now .0 ≤ slot cx (d .planner) r
   unfolding slot leastFrom
   sent-late r d =
       let t0 : ℕ = soonest cx (d .planner .channel) r (d .planner .now .0) in
-      omega (arith, picked-late cx (d .planner .channel) r t0 (leavingOf cx (d .planner .channel) r))
+      omega (arith, picked-late cx (d .planner .channel) r t0 (waiting d))
 
   module _ (d : Draft) (v : Inv cx (d .planner)) (r : Record) (e : traits r .writes ≡ none) where
     -- a packet that leaves the writes, in banks that it does not change
@@ -71,7 +90,8 @@ module _ (cx : Context) where
           banked = b;
           held = h;
           refresh-in = v .refresh-in;
-          mask-in = v .mask-in;
+          mask-in = shifted-in (leaver cx (d .planner) r) (d .planner .mask) (d .planner .second) (v .mask-in) (v .second-in);
+          second-in = v .second-in;
           low = omega (arith, sent-late r d, v .low);
         }
 
@@ -86,16 +106,16 @@ module _ (cx : Context) (ns : Neighbours cx) (p : PlannerState) where
   -- ---- each packet of the planner
 
   module _ (d : Draft) (k : G d) where
-    abbrev leaves-open : (r : Record) → openFor (stateIn d) (bankOf (leavingOf cx (d .planner .channel) r)) ≡ true
-    leaves-open r = leaving-open cx (stateIn d) (waiting d) r (k .inv .held .opened)
+    abbrev held-first : openFor (stateIn d) (bankOf (first (waiting d))) ≡ true
+    held-first = first-open (stateIn d) (waiting d) (k .inv .held .opened)
 
     -- a packet that leaves the writes, in banks that it does not change
-    good-kept : (r : Record) → isPacket r ≡ true → recordFits (cx .settings) r ≡ true → fits cx (d .planner .channel) r ≡ true → traits r .writes ≡ none
+    good-kept : (r : Record) → isPacket r ≡ true → recordFits (cx .settings) r ≡ true → fits cx (d .planner .channel) r ≡ true → able cx (d .planner .channel) (waiting d) r ≡ true → traits r .writes ≡ none
         → waiting (sent cx r d) ≡ waiting d → (q : ℕ → Bool) (new : Bank) → inBanks q (waiting d) ≡ false
         → Changed q new (stateIn d) (stateIn (sent cx r d)) → Banked cx (stateIn (sent cx r d)) → G (sent cx r d)
-    good-kept r packet word fitting e same q new far c b =
+    good-kept r packet word fitting a e same q new far c b =
         record {
-          trace = trace-sent cx p d (k .trace) r packet word (k .inv .mask-in) fitting (leaves-open r);
+          trace = trace-sent cx p d (k .trace) r packet word (k .inv .mask-in) fitting a held-first;
           inv = inv-sent cx d (k .inv) r e b (held-sent cx d (k .inv) r e same q new far c);
         }
 
@@ -104,7 +124,7 @@ module _ (cx : Context) (ns : Neighbours cx) (p : PlannerState) where
     good-prer x m far =
         let r : Record = rowPacket (Prer x) in
         let c : Changed (near cx x) Closed (stateIn d) (stateIn (sent cx r d)) = sent-state cx r d (k .inv .size) in
-        good-kept r refl (bank-word x m) (fits-by cx (d .planner .channel) (k .inv .held) r refl refl refl refl far) refl
+        good-kept r refl (bank-word x m) (fits-by cx (d .planner .channel) (k .inv .held) r refl refl refl refl far) (row-able cx (d .planner .channel) (waiting d) (Prer x)) refl
         (row-waiting cx (Prer x) d) (near cx x) Closed far c (banked-shut cx (stateIn d) (stateIn (sent cx r d)) (k .inv .banked) (near cx x) c)
 
     -- a write does not wait near banks that are closed
@@ -120,17 +140,17 @@ module _ (cx : Context) (ns : Neighbours cx) (p : PlannerState) where
         let r : Record = rowPacket (Act b row) in
         let c : Changed (λ x. eqb x b) (Open row) (stateIn d) (stateIn (sent cx r d)) = sent-state cx r d (k .inv .size) in
         good-kept r refl (rw (bank-word b m) (lt-ltb row (cx .settings .rows) l))
-        (fits-by cx (d .planner .channel) (k .inv .held) r refl (free-near cx (stateIn d) b n) refl refl (none-picked (waiting d))) refl
+        (fits-by cx (d .planner .channel) (k .inv .held) r refl (free-near cx (stateIn d) b n) refl refl (none-picked (waiting d))) (row-able cx (d .planner .channel) (waiting d) (Act b row)) refl
         (row-waiting cx (Act b row) d) (λ x. eqb x b) (Open row) (other-than b n) c
         (banked-open cx (stateIn d) (stateIn (sent cx r d)) (k .inv .banked) ns b row l n c)
 
-    pub good-rd : (b c row : ℕ) → b < bankCount → c < cx .settings .columns → stateIn d b ≡ Open row → G (sent cx (colPacket (Rd b c 0xFFFF)) d)
+    pub good-rd : (b c row : ℕ) → b < bankCount → c < cx .settings .columns → stateIn d b ≡ Open row → two (waiting d) ≡ false → G (sent cx (colPacket (Rd b c 0xFFFF)) d)
     unfolding traits colTraits isPacket recordFits colFits bankNext isOpen
-    good-rd b c row m l o =
+    good-rd b c row m l o few =
         let r : Record = colPacket (Rd b c 0xFFFF) in
         let same : Changed (λ x. false) Closed (stateIn d) (stateIn (sent cx r d)) = sent-state cx r d (k .inv .size) in
         good-kept r refl (rw (bank-word b m, lt-ltb c (cx .settings .columns) l))
-        (fits-by cx (d .planner .channel) (k .inv .held) r refl refl (rw o) refl (none-picked (waiting d))) refl
+        (fits-by cx (d .planner .channel) (k .inv .held) r refl refl (rw o) refl (none-picked (waiting d))) (read-able cx (d .planner .channel) (waiting d) b c 0xFFFF few) refl
         (read-waiting cx b c 0xFFFF d) (λ x. false) Closed (none-picked (waiting d)) same
         (banked-shut cx (stateIn d) (stateIn (sent cx r d)) (k .inv .banked) (λ x. false) same)
 
@@ -144,7 +164,7 @@ module _ (cx : Context) (ns : Neighbours cx) (p : PlannerState) where
         let still : allOpen (stateIn (sent cx r d)) (waiting d) ≡ true = held-stays cx (stateIn d) (stateIn (sent cx r d)) (λ x. false) Closed (waiting d) (k .inv .held .write-in) (none-picked (waiting d)) same (k .inv .held .opened) in
         record {
           trace = trace-sent cx p d (k .trace) r refl refl (k .inv .mask-in)
-              (fits-by cx ch (k .inv .held) r refl refl refl refl (none-picked (waiting d))) (leaves-open r);
+              (fits-by cx ch (k .inv .held) r refl refl refl refl (none-picked (waiting d))) (or-true (stays (waiting d) (traits r))) held-first;
           inv = inv-sent cx d (k .inv) r refl
               (banked-shut cx (stateIn d) (stateIn (sent cx r d)) (k .inv .banked) (λ x. false) same)
               (record {
@@ -184,10 +204,11 @@ module _ (cx : Context) (ns : Neighbours cx) (p : PlannerState) where
         let c : Changed (λ x. eqb x b) Refresh (stateIn d) (stateIn z) = sent-state cx r d (v .size) in
         let h : Held cx (z .planner .channel) = held-sent cx d v r refl (row-waiting cx (Refa b) d) (λ x. eqb x b) Refresh (other-than b n) c in
         let f : inBanks (near cx b) (waiting z) ≡ false = rw (row-waiting cx (Refa b) d) (far-from b n) in
-        let t : Trace cx p z = trace-sent cx p d (k .trace) r refl (bank-word b m) (v .mask-in) (fits-by cx (d .planner .channel) (v .held) r refl (free-near cx (stateIn d) b n) refl refl (none-picked (waiting d))) (leaves-open r) in
+        let t : Trace cx p z = trace-sent cx p d (k .trace) r refl (bank-word b m) (v .mask-in) (fits-by cx (d .planner .channel) (v .held) r refl (free-near cx (stateIn d) b n) refl refl (none-picked (waiting d))) (row-able cx (d .planner .channel) (waiting d) (Refa b)) held-first in
+        let mz = shifted-in (leaver cx (d .planner) r) (d .planner .mask) (d .planner .second) (v .mask-in) (v .second-in) in
         let same : waiting (sent cx q z) ≡ waiting d = row-waiting cx (Refp b) z ∙ row-waiting cx (Refa b) d in
         record {
-          trace = trace-sent cx p z t q refl (bank-word b m) (v .mask-in) (fits-by cx (z .planner .channel) h q refl refl refl refl f) (leaving-open cx (stateIn z) (waiting z) q (h .opened));
+          trace = trace-sent cx p z t q refl (bank-word b m) mz (fits-by cx (z .planner .channel) h q refl refl refl refl f) (row-able cx (z .planner .channel) (waiting z) (Refp b)) (first-open (stateIn z) (waiting z) (h .opened));
           inv = record {
             size = sent-size cx q z ∙ sent-size cx r d ∙ v .size;
             banked = banked-shut cx (stateIn d) (stateIn (sent cx q z)) (v .banked) (near cx b) (refreshed-state b);
@@ -197,7 +218,8 @@ module _ (cx : Context) (ns : Neighbours cx) (p : PlannerState) where
               no-due = sent-due cx q z;
             };
             refresh-in = v .refresh-in;
-            mask-in = v .mask-in;
+            mask-in = shifted-in (leaver cx (z .planner) q) (z .planner .mask) (z .planner .second) mz (v .second-in);
+            second-in = v .second-in;
             low = omega (arith, sent-late cx r d, sent-late cx q z, v .low);
           };
         }
@@ -206,7 +228,7 @@ module _ (cx : Context) (ns : Neighbours cx) (p : PlannerState) where
     pub written-waiting : (at : Place) →
         let r : Record = colPacket (Wr (at .bank) (at .column) 0xFFFF) in
         waiting (sent cx r d)
-        ≡ left (leaver cx (d .planner) r) (waiting d) ++ (record { bank = at .bank; column = at .column; at = record { 0 = slot cx (d .planner) r } } ∷ [])
+        ≡ queued (left (leaver cx (d .planner) r) (waiting d)) (record { bank = at .bank; column = at .column; at = record { 0 = slot cx (d .planner) r } })
     unfolding loads placedAt under
     written-waiting at = sent-waiting cx (colPacket (Wr (at .bank) (at .column) 0xFFFF)) d
 
@@ -218,13 +240,10 @@ module _ (cx : Context) (ns : Neighbours cx) (p : PlannerState) where
         let r : Record = colPacket (Wr (at .bank) (at .column) 0xFFFF) in
         rw (sent-due cx r d, written-waiting at) (go (left (leaver cx (d .planner) r) (waiting d)))
       where
-        new : Write
-        new = record { bank = at .bank; column = at .column; at = record { 0 = slot cx (d .planner) (colPacket (Wr (at .bank) (at .column) 0xFFFF)) } }
-
-        go : (ws : List Write) → newestDue cx (ws ++ (new ∷ [])) ≡ some (new .at .0 + cx .settings .cwd)
+        go : (ws : List Write) → newestDue cx (queued ws (record { bank = at .bank; column = at .column; at = record { 0 = slot cx (d .planner) (colPacket (Wr (at .bank) (at .column) 0xFFFF)) } }))
+            ≡ some (slot cx (d .planner) (colPacket (Wr (at .bank) (at .column) 0xFFFF)) + cx .settings .cwd)
         go [] = refl
-        go (x ∷ []) = refl
-        go (x ∷ y ∷ ws) = go (y ∷ ws)
+        go (x ∷ ws) = refl
 
     -- WR and its D
     pub good-written : (at : Place) (row mask : ℕ) (bytes : Dualoct) → at .bank < bankCount → at .column < cx .settings .columns → mask < 2 ^ 16 → stateIn d (at .bank) ≡ Open row
@@ -240,9 +259,9 @@ module _ (cx : Context) (ns : Neighbours cx) (p : PlannerState) where
         let went : Option Write = leaver cx (d .planner) r in
         let same : Changed (λ x. false) Closed (stateIn d) (stateIn z) = sent-state cx r d (v .size) in
         let tr : Trace cx p z = trace-sent cx p d (k .trace) r refl (rw (bank-word (at .bank) m, lt-ltb _ _ l)) (v .mask-in)
-        (fits-by cx ch (v .held) r refl refl refl (rw o) (none-picked (waiting d))) (leaves-open r) in
+        (fits-by cx ch (v .held) r refl refl refl (rw o) (none-picked (waiting d))) (or-true (stays (waiting d) (traits r))) held-first in
         let late : 4 ≤ t = omega (arith, sent-late cx r d, v .low) in
-        let ws : waiting z ≡ left went (waiting d) ++ (new ∷ []) = written-waiting at in
+        let ws : waiting z ≡ queued (left went (waiting d)) new = written-waiting at in
         let here : isOpen (stateIn z (at .bank)) ≡ true = rw (same (at .bank) m, o) in
         let still : allOpen (stateIn z) (waiting d) ≡ true = held-stays cx (stateIn d) (stateIn z) (λ x. false) Closed (waiting d) (v .held .write-in) (none-picked (waiting d)) same (v .held .opened) in
         record {
@@ -251,15 +270,20 @@ module _ (cx : Context) (ns : Neighbours cx) (p : PlannerState) where
             size = sent-size cx r d ∙ v .size;
             banked = banked-shut cx (stateIn d) (stateIn z) (v .banked) (λ x. false) same;
             held = record {
-              write-in = rw ws (joined-in cx new (left went (waiting d)) (m, l) (left-in cx went (waiting d) (v .held .write-in)));
-              opened = rw ws (joined-open (stateIn z) new (left went (waiting d)) here (left-open (stateIn z) went (waiting d) still));
+              write-in = rw ws (queued-in cx new (left went (waiting d)) (m, l) (left-in cx went (waiting d) (v .held .write-in)));
+              opened = rw ws (queued-open (stateIn z) new (left went (waiting d)) here (left-open (stateIn z) went (waiting d) still));
               no-due = refl;
             };
             refresh-in = rw (sent-refresh cx r d) (v .refresh-in);
-            mask-in = w;
+            mask-in = either (two (waiting z)) _ _ (rw (sent-mask cx r d) (shifted-in went (d .planner .mask) (d .planner .second) (v .mask-in) (v .second-in))) w;
+            second-in = either (two (waiting z)) _ _ w (rw (sent-second cx r d) (v .second-in));
             low = rw (sent-now cx r d) late;
           };
         }
+      where
+        either : (b : Bool) (x y : ℕ) → x < 2 ^ 16 → y < 2 ^ 16 → cond b x y < 2 ^ 16
+        either true x y i j = i
+        either false x y i j = j
 
   -- ---- banks closed, a row reached
 
@@ -305,9 +329,10 @@ module _ (cx : Context) (ns : Neighbours cx) (p : PlannerState) where
   good-read d k at i =
       let a = good-reached d k (at .bank) (at .row) (i .0) (i .1) in
       let z : Draft = reached cx (at .bank) (at .row) d in
-      let test : List Write → Bool = anyWrite (hits (at .bank) (at .column)) in
+      let test : List Write → Bool = delays cx at in
       let y : Draft = flushedWhile cx test z in
       good-rd y (good-while z (a .0) test refl) (at .bank) (at .column) (at .row) (i .0) (i .2) (while-state cx test refl z (a .0 .inv .size) (at .bank) (i .0) ∙ a .1)
+      (neither (two (waiting y)) _ (while-ends cx test refl z) .0)
 
   pub good-write : (d : Draft) → G d → (at : Place) (mask : ℕ) (bytes : Dualoct) → InPlace (cx .settings) at → mask < 2 ^ 16 → G (plannedWrite cx at mask bytes d)
   unfolding plannedWrite bankCount
@@ -326,6 +351,7 @@ module _ (cx : Context) (ns : Neighbours cx) (p : PlannerState) where
           held = k .inv .held;
           refresh-in = mod-lt (d .planner .refresh + 1) (omega (arith, k .inv .refresh-in));
           mask-in = k .inv .mask-in;
+          second-in = k .inv .second-in;
           low = k .inv .low;
         };
       }

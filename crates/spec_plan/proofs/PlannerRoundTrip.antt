@@ -37,7 +37,9 @@ planner-bytes p =
     Bytes-append (channelBytes (p .channel)) _ (channel-bytes (p .channel))
     (Bytes-append (instantBytes (p .now)) _ (Bytes-bytes 4 (p .now .0 - 3))
     (Bytes-append (bytes 2 (p .refresh)) _ (Bytes-bytes 2 (p .refresh))
-    (Bytes-append (zeros 2) (bytes 2 (p .mask) ++ zeros 6) (Bytes-zeros 2) (Bytes-append (bytes 2 (p .mask)) (zeros 6) (Bytes-bytes 2 (p .mask)) (Bytes-zeros 6)))))
+    (Bytes-append (zeros 2) (bytes 2 (p .mask) ++ (bytes 2 (p .second) ++ zeros 4)) (Bytes-zeros 2)
+    (Bytes-append (bytes 2 (p .mask)) (bytes 2 (p .second) ++ zeros 4) (Bytes-bytes 2 (p .mask))
+    (Bytes-append (bytes 2 (p .second)) (zeros 4) (Bytes-bytes 2 (p .second)) (Bytes-zeros 4))))))
 
 -- ---- written, then read
 
@@ -48,7 +50,8 @@ record Parts (b : List ℕ) (p : PlannerState) : Type 0 where
   refresh : part b 756 2 ≡ bytes 2 (p .refresh)
   after-refresh : part b 758 2 ≡ zeros 2
   mask : part b 760 2 ≡ bytes 2 (p .mask)
-  after-mask : part b 762 6 ≡ zeros 6
+  second : part b 762 2 ≡ bytes 2 (p .second)
+  after-masks : part b 764 4 ≡ zeros 4
 
 parts : (p : PlannerState) → Parts (plannerBytes p) p
 unfolding plannerBytes
@@ -59,10 +62,12 @@ parts p =
     let p2 = part-split b 756 2 10 _ _ (length-bytes 2 (p .refresh)) (p1 .1) in
     let p3 = part-split b 758 2 8 _ _ (length-zeros 2) (p2 .1) in
     let p4 = part-split b 760 2 6 _ _ (length-bytes 2 (p .mask)) (p3 .1) in
-    record { channel = p0 .0; now = p1 .0; refresh = p2 .0; after-refresh = p3 .0; mask = p4 .0; after-mask = p4 .1 }
+    let p5 = part-split b 762 2 4 _ _ (length-bytes 2 (p .second)) (p4 .1) in
+    record { channel = p0 .0; now = p1 .0; refresh = p2 .0; after-refresh = p3 .0; mask = p4 .0; second = p5 .0; after-masks = p5 .1 }
 
 -- the state that the bytes say, where each number fits them
-module _ (cx : Context) (v : valid (cx .settings) ≡ true) (p : PlannerState) (k : Kept cx (p .channel)) (t : isInstant (p .now .0) ≡ true) (f : p .refresh < 2 ^ 16) (m : p .mask < 2 ^ 16) where
+module _ (cx : Context) (v : valid (cx .settings) ≡ true) (p : PlannerState) (k : Kept cx (p .channel)) (t : isInstant (p .now .0) ≡ true) (f : p .refresh < 2 ^ 16) (m : p .mask < 2 ^ 16)
+    (n : p .second < 2 ^ 16) where
   channel-said : (channelIn (plannerBytes p) ≡ p .channel) × (channelSpare (plannerBytes p) ≡ true)
   channel-said = channel-back cx (p .channel) (plannerBytes p) v k (rw planner-length (omega arith)) (parts p .channel)
 
@@ -77,6 +82,8 @@ module _ (cx : Context) (v : valid (cx .settings) ≡ true) (p : PlannerState) (
         number-bytes 2 (p .refresh) f,
         q .mask,
         number-bytes 2 (p .mask) m,
+        q .second,
+        number-bytes 2 (p .second) n,
       )
 
 module _ (cx : Context) (v : valid (cx .settings) ≡ true) (p : PlannerState) (k : plannerValid cx p ≡ true) where
@@ -94,15 +101,18 @@ module _ (cx : Context) (v : valid (cx .settings) ≡ true) (p : PlannerState) (
   mask-fits : p .mask < 2 ^ 16
   mask-fits = ltb-true (p .mask) 0x10000 (tested .mask-in)
 
+  second-fits : p .second < 2 ^ 16
+  second-fits = ltb-true (p .second) 0x10000 (tested .second-in)
+
   pub planner-decode-encode : plannerIn (plannerBytes p) ≡ p
-  planner-decode-encode = planner-back cx v p kept (tested .now-in) refresh-fits mask-fits
+  planner-decode-encode = planner-back cx v p kept (tested .now-in) refresh-fits mask-fits second-fits
 
   pub planner-right : plannerRight cx (plannerBytes p) ≡ true
   unfolding plannerRight plannerLength
   planner-right =
       let q : Parts (plannerBytes p) p = parts p in
-      let spare = channel-said cx v p kept (tested .now-in) refresh-fits mask-fits .1 in
-      rw (planner-length p, spare, zero-back (plannerBytes p) 758 2 (q .after-refresh), zero-back (plannerBytes p) 762 6 (q .after-mask), planner-decode-encode, k)
+      let spare = channel-said cx v p kept (tested .now-in) refresh-fits mask-fits second-fits .1 in
+      rw (planner-length p, spare, zero-back (plannerBytes p) 758 2 (q .after-refresh), zero-back (plannerBytes p) 764 4 (q .after-masks), planner-decode-encode, k)
 
 -- ---- read, then written
 
@@ -110,11 +120,12 @@ pub planner-encode-decode : (cx : Context) (b : List ℕ) → Bytes b → planne
 unfolding plannerBytes plannerIn plannerRight plannerLength
 planner-encode-decode cx b w r =
     let n : length b ≡ 768 = eqb-true _ _ (and-left (eqb (length b) 768) _ r) in
-    let spare = and-left (channelSpare b && (zeroPart b 758 2 && zeroPart b 762 6)) _ (and-right (eqb (length b) 768) _ r) in
+    let spare = and-left (channelSpare b && (zeroPart b 758 2 && zeroPart b 764 4)) _ (and-right (eqb (length b) 768) _ r) in
     let zero = and-right (channelSpare b) _ spare in
     part-both b 0 752 16 _ _ (channel-encode-decode b w (omega arith) (and-left (channelSpare b) _ spare))
     (part-both b 752 4 12 _ _ (instant-in b 752 w (omega arith))
     (part-both b 756 2 10 _ _ (bytes-part b 756 2 w (omega arith))
     (part-both b 758 2 8 _ _ (zero-in b 758 2 w (omega arith) (and-left (zeroPart b 758 2) _ zero))
-    (part-both b 760 2 6 _ _ (bytes-part b 760 2 w (omega arith)) (zero-in b 762 6 w (omega arith) (and-right (zeroPart b 758 2) _ zero))))))
+    (part-both b 760 2 6 _ _ (bytes-part b 760 2 w (omega arith))
+    (part-both b 762 2 4 _ _ (bytes-part b 762 2 w (omega arith)) (zero-in b 764 4 w (omega arith) (and-right (zeroPart b 758 2) _ zero)))))))
     ∙ part-all b 768 (omega arith)

@@ -23,8 +23,8 @@ use Rattle.spec_rules.specs.declared.Write.{Write}
 use Rattle.spec_rules.specs.declared.Channel.{Channel}
 use Rattle.spec_rules.specs.Neighbour.{Context}
 use Rattle.spec_rules.specs.Packets.{traits, rowTraits, colTraits, instant, isPacket}
-use Rattle.spec_rules.specs.History.{leaving, bankOf, anyWrite, closes}
-use Rattle.spec_rules.specs.Rules.{openFor}
+use Rattle.spec_rules.specs.History.{first, leaving, bankOf, anyWrite, closes}
+use Rattle.spec_rules.specs.Rules.{openFor, stays}
 use Rattle.spec_rules.specs.Broken.{earlier, recordIn}
 use Rattle.spec_rules.specs.Channel.{fresh, stateOf, waitingOf, dueOf, leavingOf, after}
 use Rattle.spec_rules.specs.Checks.{channelAfter}
@@ -33,7 +33,7 @@ use Rattle.spec_rules.specs.Checks.{bounds}
 use Rattle.spec_rules.specs.Earliest.{under, fits, earliest, leavesRight, slotFrom, soonest, leastFrom}
 use Rattle.spec_rules.proofs.Bools.{not-both}
 use Rattle.spec_rules.proofs.ListLaws.{earlier-next}
-use Rattle.spec_rules.proofs.EarliestLaws.{moved-instant, moved-packet, moved-earliest, moved-fits, moved-least, moved-leaving, moved-right, picked-right, picked-late}
+use Rattle.spec_rules.proofs.EarliestLaws.{moved-instant, moved-packet, moved-earliest, moved-fits, moved-least, moved-leaving, moved-right, leavesAt, able, picked-right, picked-late}
 use Rattle.spec_plan.specs.declared.PlannerState.{PlannerState}
 use Rattle.spec_plan.specs.Plan.{Draft, waiting, stateIn, carried, slot, leaver, placedIn, sent, loaded}
 use Rattle.spec_plan.proofs.Invariant.{carried-in}
@@ -118,20 +118,27 @@ module _ (cx : Context) where
 
   data-leaves : (ch : Channel) (t : DataAt) (bytes : Dualoct) (u : ℕ) → leavesRight cx ch (DataOf t bytes) (leavingOf cx ch (DataOf t bytes)) u ≡ true
   unfolding leaving traits
-  data-leaves ch t bytes u = refl
+  data-leaves ch t bytes u = go (waitingOf (ch .buffer))
+    where
+      go : (ws : List Write) → stays ws (traits (DataOf t bytes)) && true ≡ true
+      go [] = refl
+      go (x ∷ []) = refl
+      go (x ∷ y ∷ ws) = refl
 
   -- a packet in its place breaks none of rules 9, 10, 12 and 16
-  placed-leaves : (p : PlannerState) (r : Record) → openFor (stateOf (p .channel)) (bankOf (leavingOf cx (p .channel) r)) ≡ true
+  placed-leaves : (p : PlannerState) (r : Record) → able cx (p .channel) (waitingOf (p .channel .buffer)) r ≡ true
+      → openFor (stateOf (p .channel)) (bankOf (first (waitingOf (p .channel .buffer)))) ≡ true
       → leavesRight cx (p .channel) (placedIn cx p r) (leavingOf cx (p .channel) (placedIn cx p r)) (slot cx p r) ≡ true
   unfolding slot leastFrom under traits rowTraits colTraits
-  placed-leaves p r o =
+  placed-leaves p r a o =
       let ch : Channel = p .channel in
+      let ws : List Write = waitingOf (ch .buffer) in
       let t0 : ℕ = soonest cx ch r (p .now .0) in
-      let t : ℕ = slotFrom cx ch r t0 (leavingOf cx ch r) in
+      let t : ℕ = slotFrom cx ch r t0 ws in
       let m : ℕ = carried (leaver cx p r) (p .mask) in
-      let same : leavingOf cx ch r ≡ leaver cx p r = sym (moved-leaving cx ch t m r) ∙ here-leaving cx r (record { planner = p; records = [] }) in
-      rw (moved-leaving cx ch t m r) (moved-right cx ch t m r (leavingOf cx ch r)
-      ∙ picked-right cx ch r m t0 (leavingOf cx ch r) o (λ e. rw (sym same ∙ e) (under-plain r)))
+      let same : leavesAt cx ch t r ≡ leaver cx p r = sym (moved-leaving cx ch t m r) ∙ here-leaving cx r (record { planner = p; records = [] }) in
+      rw (moved-leaving cx ch t m r) (moved-right cx ch t m r (leavesAt cx ch t r)
+      ∙ picked-right cx ch r m t0 ws a o (λ e. rw (sym same ∙ e) (under-plain r)))
     where
       under-plain : (r : Record) → traits (under 0xFFFF r) .masked ≡ false
       under-plain (RowAt t (Act b row)) = refl
@@ -145,14 +152,14 @@ module _ (cx : Context) where
 
   slot-late : (p : PlannerState) (r : Record) → earliest cx (p .channel) r ≤ slot cx p r
   unfolding slot leastFrom
-  slot-late p r = omega (arith, picked-late cx (p .channel) r (soonest cx (p .channel) r (p .now .0)) (leavingOf cx (p .channel) r))
+  slot-late p r = omega (arith, picked-late cx (p .channel) r (soonest cx (p .channel) r (p .now .0)) (waitingOf (p .channel .buffer)))
 
   module _ (p : PlannerState) (d : Draft) (k : Trace cx p d) where
     -- one packet more
     pub trace-sent : (r : Record) → isPacket r ≡ true → recordFits (cx .settings) r ≡ true → d .planner .mask < 2 ^ 16 → fits cx (d .planner .channel) r ≡ true
-        → openFor (stateIn d) (bankOf (leavingOf cx (d .planner .channel) r)) ≡ true → Trace cx p (sent cx r d)
+        → able cx (d .planner .channel) (waiting d) r ≡ true → openFor (stateIn d) (bankOf (first (waiting d))) ≡ true → Trace cx p (sent cx r d)
     unfolding sent channelBy nowBy slot
-    trace-sent r e w mi f o =
+    trace-sent r e w mi f a o =
         let ch : Channel = d .planner .channel in
         let t : ℕ = slot cx (d .planner) r in
         let m : ℕ = carried (leaver cx (d .planner) r) (d .planner .mask) in
@@ -167,7 +174,7 @@ module _ (cx : Context) where
               word = moved-word cx t m r (carried-in (leaver cx (d .planner) r) (d .planner .mask) mi) w;
               fitting = rw (← k .channel) (moved-fits cx ch t m r e ∙ f);
               late = rw (← k .channel, moved-earliest cx ch t m r, moved-instant cx ch t m r) (slot-late (d .planner) r);
-              leaves = rw (← k .channel, moved-instant cx ch t m r) (placed-leaves (d .planner) r o);
+              leaves = rw (← k .channel, moved-instant cx ch t m r) (placed-leaves (d .planner) r a o);
               least = λ _. rw (← k .channel, moved-instant cx ch t m r, ← k .now) (sym (moved-least cx ch t m r (d .planner .now .0)));
             },
             k .each,

@@ -91,6 +91,7 @@ inv-valid cx p v k m =
       now-in = rw (le-leb 4 (p .now .0) (v .low), le-leb (p .now .0) horizon m);
       refresh-in = lt-ltb _ _ (v .refresh-in);
       mask-in = lt-ltb _ _ (v .mask-in);
+      second-in = lt-ltb _ _ (v .second-in);
     })
 
 -- ---- the two theorems
@@ -109,6 +110,7 @@ fresh-inv cx =
       held = record { write-in = tt; opened = refl; no-due = refl };
       refresh-in = lit< tt;
       mask-in = lit< tt;
+      second-in = lit< tt;
       low = lit≤ tt;
     }
 

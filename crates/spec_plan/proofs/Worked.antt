@@ -49,7 +49,7 @@ write bank row column mask d = Write (record { bank = bank; row = row; column = 
 -- each request with room for the most records that one makes
 calls : List Request → List Call
 calls [] = []
-calls (q ∷ l) = record { request = requestBytes q; room = 544 } ∷ calls l
+calls (q ∷ l) = record { request = requestBytes q; room = 576 } ∷ calls l
 
 row : ℕ → RowPacket → Record
 row t p = RowAt (record { 0 = t }) p
@@ -72,8 +72,14 @@ runs =
     ∷ (write 0 0 0 full ones ∷ read 0 1 0 ∷ [])
     ∷ (Refresh ∷ Refresh ∷ [])
     ∷ (write 0 0 0 0x0003 ones ∷ write 0 0 0 0x0006 twos ∷ [])
-    -- read 0, two writes to 4, drain; a write, then a row of another bank and a row of its own
+    -- read 0, two writes to 4, drain
     ∷ (read 0 0 0 ∷ write 4 0 0 0x0003 ones ∷ write 4 0 1 0x0006 twos ∷ Drain ∷ [])
+    -- two writes, a read of another bank; of the older's column; of the newer's column; a third and a fourth write
+    ∷ (write 0 0 0 0x0003 ones ∷ write 0 0 1 0x0006 twos ∷ read 5 0 0 ∷ [])
+    ∷ (write 0 0 0 0x0003 ones ∷ write 0 0 1 0x0006 twos ∷ read 0 0 0 ∷ [])
+    ∷ (write 0 0 0 0x0003 ones ∷ write 0 0 1 0x0006 twos ∷ read 0 0 1 ∷ [])
+    ∷ (write 0 0 0 0x0003 ones ∷ write 0 0 1 0x0006 twos ∷ write 0 0 2 full ones ∷ write 0 0 3 full twos ∷ [])
+    -- a write to another bank, which comes when the first is due; a read of another row there
     ∷ (write 0 0 0 0x0003 ones ∷ write 5 0 1 0x0006 twos ∷ read 5 1 0 ∷ [])
     ∷ []
 
@@ -85,9 +91,14 @@ lists =
     ∷ (row 4 (Act 14 0) ∷ col 13 (Rd 14 0 full) ∷ row 24 (Prer 14) ∷ row 32 (Act 15 0) ∷ col 41 (Rd 15 0 full) ∷ [])
     ∷ (row 4 (Act 0 0) ∷ col 5 (Wr 0 0 full) ∷ dat 11 ones ∷ col 13 (Nocop full) ∷ row 24 (Prer 0) ∷ row 32 (Act 0 1) ∷ col 41 (Rd 0 0 full) ∷ [])
     ∷ (row 4 (Refa 0) ∷ row 24 (Refp 0) ∷ row 32 (Refa 1) ∷ row 52 (Refp 1) ∷ [])
-    ∷ (row 4 (Act 0 0) ∷ col 5 (Wr 0 0 full) ∷ dat 11 ones ∷ col 13 (Wr 0 0 0x0003) ∷ dat 19 twos ∷ [])
-    ∷ (row 4 (Act 0 0) ∷ col 13 (Rd 0 0 full) ∷ row 13 (Act 4 0) ∷ col 19 (Wr 4 0 full) ∷ dat 25 ones ∷ col 27 (Wr 4 1 0x0003) ∷ dat 33 twos ∷ col 35 (Nocop 0x0006)
-    ∷ row 35 (Prer 0) ∷ row 43 (Prer 4) ∷ [])
+    -- "In the two-writes run the second WR moves to 9, with M = 0."
+    ∷ (row 4 (Act 0 0) ∷ col 5 (Wr 0 0 full) ∷ dat 11 ones ∷ col 9 (Wr 0 0 full) ∷ dat 15 twos ∷ [])
+    ∷ (row 4 (Act 0 0) ∷ col 13 (Rd 0 0 full) ∷ row 13 (Act 4 0) ∷ col 19 (Wr 4 0 full) ∷ dat 25 ones ∷ col 23 (Wr 4 1 full) ∷ dat 29 twos ∷ col 27 (Nocop 0x0003)
+    ∷ col 31 (Nocop 0x0006) ∷ row 31 (Prer 0) ∷ row 39 (Prer 4) ∷ [])
+    ∷ (row 4 (Act 0 0) ∷ col 5 (Wr 0 0 full) ∷ dat 11 ones ∷ col 9 (Wr 0 1 full) ∷ dat 15 twos ∷ row 12 (Act 5 0) ∷ col 13 (Nocop 0x0003) ∷ col 21 (Rd 5 0 full) ∷ [])
+    ∷ (row 4 (Act 0 0) ∷ col 5 (Wr 0 0 full) ∷ dat 11 ones ∷ col 9 (Wr 0 1 full) ∷ dat 15 twos ∷ col 13 (Nocop 0x0003) ∷ col 17 (Rd 0 0 full) ∷ [])
+    ∷ (row 4 (Act 0 0) ∷ col 5 (Wr 0 0 full) ∷ dat 11 ones ∷ col 9 (Wr 0 1 full) ∷ dat 15 twos ∷ col 13 (Nocop 0x0003) ∷ col 17 (Nocop 0x0006) ∷ col 21 (Rd 0 1 full) ∷ [])
+    ∷ (row 4 (Act 0 0) ∷ col 5 (Wr 0 0 full) ∷ dat 11 ones ∷ col 9 (Wr 0 1 full) ∷ dat 15 twos ∷ col 13 (Wr 0 2 0x0003) ∷ dat 19 ones ∷ col 17 (Wr 0 3 0x0006) ∷ dat 23 twos ∷ [])
     ∷ (row 4 (Act 0 0) ∷ col 5 (Wr 0 0 full) ∷ dat 11 ones ∷ row 12 (Act 5 0) ∷ col 13 (Wr 5 1 0x0003) ∷ dat 19 twos ∷ col 21 (Nocop 0x0006) ∷ row 32 (Prer 5) ∷ row 40 (Act 5 1)
     ∷ col 49 (Rd 5 0 full) ∷ [])
     ∷ []

@@ -1,7 +1,7 @@
 -- The plan of a request (document 01, "Planner"): the order of its commands, and each packet at the least instant.
 -- Assumes nothing.
 use Prim.Native.Nat.{ℕ, zero, suc, _+_, _%_}
-use mathlib.Core.Bool.{Bool, true, false, not, _&&_}
+use mathlib.Core.Bool.{Bool, true, false, not, _&&_, _||_, cond}
 use mathlib.Core.List.{List, [], _∷_, _++_}
 use mathlib.Core.Option.{Option, none, some}
 use lib.Dec.{eqb}
@@ -19,7 +19,7 @@ use Rattle.spec_rules.specs.declared.Bank.{Bank}
 use Rattle.spec_rules.specs.declared.Bank.the-variants.{Closed, Open, Refresh}
 use Rattle.spec_rules.specs.declared.Write.{Write}
 use Rattle.spec_rules.specs.Neighbour.{bankCount, Context, near}
-use Rattle.spec_rules.specs.History.{isClosed, anyWrite}
+use Rattle.spec_rules.specs.History.{isClosed, anyWrite, two}
 use Rattle.spec_rules.specs.Channel.{never, stateOf, waitingOf, leavingOf, after}
 use Rattle.spec_rules.specs.Earliest.{placedAt, under, leastFrom}
 use Rattle.spec_plan.specs.declared.PlannerState.{PlannerState}
@@ -53,6 +53,11 @@ abbrev pub carried : Option Write → ℕ → ℕ
 carried none mask = 0xFFFF
 carried (some w) mask = mask
 
+-- the mask of the older write after a packet that retires this one: the newer write moves up
+abbrev pub shifted : Option Write → ℕ → ℕ → ℕ
+shifted none mask second = mask
+shifted (some w) mask second = second
+
 abbrev pub openOn : Bank → ℕ → Bool
 openOn Closed row = false
 openOn (Open r) row = eqb r row
@@ -84,23 +89,29 @@ module _ (cx : Context) where
   sent r d =
       let p : PlannerState = d .planner in
       record {
-        planner = record { channel = after cx (p .channel) (placedIn p r); now = record { 0 = slot p r }; refresh = p .refresh; mask = p .mask };
+        planner = record {
+          channel = after cx (p .channel) (placedIn p r);
+          now = record { 0 = slot p r };
+          refresh = p .refresh;
+          mask = shifted (leaver p r) (p .mask) (p .second);
+          second = p .second;
+        };
         records = d .records ++ (placedIn p r ∷ []);
       }
 
-  -- NOCOP, which retires the waiting write
+  -- NOCOP, which retires the older write
   unfoldable pub flushed : Draft → Draft
   flushed d = sent (colPacket (Nocop 0xFFFF)) d
 
-  -- NOCOP while the waiting writes pass a test; there is one at most
+  -- NOCOP while the waiting writes pass a test; two wait at most
   unfoldable pub flushedWhile : (List Write → Bool) → Draft → Draft
-  flushedWhile test d = when (test (waiting d)) flushed d
+  flushedWhile test d = let z : Draft = when (test (waiting d)) flushed d in when (test (waiting z)) flushed z
 
   -- a PRER to bank x closes the bank of a write that waits
   abbrev pub loses : ℕ → List Write → Bool
   loses x ws = anyWrite (λ w. near cx x (w .bank)) ws
 
-  -- "each by PRER; before a PRER that would lose a buffered write, send NOCOP"
+  -- "each by PRER"; "The planner sends NOCOP [..] before a read or a PRER until the write concerned has retired" (document 02 a)
   unfoldable pub closed : ℕ → Draft → Draft
   closed x d = sent (rowPacket (Prer x)) (flushedWhile (loses x) d)
 
@@ -117,19 +128,28 @@ module _ (cx : Context) where
   unfoldable pub reached : ℕ → ℕ → Draft → Draft
   reached bank row d = when (not (openOn (stateIn d bank) row)) (λ d. sent (rowPacket (Act bank row)) (cleared bank d)) d
 
-  -- "Read: NOCOP first if the buffered write has that bank and column; then RD."
+  -- "The planner sends NOCOP before an RD while two wait, and before a read [..] until the write concerned has retired"
+  abbrev pub delays : Place → List Write → Bool
+  delays at ws = two ws || anyWrite (hits (at .bank) (at .column)) ws
+
   unfoldable pub plannedRead : Place → Draft → Draft
   plannedRead at d =
       sent (colPacket (Rd (at .bank) (at .column) 0xFFFF))
-      (flushedWhile (anyWrite (hits (at .bank) (at .column))) (reached (at .bank) (at .row) d))
+      (flushedWhile (delays at) (reached (at .bank) (at .row) d))
 
-  -- D after a WR, which now waits with its own mask: "Each WR is followed in the list by its data record D, at WR + tCWD"
+  -- D after a WR, which now waits with its own mask, beside an older write or alone: "Each WR is followed in the list by its data record D, at WR + tCWD"
   unfoldable pub loaded : ℕ → Dualoct → Draft → Draft
   loaded mask bytes d =
       let p : PlannerState = d .planner in
       let q : Record = DataOf (record { 0 = p .now .0 + cx .settings .cwd }) bytes in
       record {
-        planner = record { channel = after cx (p .channel) q; now = p .now; refresh = p .refresh; mask = mask };
+        planner = record {
+          channel = after cx (p .channel) q;
+          now = p .now;
+          refresh = p .refresh;
+          mask = cond (two (waiting d)) (p .mask) mask;
+          second = cond (two (waiting d)) mask (p .second);
+        };
         records = d .records ++ (q ∷ []);
       }
 
@@ -145,7 +165,7 @@ module _ (cx : Context) where
   unfoldable pub turned : Draft → Draft
   turned d =
       let p : PlannerState = d .planner in
-      record { planner = record { channel = p .channel; now = p .now; refresh = (p .refresh + 1) % bankCount; mask = p .mask }; records = d .records }
+      record { planner = record { channel = p .channel; now = p .now; refresh = (p .refresh + 1) % bankCount; mask = p .mask; second = p .second }; records = d .records }
 
   -- "Refresh: close as above, REFA, REFP, next bank modulo 32."
   unfoldable pub plannedRefresh : Draft → Draft
@@ -157,9 +177,9 @@ module _ (cx : Context) where
   unfoldable pub plannedWait : ℕ → Draft → Draft
   plannedWait cycles d =
       let p : PlannerState = d .planner in
-      record { planner = record { channel = p .channel; now = record { 0 = p .now .0 + cycles }; refresh = p .refresh; mask = p .mask }; records = d .records }
+      record { planner = record { channel = p .channel; now = record { 0 = p .now .0 + cycles }; refresh = p .refresh; mask = p .mask; second = p .second }; records = d .records }
 
-  -- "Drain: NOCOP if a write is buffered, then PRER to each open bank in rising order."
+  -- "A drain first retires both", "then PRER to each open bank in rising order."
   unfoldable pub plannedDrain : Draft → Draft
   plannedDrain d = closedUpTo (λ x. true) bankCount (flushedWhile anyWaits d)
 

@@ -14,7 +14,7 @@ use Rattle.spec_plan.specs.declared.PlannerState.{PlannerState}
 
 -- "Fresh: banks closed, buffer empty, refresh bank 0, now 4."
 unfoldable pub freshPlanner : PlannerState
-freshPlanner = record { channel = fresh; now = record { 0 = 4 }; refresh = 0; mask = 0 }
+freshPlanner = record { channel = fresh; now = record { 0 = 4 }; refresh = 0; mask = 0; second = 0 }
 
 unfoldable pub notRefresh : Bank → Bool
 notRefresh Closed = true
@@ -27,4 +27,4 @@ unfoldable pub plannerValid : Context → PlannerState → Bool
 plannerValid cx p =
     channelValid cx (p .channel)
     && (allUpTo (λ x. notRefresh (stateOf (p .channel) x)) bankCount
-    && (not (p .channel .due) && (isInstant (p .now .0) && (ltb (p .refresh) bankCount && ltb (p .mask) 0x10000))))
+    && (not (p .channel .due) && (isInstant (p .now .0) && (ltb (p .refresh) bankCount && (ltb (p .mask) 0x10000 && ltb (p .second) 0x10000)))))

@@ -1,5 +1,5 @@
--- The planner's state as 768 bytes: the channel's 752, then now (stored less 3), the refresh bank, zeros, the mask of the waiting
--- write, and the place of a second one's.
+-- The planner's state as 768 bytes: the channel's 752, then now (stored less 3), the refresh bank, zeros, the masks of the older and
+-- of the newer waiting write, zeros.
 -- Assumes nothing.
 use Prim.Native.Nat.{ℕ}
 use mathlib.Core.Bool.{Bool, _&&_}
@@ -17,13 +17,20 @@ plannerLength = 768
 
 unfoldable pub plannerBytes : PlannerState → List ℕ
 plannerBytes p =
-    channelBytes (p .channel) ++ (instantBytes (p .now) ++ (bytes 2 (p .refresh) ++ (zeros 2 ++ (bytes 2 (p .mask) ++ zeros 6))))
+    channelBytes (p .channel) ++ (instantBytes (p .now) ++ (bytes 2 (p .refresh) ++ (zeros 2 ++ (bytes 2 (p .mask) ++ (bytes 2 (p .second) ++ zeros 4)))))
 
 -- the state that 768 bytes say
 unfoldable pub plannerIn : List ℕ → PlannerState
-plannerIn b = record { channel = channelIn b; now = instantIn b 752; refresh = number (part b 756 2); mask = number (part b 760 2) }
+plannerIn b =
+    record {
+      channel = channelIn b;
+      now = instantIn b 752;
+      refresh = number (part b 756 2);
+      mask = number (part b 760 2);
+      second = number (part b 762 2);
+    }
 
 -- whether refusal 1 has nothing against these bytes: their length, the bytes that no field uses, and the state that they say
 unfoldable pub plannerRight : Context → List ℕ → Bool
 plannerRight cx b =
-    eqb (length b) plannerLength && ((channelSpare b && (zeroPart b 758 2 && zeroPart b 762 6)) && plannerValid cx (plannerIn b))
+    eqb (length b) plannerLength && ((channelSpare b && (zeroPart b 758 2 && zeroPart b 764 4)) && plannerValid cx (plannerIn b))

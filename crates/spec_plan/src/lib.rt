@@ -4,19 +4,20 @@ use settings::PacketAt;
 use spec_rules::Channel;
 
 // The most records that a request makes, and the bytes that they take; the bytes of a planner.
-pub const MOST_RECORDS: usize = 17;
+pub const MOST_RECORDS: usize = 18;
 
-pub const MOST_BYTES: usize = 544;
+pub const MOST_BYTES: usize = 576;
 
 pub const PLANNER_BYTES: usize = 768;
 
-// A planner between two requests: the channel after its packets, now, the bank of the next refresh, and the mask of the
-// waiting write.
+// A planner between two requests: the channel after its packets, now, the bank of the next refresh, and the masks of the
+// waiting writes, that of the older one first.
 pub struct PlannerState {
     pub channel: Channel,
     pub now: PacketAt,
     pub refresh: u32,
     pub mask: u32,
+    pub second: u32,
 }
 
 // What a plan call answers: the number of records that it made, or why it is refused.

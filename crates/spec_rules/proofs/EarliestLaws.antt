@@ -20,13 +20,13 @@ use Rattle.spec_rules.specs.declared.Write.{Write}
 use Rattle.spec_rules.specs.declared.Channel.{Channel}
 use Rattle.spec_rules.specs.Neighbour.{Context, Neighbours}
 use Rattle.spec_rules.specs.Packets.{traits, rowTraits, colTraits, retireTraits, instant, isPacket}
-use Rattle.spec_rules.specs.History.{isOpen, leaving, bankOf, anyWrite, Deed, retireDeeds, deeds, closes, has}
+use Rattle.spec_rules.specs.History.{first, onlyWrite, passed, leaving, bankOf, anyWrite, Deed, retireDeeds, deeds, closes, has}
 use Rattle.spec_rules.specs.Distances.{distances, each}
-use Rattle.spec_rules.specs.Rules.{freeFor, openFor, dataDelay, waited, dataInPlace}
+use Rattle.spec_rules.specs.Rules.{freeFor, openFor, dataDelay, stays, dataInPlace}
 use Rattle.spec_rules.specs.Broken.{lowest, lowestRule}
 use Rattle.spec_rules.specs.Channel.{stateOf, waitingOf, dueOf, bankNext, leavingOf}
 use Rattle.spec_rules.specs.Checks.{bound, bounds, checkOf, checks, judged}
-use Rattle.spec_rules.specs.Earliest.{placedAt, under, fits, earliest, leavesRight, retireBound, slotFrom, soonest, leastFrom}
+use Rattle.spec_rules.specs.Earliest.{placedAt, under, fits, earliest, retireRight, leavesRight, retireBound, slotFrom, leastFrom}
 use Rattle.spec_rules.proofs.Bools.{not-both, and-left, and-right, leb-max}
 use Rattle.spec_rules.proofs.TableLaws.{byDistance, rules-lines, all-listed, each-swap, each-ext, leb-maxLine}
 use Rattle.spec_rules.proofs.TrackLaws.{Tracks, row-keeps, keeps-all}
@@ -77,6 +77,46 @@ placed-instant t (RowAt u p) = refl
 placed-instant t (ColAt u p) = refl
 placed-instant t (DataOf u d) = refl
 
+-- ---- the instant that is picked: of a packet that can retire (n), may leave the writes (st); t0 is the least but for the retire, due
+-- the first at which the packet retires, b10 what rule 10 asks of the retire
+
+abbrev pick : Bool → Bool → ℕ → ℕ → ℕ → ℕ
+pick n st t0 due b10 = cond (n && (not st || leb due t0)) (max t0 (max due b10)) t0
+
+abbrev test : Bool → Bool → Bool → Bool → ℕ → ℕ → ℕ → Bool
+test n st opn m due b10 t = cond (n && leb due t) (opn && leb b10 t) (st && not m)
+
+picked-passes : (n st opn m : Bool) (t0 due b10 : ℕ) → st || n ≡ true → opn ≡ true → (n && leb due (pick n st t0 due b10) ≡ false → m ≡ false)
+    → test n st opn m due b10 (pick n st t0 due b10) ≡ true
+picked-passes false true opn m t0 due b10 a o p = rw (p refl)
+picked-passes false false opn m t0 due b10 a o p = not-both true refl (sym a)
+picked-passes true false opn m t0 due b10 a o p =
+    rw (le-leb due (max t0 (max due b10)) (omega arith), o, le-leb b10 (max t0 (max due b10)) (omega arith))
+picked-passes true true opn m t0 due b10 a o p = go (leb due t0) refl p
+  where
+    go : (c : Bool) → leb due t0 ≡ c → (leb due (cond c (max t0 (max due b10)) t0) ≡ false → m ≡ false)
+        → test true true opn m due b10 (cond c (max t0 (max due b10)) t0) ≡ true
+    go true e q = rw (le-leb due (max t0 (max due b10)) (omega arith), o, le-leb b10 (max t0 (max due b10)) (omega arith))
+    go false e q = rw (e, q e)
+
+picked-least : (n st opn m : Bool) (t0 due b10 t : ℕ) → t0 ≤ t → test n st opn m due b10 t ≡ true → pick n st t0 due b10 ≤ t
+picked-least false st opn m t0 due b10 t l h = l
+picked-least true st opn m t0 due b10 t l h = go (leb due t) refl (leb due t0) refl st h
+  where
+    go : (c : Bool) → leb due t ≡ c → (d : Bool) → leb due t0 ≡ d → (st : Bool) → cond c (opn && leb b10 t) (st && not m) ≡ true
+        → cond (not st || d) (max t0 (max due b10)) t0 ≤ t
+    go true ec d ed st h =
+        let b : b10 ≤ t = leb-true b10 t (and-right opn _ h) in
+        let u : due ≤ t = leb-true due t ec in
+        both (not st || d) (omega arith)
+      where
+        both : (c : Bool) → max t0 (max due b10) ≤ t → cond c (max t0 (max due b10)) t0 ≤ t
+        both true m = m
+        both false m = l
+    go false ec true ed st h = absurd (let u : due ≤ t0 = leb-true due t0 ed in let v : t < due = leb-false due t ec in omega arith)
+    go false ec false ed true h = l
+    go false ec false ed false h = not-both true refl (sym h)
+
 module _ (cx : Context) (ch : Channel) where
   -- what the table asks of the deeds of a record: of the packet, and of its retire
   abbrev retireBounds : Option Write → ℕ
@@ -115,13 +155,12 @@ module _ (cx : Context) (ch : Channel) where
 
   -- rules 9, 12, 16 and the table by what leaves
   by-leaving : (r : Record) (t : ℕ) (o : Option Write)
-      → openFor (stateOf ch) (bankOf o) && (leb (retireBounds o) t && (waited cx o t && (not (traits r .masked) || has (bankOf o)))) ≡ leavesRight cx ch r o t
-  by-leaving r t none = rw (leb·zero t) (or-false (not (traits r .masked)))
+      → openFor (stateOf ch) (bankOf o) && (leb (retireBounds o) t && ((has (bankOf o) || stays (waitingOf (ch .buffer)) (traits r)) && (not (traits r .masked) || has (bankOf o))))
+      ≡ leavesRight cx ch r o t
+  by-leaving r t none = rw (leb·zero t) (ap (λ (b : Bool). stays (waitingOf (ch .buffer)) (traits r) && b) (or-false (not (traits r .masked))))
   by-leaving r t (some w) =
-      let due : ℕ = w .at .0 + cx .settings .rtr in
-      let table : ℕ = bounds cx ch (retireTraits (w .bank)) in
-      ap (λ (b : Bool). isOpen (stateOf ch (w .bank)) && b)
-      (ap (λ (b : Bool). leb table t && (leb due t && b)) (or-true (not (traits r .masked))) ∙ rw (and-true (leb due t), leb-max due table t) (and-comm (leb table t) (leb due t)))
+      ap (λ (b : Bool). openFor (stateOf ch) (some (w .bank)) && b)
+      (ap (λ (b : Bool). leb (retireBounds (some w)) t && b) (or-true (not (traits r .masked))) ∙ and-true (leb (retireBounds (some w)) t))
 
   pub checks-split : (r : Record)
       → eqb (judged cx ch r) 0
@@ -132,12 +171,12 @@ module _ (cx : Context) (ch : Channel) where
       let o : Option Write = leavingOf cx ch r in
       let ws : List Write = waitingOf (ch .buffer) in
       let c : ℕ → Bool = checkOf cx ch r in
-      let z : Bool = waited cx o t && (not (traits r .masked) || has (bankOf o)) in
+      let z : Bool = (has (bankOf o) || stays ws (traits r)) && (not (traits r .masked) || has (bankOf o)) in
       lowest-every 0 (checks cx ch r)
       ∙ rw (in-range t (dataDelay cx r), ← by-leaving r t o, leb-max 4 (bounds cx ch (traits r)) t)
       (shuffle (leb 4 t) (leb (t + dataDelay cx r) horizon) (c 1) (c 2) (c 3) (freeFor cx (stateOf ch) (traits r .opens)) (c 5) (c 6) (c 7) (c 8)
       (openFor (stateOf ch) (traits r .reads)) (openFor (stateOf ch) (traits r .writes)) (openFor (stateOf ch) (bankOf o)) (c 10) (c 11)
-      (waited cx o t) (c 13) (not (anyWrite (λ w. closes cx (stateOf ch) r (w .bank)) ws)) (dataInPlace (dueOf cx ch) r)
+      (has (bankOf o) || stays ws (traits r)) (c 13) (not (anyWrite (λ w. closes cx (stateOf ch) r (w .bank)) ws)) (dataInPlace (dueOf cx ch) r)
       (not (traits r .masked) || has (bankOf o))
       ∙ ap (λ (b : Bool). fits cx ch r && (b && (leb 4 t && (leb (t + dataDelay cx r) horizon && (openFor (stateOf ch) (bankOf o) && z))))) (by-table r)
       ∙ by-parts (fits cx ch r) (leb (bounds cx ch (traits r)) t) (leb (retireBounds o) t) (leb 4 t) (leb (t + dataDelay cx r) horizon) (openFor (stateOf ch) (bankOf o)) z)
@@ -187,17 +226,27 @@ module _ (cx : Context) (ch : Channel) where
   moved-not-read t m (ColAt u (Rd b c n)) = refl
   moved-not-read t m (DataOf u d) = refl
 
-  pub moved-leaving : (t m : ℕ) (r : Record) → leavingOf cx ch (moved t m r) ≡ leavingOf cx ch r
-  unfolding leaving
-  moved-leaving t m r = rw (moved-not-read t m r)
+  pub moved-stays : (t m : ℕ) (ws : List Write) (r : Record) → stays ws (traits (moved t m r)) ≡ stays ws (traits r)
+  unfolding placedAt under traits colTraits
+  moved-stays t m ws (RowAt u p) = refl
+  moved-stays t m [] (ColAt u (Nocop n)) = refl
+  moved-stays t m (x ∷ []) (ColAt u (Nocop n)) = refl
+  moved-stays t m (x ∷ y ∷ ws) (ColAt u (Nocop n)) = refl
+  moved-stays t m [] (ColAt u (Wr b c n)) = refl
+  moved-stays t m (x ∷ []) (ColAt u (Wr b c n)) = refl
+  moved-stays t m (x ∷ y ∷ ws) (ColAt u (Wr b c n)) = refl
+  moved-stays t m [] (ColAt u (Rd b c n)) = refl
+  moved-stays t m (x ∷ []) (ColAt u (Rd b c n)) = refl
+  moved-stays t m (x ∷ y ∷ ws) (ColAt u (Rd b c n)) = refl
+  moved-stays t m ws (DataOf u d) = refl
 
   pub moved-least : (t m : ℕ) (r : Record) (now : ℕ) → leastFrom cx ch (moved t m r) now ≡ leastFrom cx ch r now
   unfolding leastFrom
-  moved-least t m r now = rw (moved-earliest t m r, moved-leaving t m r) (same (soonest cx ch r now) (leavingOf cx ch r))
+  moved-least t m r now = rw (moved-earliest t m r) (go (max now (earliest cx ch r)) (waitingOf (ch .buffer)))
     where
-      same : (t0 : ℕ) (o : Option Write) → slotFrom cx ch (moved t m r) t0 o ≡ slotFrom cx ch r t0 o
-      same t0 none = refl
-      same t0 (some w) = refl
+      go : (t0 : ℕ) (ws : List Write) → slotFrom cx ch (moved t m r) t0 ws ≡ slotFrom cx ch r t0 ws
+      go t0 [] = refl
+      go t0 (w ∷ ws) = rw (moved-stays t m (w ∷ ws) r, moved-not-read t m r)
 
   pub moved-bank : (t m : ℕ) (r : Record) (x : ℕ) (b : Bank) → bankNext cx (moved t m r) x b ≡ bankNext cx r x b
   unfolding placedAt under bankNext
@@ -213,9 +262,21 @@ module _ (cx : Context) (ch : Channel) where
   moved-writes t m (ColAt u (Rd b c n)) = refl
   moved-writes t m (DataOf u d) = refl
 
+  -- what leaves at an instant, of these waiting writes
+  abbrev pub leavesOf : List Write → ℕ → Record → Option Write
+  leavesOf ws t r = onlyWrite (traits r .notRead && passed cx (first ws) t) (first ws)
+
+  abbrev pub leavesAt : ℕ → Record → Option Write
+  leavesAt t r = leavesOf (waitingOf (ch .buffer)) t r
+
+  pub moved-leaving : (t m : ℕ) (r : Record) → leavingOf cx ch (moved t m r) ≡ leavesAt t r
+  unfolding leaving
+  moved-leaving t m r = rw (moved-not-read t m r, moved-instant t m r)
+
   -- rules 9, 10, 12 and 16 at instant t, under this mask
-  abbrev pub leavesUnder : ℕ → Record → Option Write → ℕ → Bool
-  leavesUnder m r o t = leavesRight cx ch (under m r) o t
+  abbrev pub leavesUnder : ℕ → Record → List Write → Option Write → ℕ → Bool
+  leavesUnder m r ws none t = stays ws (traits r) && not (traits (under m r) .masked)
+  leavesUnder m r ws (some w) t = retireRight cx ch r w t
 
   placed-masked : (t : ℕ) (q : Record) → traits (placedAt t q) .masked ≡ traits q .masked
   unfolding placedAt traits
@@ -223,35 +284,61 @@ module _ (cx : Context) (ch : Channel) where
   placed-masked t (ColAt u p) = refl
   placed-masked t (DataOf u d) = refl
 
-  pub moved-right : (t m : ℕ) (r : Record) (o : Option Write) → leavesRight cx ch (moved t m r) o t ≡ leavesUnder m r o t
-  moved-right t m r none = rw (placed-masked t (under m r))
+  pub moved-right : (t m : ℕ) (r : Record) (o : Option Write) → leavesRight cx ch (moved t m r) o t ≡ leavesUnder m r (waitingOf (ch .buffer)) o t
+  moved-right t m r none = rw (moved-stays t m (waitingOf (ch .buffer)) r, placed-masked t (under m r))
   moved-right t m r (some w) = refl
 
   -- the instants at which a packet breaks no rule
   pub allowed-at : (t m : ℕ) (r : Record) → isPacket r ≡ true
       → eqb (judged cx ch (moved t m r)) 0
-      ≡ fits cx ch r && (leb (earliest cx ch r) t && (leb (t + dataDelay cx r) horizon && leavesUnder m r (leavingOf cx ch r) t))
+      ≡ fits cx ch r && (leb (earliest cx ch r) t && (leb (t + dataDelay cx r) horizon && leavesUnder m r (waitingOf (ch .buffer)) (leavesAt t r) t))
   allowed-at t m r h =
       checks-split (moved t m r)
-      ∙ rw (moved-instant t m r, moved-earliest t m r, moved-fits t m r h, moved-delay t m r, moved-leaving t m r, moved-right t m r (leavingOf cx ch r))
+      ∙ rw (moved-instant t m r, moved-earliest t m r, moved-fits t m r h, moved-delay t m r, moved-leaving t m r, moved-right t m r (leavesAt t r))
 
   -- ---- the least instant
 
+  -- a packet may leave the waiting writes, or can retire one
+  abbrev pub able : List Write → Record → Bool
+  able ws r = stays ws (traits r) || traits r .notRead
+
+  under-test : (m : ℕ) (r : Record) (w : Write) (ws : List Write) (t : ℕ)
+      → leavesUnder m r (w ∷ ws) (leavesOf (w ∷ ws) t r) t
+      ≡ test (traits r .notRead) (stays (w ∷ ws) (traits r)) (openFor (stateOf ch) (some (w .bank))) (traits (under m r) .masked) (w .at .0 + cx .settings .rtr) (bounds cx ch (retireTraits (w .bank))) t
+  under-test m r w ws t = go (traits r .notRead && leb (w .at .0 + cx .settings .rtr) t)
+    where
+      go : (b : Bool) → leavesUnder m r (w ∷ ws) (onlyWrite b (some w)) t ≡ cond b (retireRight cx ch r w t) (stays (w ∷ ws) (traits r) && not (traits (under m r) .masked))
+      go true = refl
+      go false = refl
+
   -- the instant that is picked breaks none of 9, 10, 12 and 16, with M = 0 where nothing leaves
-  pub picked-right : (r : Record) (m t0 : ℕ) (o : Option Write) → openFor (stateOf ch) (bankOf o) ≡ true
-      → (o ≡ none → traits (under m r) .masked ≡ false) → leavesUnder m r o (slotFrom cx ch r t0 o) ≡ true
-  picked-right r m t0 none a p = rw (p refl)
-  picked-right r m t0 (some w) a p = rw (a, le-leb (retireBound cx ch r w) (max t0 (retireBound cx ch r w)) (omega arith))
+  pub picked-right : (r : Record) (m t0 : ℕ) (ws : List Write) → able ws r ≡ true → openFor (stateOf ch) (bankOf (first ws)) ≡ true
+      → (leavesOf ws (slotFrom cx ch r t0 ws) r ≡ none → traits (under m r) .masked ≡ false)
+      → leavesUnder m r ws (leavesOf ws (slotFrom cx ch r t0 ws) r) (slotFrom cx ch r t0 ws) ≡ true
+  picked-right r m t0 [] a o p = go (traits r .notRead && false) p
+    where
+      go : (b : Bool) → (onlyWrite b none ≡ none → traits (under m r) .masked ≡ false) → leavesUnder m r [] (onlyWrite b none) t0 ≡ true
+      go true p = rw (p refl)
+      go false p = rw (p refl)
+  picked-right r m t0 (w ∷ ws) a o p =
+      let t : ℕ = slotFrom cx ch r t0 (w ∷ ws) in
+      under-test m r w ws t
+      ∙ picked-passes (traits r .notRead) (stays (w ∷ ws) (traits r)) (openFor (stateOf ch) (some (w .bank))) (traits (under m r) .masked) t0 (w .at .0 + cx .settings .rtr)
+      (bounds cx ch (retireTraits (w .bank))) a o (λ e. p (ap (λ (b : Bool). onlyWrite b (some w)) e))
 
-  pub least-right : (r : Record) (m t0 : ℕ) (o : Option Write) (t : ℕ) → t0 ≤ t → leavesUnder m r o t ≡ true → slotFrom cx ch r t0 o ≤ t
-  least-right r m t0 none t l h = l
-  least-right r m t0 (some w) t l h =
-      let late : retireBound cx ch r w ≤ t = leb-true _ _ (and-right (isOpen (stateOf ch (w .bank))) _ h) in
-      omega arith
+  pub least-right : (r : Record) (m t0 : ℕ) (ws : List Write) (t : ℕ) → t0 ≤ t → leavesUnder m r ws (leavesOf ws t r) t ≡ true → slotFrom cx ch r t0 ws ≤ t
+  least-right r m t0 [] t l h = l
+  least-right r m t0 (w ∷ ws) t l h =
+      picked-least (traits r .notRead) (stays (w ∷ ws) (traits r)) (openFor (stateOf ch) (some (w .bank))) (traits (under m r) .masked) t0 (w .at .0 + cx .settings .rtr)
+      (bounds cx ch (retireTraits (w .bank))) t l (sym (under-test m r w ws t) ∙ h)
 
-  pub picked-late : (r : Record) (t0 : ℕ) (o : Option Write) → t0 ≤ slotFrom cx ch r t0 o
-  picked-late r t0 none = omega arith
-  picked-late r t0 (some w) = omega arith
+  pub picked-late : (r : Record) (t0 : ℕ) (ws : List Write) → t0 ≤ slotFrom cx ch r t0 ws
+  picked-late r t0 [] = omega arith
+  picked-late r t0 (w ∷ ws) = go (traits r .notRead && (not (stays (w ∷ ws) (traits r)) || leb (w .at .0 + cx .settings .rtr) t0))
+    where
+      go : (b : Bool) → t0 ≤ cond b (max t0 (retireBound cx ch r w)) t0
+      go true = omega arith
+      go false = omega arith
 
 -- in terms of the rules: the picked instant is allowed, and no earlier instant from now on is, under any mask
 module _ (cx : Context) (ns : Neighbours cx) (ch : Channel) (es : List Record) (k : Tracks cx ch es) (r : Record) (packet : isPacket r ≡ true) where
@@ -259,18 +346,18 @@ module _ (cx : Context) (ns : Neighbours cx) (ch : Channel) (es : List Record) (
   at t m = moved cx ch t m r
 
   rule-at : (t m : ℕ) → eqb (lowestRule cx es (at t m)) 0
-      ≡ fits cx ch r && (leb (earliest cx ch r) t && (leb (t + dataDelay cx r) horizon && leavesUnder cx ch m r (leavingOf cx ch r) t))
+      ≡ fits cx ch r && (leb (earliest cx ch r) t && (leb (t + dataDelay cx r) horizon && leavesUnder cx ch m r (waitingOf (ch .buffer)) (leavesAt cx ch t r) t))
   rule-at t m = ap (λ (n : ℕ). eqb n 0) (sym (judged-right cx ns ch es k (at t m))) ∙ allowed-at cx ch t m r packet
 
-  pub slot-legal : (now m : ℕ) → fits cx ch r ≡ true → openFor (stateOf ch) (bankOf (leavingOf cx ch r)) ≡ true →
+  pub slot-legal : (now m : ℕ) → fits cx ch r ≡ true → able cx ch (waitingOf (ch .buffer)) r ≡ true → openFor (stateOf ch) (bankOf (first (waitingOf (ch .buffer)))) ≡ true →
       let t : ℕ = leastFrom cx ch r now in
-      t + dataDelay cx r ≤ horizon → (leavingOf cx ch r ≡ none → traits (under m r) .masked ≡ false) → lowestRule cx es (at t m) ≡ 0
+      t + dataDelay cx r ≤ horizon → (leavesAt cx ch t r ≡ none → traits (under m r) .masked ≡ false) → lowestRule cx es (at t m) ≡ 0
   unfolding leastFrom
-  slot-legal now m f a h p =
-      let o : Option Write = leavingOf cx ch r in
-      let t0 : ℕ = soonest cx ch r now in
-      let t : ℕ = slotFrom cx ch r t0 o in
-      eqb-true _ _ (rule-at t m ∙ rw (f, le-leb (earliest cx ch r) t (omega (arith, picked-late cx ch r t0 o)), le-leb (t + dataDelay cx r) horizon h) (picked-right cx ch r m t0 o a p))
+  slot-legal now m f a o h p =
+      let ws : List Write = waitingOf (ch .buffer) in
+      let t0 : ℕ = max now (earliest cx ch r) in
+      let t : ℕ = slotFrom cx ch r t0 ws in
+      eqb-true _ _ (rule-at t m ∙ rw (f, le-leb (earliest cx ch r) t (omega (arith, picked-late cx ch r t0 ws)), le-leb (t + dataDelay cx r) horizon h) (picked-right cx ch r m t0 ws a o p))
 
   pub slot-least : (now t m : ℕ) → lowestRule cx es (at t m) ≡ 0 → now ≤ t → leastFrom cx ch r now ≤ t
   unfolding leastFrom
@@ -279,4 +366,4 @@ module _ (cx : Context) (ns : Neighbours cx) (ch : Channel) (es : List Record) (
       let rest = and-right (fits cx ch r) _ all in
       let late : earliest cx ch r ≤ t = leb-true _ _ (and-left (leb (earliest cx ch r) t) _ rest) in
       let leaves = and-right (leb (t + dataDelay cx r) horizon) _ (and-right (leb (earliest cx ch r) t) _ rest) in
-      least-right cx ch r m (soonest cx ch r now) (leavingOf cx ch r) t (omega arith) leaves
+      least-right cx ch r m (max now (earliest cx ch r)) (waitingOf (ch .buffer)) t (omega arith) leaves

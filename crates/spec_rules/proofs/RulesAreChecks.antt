@@ -15,7 +15,7 @@ use Rattle.spec_rules.specs.Neighbour.{bankCount, Context, Neighbours, n
 use Rattle.spec_rules.specs.Packets.{onPins, traits, instant, isPacket}
 use Rattle.spec_rules.specs.History.{Event, bankAfter, isClosed, isOpen, leaving, waitingAfter, bankOf, only, anyWrite, Deed, deeds, closes, events, keeps, over, has}
 use Rattle.spec_rules.specs.Distances.{Kind, packet, ROW, COL, ACT, onlyACT, PRER, RD, WR, retire, bankAs, Banks, any, same, sameOrNeighbour, others, sameNeighbourOrClosed, within, Distance, distances, asked, each, ofRule}
-use Rattle.spec_rules.specs.Rules.{freeFor, openFor, dataDelay, waited, dataInPlace, ruleOf, rule1, rule4, rule9, rule12, rule14, rule15, rule16, rules}
+use Rattle.spec_rules.specs.Rules.{freeFor, openFor, dataDelay, stays, dataInPlace, ruleOf, rule1, rule4, rule9, rule12, rule14, rule15, rule16, rules}
 use Rattle.spec_rules.specs.Channel.{inBank, trackOf, stateOf, waitingOf, dueOf, leavingOf}
 use Rattle.spec_rules.specs.Checks.{boundOf, lastOn, lastAt, boundBanks, boundBy, bound, checkOf, checks}
 use Rattle.spec_rules.proofs.Bools.{all-ext}
@@ -153,7 +153,7 @@ module _ (cx : Context) (ns : Neighbours cx) (ch : Channel) (es : List Record) (
       let same : (o : Option ℕ) → openFor (bankAfter cx es) o ≡ openFor (stateOf ch) o = λ o. sym (open-same (stateOf ch) (bankAfter cx es) (k .state) o) in
       rw (k .waiting, same (traits r .reads), same (traits r .writes), same (bankOf (leaving cx (waitingAfter cx es) r)))
 
-  is12 : rule12 cx es r ≡ waited cx (leavingOf cx ch r) (instant r)
+  is12 : rule12 cx es r ≡ has (bankOf (leavingOf cx ch r)) || stays (waitingOf (ch .buffer)) (traits r)
   unfolding rule12
   is12 = rw (k .waiting)
 

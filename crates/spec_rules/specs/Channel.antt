@@ -14,7 +14,7 @@ use Rattle.spec_rules.specs.declared.Bank.the-variants.{Closed}
 use Rattle.spec_rules.specs.declared.BankTrack.{BankTrack}
 use Rattle.spec_rules.specs.declared.Write.{Write}
 use Rattle.spec_rules.specs.declared.Buffer.{Buffer}
-use Rattle.spec_rules.specs.declared.Buffer.the-variants.{Empty, One}
+use Rattle.spec_rules.specs.declared.Buffer.the-variants.{Empty, One, Two}
 use Rattle.spec_rules.specs.declared.Channel.{Channel}
 use Rattle.spec_rules.specs.Neighbour.{bankCount, Context}
 use Rattle.spec_rules.specs.Packets.{traits, instant}
@@ -47,17 +47,19 @@ stateOf ch x = trackOf ch x .bank
 -- the writes that wait, oldest first; and the buffer of such a list
 unfoldable pub waitingOf : Buffer → List Write
 waitingOf Empty = []
-waitingOf (One w) = w ∷ []
+waitingOf (One x) = x ∷ []
+waitingOf (Two x y) = x ∷ y ∷ []
 
 unfoldable pub bufferOf : List Write → Buffer
 bufferOf [] = Empty
-bufferOf (w ∷ ws) = One w
+bufferOf (x ∷ []) = One x
+bufferOf (x ∷ y ∷ ws) = Two x y
 
 -- the instant at which the newest write's data are due
 abbrev pub newestDue : Context → List Write → Option ℕ
 newestDue cx [] = none
-newestDue cx (w ∷ []) = some (w .at .0 + cx .settings .cwd)
-newestDue cx (w ∷ x ∷ ws) = newestDue cx (x ∷ ws)
+newestDue cx (x ∷ []) = some (x .at .0 + cx .settings .cwd)
+newestDue cx (x ∷ y ∷ ws) = some (y .at .0 + cx .settings .cwd)
 
 unfoldable pub dueOf : Context → Channel → Option ℕ
 dueOf cx ch = only (ch .due) (newestDue cx (waitingOf (ch .buffer)))
@@ -122,7 +124,7 @@ trackRetired t w x k =
       retire = cond (eqb x (w .bank)) (record { 0 = t }) (k .retire);
     }
 
--- a retire at t, of the oldest write
+-- a retire at t, of the older write
 unfoldable pub afterRetire : ℕ → Option Write → Channel → Channel
 afterRetire t none ch = ch
 afterRetire t (some w) ch =

@@ -15,7 +15,7 @@ use Rattle.spec_rules.specs.Neighbour.{bankCount, Context, near}
 use Rattle.spec_rules.specs.Packets.{Traits, traits, instant}
 use Rattle.spec_rules.specs.History.{bankOf, only, anyWrite, deeds, closes, has}
 use Rattle.spec_rules.specs.Distances.{Kind, packet, ROW, COL, ACT, onlyACT, PRER, RD, WR, retire, bankAs, Banks, any, same, sameOrNeighbour, others, sameNeighbourOrClosed, Distance, distances, each, ofRule}
-use Rattle.spec_rules.specs.Rules.{freeFor, openFor, dataDelay, waited, dataInPlace}
+use Rattle.spec_rules.specs.Rules.{freeFor, openFor, dataDelay, stays, dataInPlace}
 use Rattle.spec_rules.specs.Broken.{lowest, recordIn}
 use Rattle.spec_rules.specs.Channel.{fresh, trackOf, stateOf, waitingOf, dueOf, leavingOf, after}
 
@@ -108,7 +108,7 @@ module _ (cx : Context) (ch : Channel) where
         ∷ (openFor (stateOf ch) (traits r .reads) && (openFor (stateOf ch) (traits r .writes) && openFor (stateOf ch) (bankOf (leavingOf cx ch r))))
         ∷ checkOf 10
         ∷ checkOf 11
-        ∷ waited cx (leavingOf cx ch r) (instant r)
+        ∷ (has (bankOf (leavingOf cx ch r)) || stays (waitingOf (ch .buffer)) (traits r))
         ∷ checkOf 13
         ∷ not (anyWrite (λ w. closes cx (stateOf ch) r (w .bank)) (waitingOf (ch .buffer)))
         ∷ dataInPlace (dueOf cx ch) r

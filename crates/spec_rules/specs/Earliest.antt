@@ -14,9 +14,9 @@ use Rattle.spec_rules.specs.declared.Write.{Write}
 use Rattle.spec_rules.specs.declared.Channel.{Channel}
 use Rattle.spec_rules.specs.Neighbour.{Context}
 use Rattle.spec_rules.specs.Packets.{traits, retireTraits}
-use Rattle.spec_rules.specs.History.{isOpen, anyWrite, closes}
-use Rattle.spec_rules.specs.Rules.{freeFor, openFor, dataInPlace}
-use Rattle.spec_rules.specs.Channel.{stateOf, waitingOf, dueOf, leavingOf}
+use Rattle.spec_rules.specs.History.{anyWrite, closes}
+use Rattle.spec_rules.specs.Rules.{freeFor, openFor, stays, dataInPlace}
+use Rattle.spec_rules.specs.Channel.{stateOf, waitingOf, dueOf}
 use Rattle.spec_rules.specs.Checks.{bounds}
 
 -- a record at another instant
@@ -53,19 +53,23 @@ module _ (cx : Context) (ch : Channel) where
     abbrev pub retireBound : Write → ℕ
     retireBound w = max (w .at .0 + cx .settings .rtr) (bounds cx ch (retireTraits (w .bank)))
 
-    -- rules 9, 10, 12 and 16 by what leaves: a packet that retires no write has M = 0
-    abbrev pub leavesRight : Option Write → ℕ → Bool
-    leavesRight none t = not (traits r .masked)
-    leavesRight (some w) t = isOpen (stateOf ch (w .bank)) && leb (retireBound w) t
+    -- rule 9 of a retire at t, and what the table asks of it
+    abbrev pub retireRight : Write → ℕ → Bool
+    retireRight w t = openFor (stateOf ch) (some (w .bank)) && leb (bounds cx ch (retireTraits (w .bank))) t
 
-    -- from instant t on, the least at which this write, if there is one, may be retired
-    abbrev pub slotFrom : ℕ → Option Write → ℕ
-    slotFrom t none = t
-    slotFrom t (some w) = max t (retireBound w)
+    -- rules 9, 10, 12 and 16 by what leaves: a packet retires the older write, or may leave the waiting ones and then has M = 0
+    abbrev pub leavesRight : Option Write → ℕ → Bool
+    leavesRight none t = stays (waitingOf (ch .buffer)) (traits r) && not (traits r .masked)
+    leavesRight (some w) t = retireRight w t
+
+    -- from instant t on, the least at which the packet may leave the waiting writes, or else may retire the older one
+    abbrev pub slotFrom : ℕ → List Write → ℕ
+    slotFrom t [] = t
+    slotFrom t (w ∷ ws) = cond (traits r .notRead && (not (stays (w ∷ ws) (traits r)) || leb (w .at .0 + cx .settings .rtr) t)) (max t (retireBound w)) t
 
     -- the least instant from now on: of the packet itself, and of the retire that it makes
     abbrev pub soonest : ℕ → ℕ
     soonest now = max now earliest
 
     unfoldable pub leastFrom : ℕ → ℕ
-    leastFrom now = slotFrom (soonest now) (leavingOf cx ch r)
+    leastFrom now = slotFrom (soonest now) (waitingOf (ch .buffer))

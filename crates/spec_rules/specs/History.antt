@@ -2,7 +2,7 @@
 -- Assumes nothing.
 use Prim.Native.Nat.{ℕ, _+_}
 use mathlib.Core.Bool.{Bool, true, false, not, _&&_, _||_, cond}
-use mathlib.Core.List.{List, [], _∷_, _++_}
+use mathlib.Core.List.{List, [], _∷_}
 use mathlib.Core.Option.{Option, none, some}
 use lib.Dec.{eqb, leb}
 use Rattle.packet.specs.declared.RowPacket.{RowPacket}
@@ -47,7 +47,7 @@ isOpen Refresh = false
 
 -- ---- the write buffer
 
--- the writes that wait are a list, oldest first; "House: one unretired write at most"
+-- "Two may wait, in order": the writes that wait are a list of at most two, oldest first
 abbrev pub first : List Write → Option Write
 first [] = none
 first (w ∷ ws) = some w
@@ -60,9 +60,15 @@ abbrev pub onlyWrite : Bool → Option Write → Option Write
 onlyWrite true o = o
 onlyWrite false o = none
 
--- "The next COL packet other than RD retires it": the write that a record retires, where these wait
+-- whether tRTR has passed since the WR of a write, where there is one
+abbrev pub passed : Context → Option Write → ℕ → Bool
+passed cx none t = false
+passed cx (some w) t = leb (w .at .0 + cx .settings .rtr) t
+
+-- "A COL packet other than RD retires the older write if tRTR has passed since its WR": the write that a record retires, where
+-- these wait
 unfoldable pub leaving : Context → List Write → Record → Option Write
-leaving cx ws r = onlyWrite (traits r .notRead) (first ws)
+leaving cx ws r = onlyWrite (traits r .notRead && passed cx (first ws) (instant r)) (first ws)
 
 -- the writes that a record leaves
 abbrev pub left : Option Write → List Write → List Write
@@ -80,11 +86,16 @@ loads (RowAt t p) = none
 loads (ColAt t p) = colLoads (t .0) p
 loads (DataOf t d) = none
 
+-- a write behind the oldest that waits: where two wait, rule 12 has no WR that retires none
+abbrev pub queued : List Write → Write → List Write
+queued [] w = w ∷ []
+queued (x ∷ ws) w = x ∷ w ∷ []
+
 abbrev pub joined : Option Write → List Write → List Write
 joined none ws = ws
-joined (some w) ws = ws ++ (w ∷ [])
+joined (some w) ws = queued ws w
 
--- the writes that wait after a record: "a WR retires the earlier write, then loads"
+-- the writes that wait after a record: one may leave, then one may join
 unfoldable pub waitingNext : Context → Record → List Write → List Write
 waitingNext cx r ws = joined (loads r) (left (leaving cx ws r) ws)
 
@@ -109,6 +120,12 @@ anyWrite q (w ∷ ws) = q w || anyWrite q ws
 abbrev pub allWrites : (Write → Bool) → List Write → Bool
 allWrites q [] = true
 allWrites q (w ∷ ws) = q w && allWrites q ws
+
+-- whether two wait
+abbrev pub two : List Write → Bool
+two [] = false
+two (x ∷ []) = false
+two (x ∷ y ∷ ws) = true
 
 -- ---- deeds and events
 

@@ -15,7 +15,7 @@ use Rattle.record.specs.declared.Record.the-variants.{RowAt, ColAt, DataOf}
 use Rattle.spec_rules.specs.declared.Bank.{Bank}
 use Rattle.spec_rules.specs.declared.Write.{Write}
 use Rattle.spec_rules.specs.Neighbour.{bankCount, Context, near}
-use Rattle.spec_rules.specs.Packets.{traits, instant, isPacket}
+use Rattle.spec_rules.specs.Packets.{Traits, traits, instant, isPacket}
 use Rattle.spec_rules.specs.History.{bankAfter, isClosed, isOpen, leaving, waitingAfter, bankOf, anyWrite, deeds, closes, events, has}
 use Rattle.spec_rules.specs.Distances.{holds}
 
@@ -75,14 +75,16 @@ rule9 cx es r =
     openFor (bankAfter cx es) (traits r .reads)
     && (openFor (bankAfter cx es) (traits r .writes) && openFor (bankAfter cx es) (bankOf (leaving cx (waitingAfter cx es) r)))
 
--- whether tRTR has passed since the WR of a write, where there is one
-abbrev pub waited : Context → Option Write → ℕ → Bool
-waited cx none t = true
-waited cx (some w) t = leb (w .at .0 + cx .settings .rtr) t
+-- whether a packet may leave the waiting writes as they are (document 02 a): "Rule 12 becomes this: a not-RD COL packet before that
+-- moment must be a WR with one write waiting. With two waiting, RD is a breach of rule 12."
+abbrev pub stays : List Write → Traits → Bool
+stays [] k = true
+stays (x ∷ []) k = not (k .notRead) || has (k .writes)
+stays (x ∷ y ∷ ws) k = not (k .col)
 
--- "12. Not-RD COL with a write unretired: WR + tRTR."
+-- "12." it retires the older write, or it may leave them
 unfoldable pub rule12 : Context → List Record → Record → Bool
-rule12 cx es r = waited cx (leaving cx (waitingAfter cx es) r) (instant r)
+rule12 cx es r = has (bankOf (leaving cx (waitingAfter cx es) r)) || stays (waitingAfter cx es) (traits r)
 
 -- "14. PRER must not close the bank of an unretired write."
 unfoldable pub rule14 : Context → List Record → Record → Bool

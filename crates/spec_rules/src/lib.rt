@@ -37,10 +37,11 @@ pub struct Write {
     pub at: PacketAt,
 }
 
-// The write buffer. "House: one unretired write at most".
+// The writes that wait (document 02 a): "Two may wait, in order". The older one stands first.
 pub enum Buffer {
     Empty,
     One(Write),
+    Two(Write, Write),
 }
 
 // The banks, the last instants, the writes that wait, and whether the record of the newest write's data is the next in the list.

@@ -139,7 +139,7 @@ module _ (cx : Context) (v : valid (cx .settings) ≡ true) (ns : Neighbours cx)
   -- and the masks that were retired under are those of the accepted writes, in order
   drained-masks : EndsInDrain cx calls → masksAll cx freshModel list ≡ flatMasks cx (fed cx freshPlanner calls)
   drained-masks e =
-      let k : masksAll cx freshModel list ++ waitMasks (waitingOf (last .channel .buffer)) (last .mask) ≡ flatMasks cx (fed cx freshPlanner calls) =
+      let k : masksAll cx freshModel list ++ waitMasks (waitingOf (last .channel .buffer)) (last .mask) (last .second) ≡ flatMasks cx (fed cx freshPlanner calls) =
       rw append-nil at (sim-run cx ns [] calls b .at .written-under) in
       rw (drained-empty e, append-nil) at k
 
@@ -148,7 +148,7 @@ module _ (cx : Context) (v : valid (cx .settings) ≡ true) (ns : Neighbours cx)
   run-whole store n w rooms =
       let k = sim-run cx ns store calls b in
       let r = run-ready store n in
-      let flat : flatAfter cx (fed cx freshPlanner calls) store ≡ doneAll cx (last .channel) (waitingOf (last .channel .buffer)) (last .mask) (k .held) (storeAll cx freshModel list store) =
+      let flat : flatAfter cx (fed cx freshPlanner calls) store ≡ doneAll cx (last .channel) (waitingOf (last .channel .buffer)) (last .mask) (last .second) (k .older) (k .newer) (storeAll cx freshModel list store) =
       rw append-nil at (k .at .flat) in
       let answered : answersAll cx freshModel list store ≡ flatAnswers cx (fed cx freshPlanner calls) store = rw append-nil at (k .at .same) in
       let written = driven-written cx rooms freshModel store list r in

@@ -5,6 +5,7 @@ use mathlib.Core.Path.{_≡_, refl}
 use mathlib.Core.Bool.{Bool, true, false, cond}
 use mathlib.Core.List.{List, [], _∷_, _++_, append-nil, append-assoc}
 use Rattle.num.specs.Bytes.{Bytes}
+use Rattle.record.specs.declared.Dualoct.{Dualoct}
 use Rattle.record.specs.declared.Record.{Record}
 use Rattle.record.specs.declared.Request.{Request}
 use Rattle.record.specs.declared.Request.the-variants.{Read, Write, Refresh, Wait, Drain}
@@ -71,7 +72,8 @@ module _ (cx : Context) (ns : Neighbours cx) (st : List ℕ) where
   sim-rest before d memory answers masks k =
       record {
         refr = k .refr;
-        held = k .held;
+        older = k .older;
+        newer = k .newer;
         at = record {
           model = rw append-nil (k .at .model);
           flat = rw append-nil (k .at .flat);
@@ -111,7 +113,9 @@ module _ (cx : Context) (ns : Neighbours cx) (st : List ℕ) where
 
   pub sim-fresh : Between [] freshPlanner st [] []
   unfolding freshPlanner freshModel modelAll storeAll answersAll masksAll fresh waitingOf
-  sim-fresh = record { refr = 0; held = record { dqa = 0; dqb = 0 }; at = record { model = refl; flat = refl; same = refl; written-under = refl; data-in = tt } }
+  sim-fresh =
+      let z : Dualoct = record { dqa = 0; dqb = 0 } in
+      record { refr = 0; older = z; newer = z; at = record { model = refl; flat = refl; same = refl; written-under = refl; data-in = tt } }
 
   -- after a list of calls from a fresh planner
   pub sim-run : (calls : List Call) → OfBytes calls

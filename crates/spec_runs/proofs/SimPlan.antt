@@ -2,7 +2,7 @@
 -- Assumes nothing.
 use Prim.Native.Nat.{ℕ, zero, suc, _+_, _^_, _<_, _≤_}
 use mathlib.Core.Path.{_≡_, refl, sym, ap, _∙_}
-use mathlib.Core.Bool.{Bool, true, false, not, _&&_}
+use mathlib.Core.Bool.{Bool, true, false, not, _&&_, _||_}
 use mathlib.Core.List.{List, [], _∷_, _++_}
 use mathlib.Core.Option.{some}
 use lib.Dec.{eqb}
@@ -20,12 +20,12 @@ use Rattle.spec_rules.specs.declared.Bank.the-variants.{Closed, Open, Refresh}
 use Rattle.spec_rules.specs.declared.Write.{Write}
 use Rattle.spec_rules.specs.declared.Channel.{Channel}
 use Rattle.spec_rules.specs.Neighbour.{bankCount, Context, Neighbours, near}
-use Rattle.spec_rules.specs.History.{bankBy, isClosed, isOpen, anyWrite}
+use Rattle.spec_rules.specs.History.{bankBy, isClosed, isOpen, anyWrite, two}
 use Rattle.spec_rules.specs.Channel.{stateOf, bankNext}
-use Rattle.spec_rules.proofs.Bools.{not-both, and-left, neither}
+use Rattle.spec_rules.proofs.Bools.{not-both, and-left, and-right, neither}
 use Rattle.spec_state.specs.Valid.{bankValid}
 use Rattle.spec_plan.specs.declared.PlannerState.{PlannerState}
-use Rattle.spec_plan.specs.Plan.{Draft, rowPacket, colPacket, waiting, stateIn, openOn, hits, anyWaits, sent, flushed, flushedWhile, closed, loses, closedUpTo, cleared, reached, plannedRead, plannedWrite, turned, plannedRefresh, plannedWait, plannedDrain}
+use Rattle.spec_plan.specs.Plan.{Draft, rowPacket, colPacket, waiting, stateIn, openOn, hits, anyWaits, sent, flushed, flushedWhile, closed, loses, closedUpTo, cleared, delays, reached, plannedRead, plannedWrite, turned, plannedRefresh, plannedWait, plannedDrain}
 use Rattle.spec_plan.proofs.SentLaws.{when-either, sent-size, sent-state, row-waiting, while-keeps, while-ends, while-state, saved, saved-far, up-to-waiting}
 use Rattle.spec_plan.proofs.Invariant.{WritesIn, allOpen, inBanks, Changed, NearClosed, held-far, far-other}
 use Rattle.spec_plan.proofs.PlanLaws.{Good, good-flushed, good-closed, good-cleared, good-reached}
@@ -56,10 +56,15 @@ past-one cx ch v w i o b row c lr lc h mask d store =
 
 pub read-past : (cx : Context) (ch : Channel) → ((x : ℕ) → x < bankCount → bankValid cx (stateOf ch x) ≡ true)
     → (ws : List Write) → WritesIn cx ws → allOpen (stateOf ch) ws ≡ true → (b row c : ℕ) → row < cx .settings .rows → c < cx .settings .columns → anyWrite (hits b c) ws ≡ false
-    → (m : ℕ) (x : Dualoct) (store : List ℕ) → dualoct (doneAll cx ch ws m x store) (dualoctAt cx b row c) ≡ dualoct store (dualoctAt cx b row c)
-read-past cx ch v [] i o b row c lr lc h m x store = refl
-read-past cx ch v (w ∷ ws) i o b row c lr lc h m x store =
+    → (m n : ℕ) (x y : Dualoct) (store : List ℕ) → dualoct (doneAll cx ch ws m n x y store) (dualoctAt cx b row c) ≡ dualoct store (dualoctAt cx b row c)
+read-past cx ch v [] i o b row c lr lc h m n x y store = refl
+read-past cx ch v (w ∷ []) i o b row c lr lc h m n x y store =
     past-one cx ch v w (i .0) (and-left (isOpen (stateOf ch (w .bank))) _ o) b row c lr lc (neither (hits b c w) _ h .0) m x store
+read-past cx ch v (w ∷ u ∷ ws) i o b row c lr lc h m n x y store =
+    let ow = and-right (isOpen (stateOf ch (w .bank))) _ o in
+    let hw = neither (hits b c w) _ h in
+    past-one cx ch v u (i .1 .0) (and-left (isOpen (stateOf ch (u .bank))) _ ow) b row c lr lc (neither (hits b c u) _ (hw .1) .0) n y (retiredTo cx ch (some w) m x store)
+    ∙ past-one cx ch v w (i .0) (and-left (isOpen (stateOf ch (w .bank))) _ o) b row c lr lc (hw .0) m x store
 
 module _ (cx : Context) (ns : Neighbours cx) (p : PlannerState) (st : List ℕ) (before : List Record) (memory : List ℕ) (answers : List (List ℕ)) (masks : List ℕ) where
   -- the planner has come this far in a call, and the model and flat memory with it
@@ -69,7 +74,7 @@ module _ (cx : Context) (ns : Neighbours cx) (p : PlannerState) (st : List ℕ) 
   both-flushed : (d : Draft) → Both d → Both (flushed cx d)
   both-flushed d k = (
     good-flushed cx ns p d (k .0),
-    sim-flushed cx st before d memory answers masks (k .1 .refr) (k .1 .held) (k .1 .at) (k .0 .inv .size) (k .0 .inv .held .write-in),
+    sim-flushed cx st before d memory answers masks (k .1 .refr) (k .1 .older) (k .1 .newer) (k .1 .at) (k .0 .inv .size) (k .0 .inv .held .write-in),
   )
 
   both-while : (d : Draft) → Both d → (test : List Write → Bool) → test [] ≡ false → Both (flushedWhile cx test d)
@@ -78,7 +83,7 @@ module _ (cx : Context) (ns : Neighbours cx) (p : PlannerState) (st : List ℕ) 
   both-row : (d : Draft) → Both d → (r : RowPacket) (q : ℕ → Bool) (new : Bank) → inBanks q (waiting d) ≡ false → Changed q new (stateIn d) (stateIn (sent cx (rowPacket r) d))
       → Sim cx st before (sent cx (rowPacket r) d) memory answers masks
   both-row d k r q new far c =
-      sim-row cx st before d memory answers masks (k .1 .refr) (k .1 .held) (k .1 .at) r (k .0 .inv .held .write-in) q new far c
+      sim-row cx st before d memory answers masks (k .1 .refr) (k .1 .older) (k .1 .newer) (k .1 .at) r (k .0 .inv .held .write-in) q new far c
 
   -- ---- banks closed, a row reached
 
@@ -127,19 +132,19 @@ module _ (cx : Context) (ns : Neighbours cx) (p : PlannerState) (st : List ℕ) 
   sim-read d k at i =
       let z : Draft = reached cx (at .bank) (at .row) d in
       let g = good-reached cx ns p d (k .0) (at .bank) (at .row) (i .0) (i .1) in
-      let test : List Write → Bool = anyWrite (hits (at .bank) (at .column)) in
+      let test : List Write → Bool = delays cx at in
       read-on (flushedWhile cx test z) (both-while z (g .0, sim-reached d k (at .bank) (at .row)) test refl)
-      (while-state cx test refl z (g .0 .inv .size) (at .bank) (i .0) ∙ g .1) (while-ends cx test refl z)
+      (while-state cx test refl z (g .0 .inv .size) (at .bank) (i .0) ∙ g .1) (neither (two (waiting (flushedWhile cx test z))) _ (while-ends cx test refl z) .1)
     where
       read-on : (z : Draft) → Both z → stateIn z (at .bank) ≡ Open (at .row) → anyWrite (hits (at .bank) (at .column)) (waiting z) ≡ false
           → Sim cx st before (sent cx (colPacket (Rd (at .bank) (at .column) 0xFFFF)) z) memory (answers ++ (dualoct memory (dualoctOf cx at) ∷ [])) masks
       read-on z b o h =
           let stored : List ℕ = storeAll cx freshModel (before ++ z .records) st in
           let past = read-past cx (z .planner .channel) (b .0 .inv .banked .rows-in) (waiting z) (b .0 .inv .held .write-in) (b .0 .inv .held .opened)
-          (at .bank) (at .row) (at .column) (i .1) (i .2) h (z .planner .mask) (b .1 .held) stored in
+          (at .bank) (at .row) (at .column) (i .1) (i .2) h (z .planner .mask) (z .planner .second) (b .1 .older) (b .1 .newer) stored in
           let here : dualoct stored (dualoctAt cx (at .bank) (openRow (stateIn z (at .bank))) (at .column)) ≡ dualoct memory (dualoctOf cx at) =
           rw o (sym (ap (λ (m : List ℕ). dualoct m (dualoctOf cx at)) (b .1 .at .flat) ∙ past)) in
-          rw here at (sim-rd cx st before z memory answers masks (b .1 .refr) (b .1 .held) (b .1 .at) (at .bank) (at .column) (b .0 .inv .size) (b .0 .inv .held .write-in))
+          rw here at (sim-rd cx st before z memory answers masks (b .1 .refr) (b .1 .older) (b .1 .newer) (b .1 .at) (at .bank) (at .column) (b .0 .inv .size) (b .0 .inv .held .write-in))
 
   pub sim-write : (d : Draft) → Both d → (at : Place) (mask : ℕ) (bytes : Dualoct) → InPlace (cx .settings) at → (bytes .dqa < 2 ^ 64) × (bytes .dqb < 2 ^ 64)
       → Sim cx st before (plannedWrite cx at mask bytes d) (masked memory (dualoctOf cx at) mask (dualoctBytes bytes)) answers (masks ++ (mask ∷ []))
@@ -148,13 +153,13 @@ module _ (cx : Context) (ns : Neighbours cx) (p : PlannerState) (st : List ℕ) 
       let z : Draft = reached cx (at .bank) (at .row) d in
       let g = good-reached cx ns p d (k .0) (at .bank) (at .row) (i .0) (i .1) in
       let m = sim-reached d k (at .bank) (at .row) in
-      sim-written cx st before z memory answers masks (m .refr) (m .held) (m .at) at (at .row) mask bytes n (g .0 .inv .size) (g .0 .inv .held .write-in) (i .0) (g .1)
+      sim-written cx st before z memory answers masks (m .refr) (m .older) (m .newer) (m .at) at (at .row) mask bytes n (g .0 .inv .size) (g .0 .inv .held .write-in) (i .0) (g .1)
 
   sim-turned : (d : Draft) → Sim cx st before d memory answers masks → Sim cx st before (turned cx d) memory answers masks
   unfolding turned
   sim-turned d k =
       let a = k .at in
-      record { refr = k .refr; held = k .held; at = record { model = a .model; flat = a .flat; same = a .same; written-under = a .written-under; data-in = a .data-in } }
+      record { refr = k .refr; older = k .older; newer = k .newer; at = record { model = a .model; flat = a .flat; same = a .same; written-under = a .written-under; data-in = a .data-in } }
 
   pub sim-refresh : (d : Draft) → Both d → Sim cx st before (plannedRefresh cx d) memory answers masks
   unfolding plannedRefresh bankNext bankBy
@@ -168,14 +173,14 @@ module _ (cx : Context) (ns : Neighbours cx) (p : PlannerState) (st : List ℕ) 
       let k1 = both-row z a (Refa b) (λ x. eqb x b) Refresh (other-than z (a .0) b (c .1))
       (sent-state cx (rowPacket (Refa b)) z (a .0 .inv .size)) in
       sim-turned (sent cx (rowPacket (Refp b)) y)
-      (sim-row cx st before y memory answers masks (k1 .refr) (k1 .held) (k1 .at) (Refp b) (rw waits (a .0 .inv .held .write-in)) (near cx b) Closed (rw waits (far-from z (a .0) b (c .1)))
+      (sim-row cx st before y memory answers masks (k1 .refr) (k1 .older) (k1 .newer) (k1 .at) (Refp b) (rw waits (a .0 .inv .held .write-in)) (near cx b) Closed (rw waits (far-from z (a .0) b (c .1)))
       (sent-state cx (rowPacket (Refp b)) y (sent-size cx (rowPacket (Refa b)) z ∙ a .0 .inv .size)))
 
   pub sim-wait : (d : Draft) → Both d → (n : ℕ) → Sim cx st before (plannedWait cx n d) memory answers masks
   unfolding plannedWait
   sim-wait d k n =
       let a = k .1 .at in
-      record { refr = k .1 .refr; held = k .1 .held; at = record { model = a .model; flat = a .flat; same = a .same; written-under = a .written-under; data-in = a .data-in } }
+      record { refr = k .1 .refr; older = k .1 .older; newer = k .1 .newer; at = record { model = a .model; flat = a .flat; same = a .same; written-under = a .written-under; data-in = a .data-in } }
 
   none-waits : (ws : List Write) → anyWaits ws ≡ false → ws ≡ []
   none-waits [] e = refl

@@ -1,5 +1,5 @@
--- A short run by the definitions: reads, writes under masks, a read past its own write, a refused call, a drain; the model's
--- answers and store beside flat memory's, and the sum of the bytes written.
+-- A short run by the definitions: reads, writes under masks, two of them waiting, to one dualoct, a read past its own writes, a
+-- refused call, a drain; the model's answers and store beside flat memory's, and the sum of the bytes written.
 -- Assumes nothing.
 use Prim.Native.Nat.{ℕ}
 use mathlib.Core.Path.{_≡_, refl}
@@ -29,7 +29,7 @@ use Rattle.spec_plan.specs.Plan.{slot, sent, flushed, flushedWhile, closed, clo
 use Rattle.spec_plan.specs.Call.{inTime, timely, outcomeOf, outcomeBy, planOutcome, isMade, draftBy, planNext, planRecords}
 use Rattle.spec_plan.specs.Runs.{Call, listed}
 use Rattle.spec_model.specs.Store.{storeLength, dualoctAt, dualoct, dualoctBytes, governs, masked, onesUpTo}
-use Rattle.spec_model.specs.Model.{freshModel, openRow, retireMask, retiredWrite, storeNext, refrBy, refrNext, bytesNext, modelNext, readOf}
+use Rattle.spec_model.specs.Model.{freshModel, openRow, retireMask, retiredWrite, storeNext, refrBy, refrNext, bytesNext, secondNext, modelNext, readOf}
 use Rattle.spec_model.specs.Step.{retireAnswer, passedAnswer, recordAnswer, readAnswer, stepAnswer, isTaken, modelBy, stepModel, storeBy, stepStore, bytesRead, bytesBy}
 use Rattle.spec_runs.specs.Flat.{memoryBy, answersBy, memoryOf, answersOf, flatNext, flatAnswer, flatAfter, flatAnswers, masksBy, masksOf, flatMask, flatMasks}
 use Rattle.spec_runs.specs.Drive.{Drive, started, returned, leftBy, isFull, fails, calledOn, called, driven}
@@ -44,6 +44,7 @@ requests : List Request
 requests =
     Write (record { bank = 0; row = 0; column = 0 }) 0x0003 (record { dqa = 0x0807060504030201; dqb = 0x100F0E0D0C0B0A09 })
     ∷ Write (record { bank = 2; row = 0; column = 0 }) 0x8001 (record { dqa = 0x0807060504030201; dqb = 0x100F0E0D0C0B0A09 })
+    ∷ Write (record { bank = 2; row = 0; column = 0 }) 0x8000 (record { dqa = 0; dqb = 0x2A00000000000000 })
     ∷ Read (record { bank = 0; row = 0; column = 0 })
     ∷ Read (record { bank = 2; row = 0; column = 0 })
     ∷ Write (record { bank = 31; row = 0; column = 0 }) 0xFFFF (record { dqa = 0x0807060504030201; dqb = 0x100F0E0D0C0B0A09 })
@@ -54,14 +55,14 @@ requests =
 
 calls : List Request → List Call
 calls [] = []
-calls (q ∷ l) = record { request = requestBytes q; room = 544 } ∷ calls l
+calls (q ∷ l) = record { request = requestBytes q; room = 576 } ∷ calls l
 
 pub list : List Call
 list = calls requests
 
 -- some calls have no room
 rooms : List ℕ
-rooms = replicate 4 16 ++ (replicate 4 15 ++ replicate 20 16)
+rooms = replicate 4 16 ++ (replicate 4 15 ++ replicate 24 16)
 
 pub start : Drive
 start = started (replicate 512 7) (listed small freshPlanner list)
@@ -70,14 +71,14 @@ pub driver : Drive
 driver = driven small rooms start
 
 pub answers : List (List ℕ)
-answers = (1 ∷ 2 ∷ replicate 14 7) ∷ (1 ∷ (replicate 14 7 ++ (16 ∷ []))) ∷ []
+answers = (1 ∷ 2 ∷ replicate 14 7) ∷ (1 ∷ (replicate 14 7 ++ (42 ∷ []))) ∷ []
 
 -- the banks that the writes named hold them, and nothing else changed
 pub store : List ℕ
-store = (1 ∷ 2 ∷ replicate 14 7) ++ (replicate 16 7 ++ ((1 ∷ (replicate 14 7 ++ (16 ∷ []))) ++ (replicate 448 7 ++ (1 ∷ 2 ∷ 3 ∷ 4 ∷ 5 ∷ 6 ∷ 7 ∷ 8 ∷ 9 ∷ 10 ∷ 11 ∷ 12 ∷ 13 ∷ 14 ∷ 15 ∷ 16 ∷ []))))
+store = (1 ∷ 2 ∷ replicate 14 7) ++ (replicate 16 7 ++ ((1 ∷ (replicate 14 7 ++ (42 ∷ []))) ++ (replicate 448 7 ++ (1 ∷ 2 ∷ 3 ∷ 4 ∷ 5 ∷ 6 ∷ 7 ∷ 8 ∷ 9 ∷ 10 ∷ 11 ∷ 12 ∷ 13 ∷ 14 ∷ 15 ∷ 16 ∷ []))))
 
--- masks 0003, 8001 and FFFF have 2, 2 and 16 ones; without room the calls stop at the first RD, after the first retire
+-- masks 0003, 8001, 8000 and FFFF have 2, 2, 1 and 16 ones; without room the calls stop at the first RD, after two retires
 pub result : (driver .failed ≡ false) × (driver .pending ≡ []) × (driver .answers ≡ answers) × (driver .store ≡ store) × (flatAfter small (fed small freshPlanner list) (replicate 512 7) ≡ store) × (flatAnswers small (fed small freshPlanner list) (replicate 512 7) ≡ answers)
-    × (driver .written ≡ 20) × (onesOf (retiredMasks small (listed small freshPlanner list)) ≡ 20) × (onesOf (flatMasks small (fed small freshPlanner list)) ≡ 20) × (driven small (replicate 20 0) start .written ≡ 2)
-unfolding answers store start setOf small requests calls list rooms driver bytes number allUpTo deviceHead rowFields rowWord rowFits rowCoded packetRow rowDecoded carriesMask maskField colFields colWord colFits colCoded maskSaid packetMask colOf colDecoded recordFields recordBytes rowRecord colRecord recordOf recordRead usesByte spareRight placed requestOf requestRead requestFields requestBytes split contextOf rowTraits colTraits traits instant isPacket bankBy isClosed isOpen bankCount dataDelay lowest leaving loads waitingNext waitingAfter fresh waitingOf bufferOf dueOf bankNext trackNext afterPacket trackRetired afterRetire afterData after maxUpTo bounds distances deeds retireTraits checkOf checks judged placedAt under earliest leastFrom freshPlanner slot sent flushed flushedWhile closed closedUpTo reached plannedRead loaded written plannedWrite turned plannedRefresh plannedWait plannedDrain stepsOf planned inTime timely outcomeOf outcomeBy planOutcome isMade draftBy planNext planRecords listed storeLength dualoctAt dualoct dualoctBytes governs masked onesUpTo freshModel openRow retireMask retiredWrite storeNext refrBy refrNext bytesNext modelNext readOf retireAnswer passedAnswer recordAnswer readAnswer stepAnswer isTaken modelBy stepModel storeBy stepStore bytesRead bytesBy memoryBy answersBy memoryOf answersOf flatNext flatAnswer flatAfter flatAnswers masksBy masksOf flatMask flatMasks maskAt masksAfter onesOf started returned leftBy isFull fails writtenBy calledOn called driven fed
+    × (driver .written ≡ 21) × (onesOf (retiredMasks small (listed small freshPlanner list)) ≡ 21) × (onesOf (flatMasks small (fed small freshPlanner list)) ≡ 21) × (driven small (replicate 20 0) start .written ≡ 4)
+unfolding answers store start setOf small requests calls list rooms driver bytes number allUpTo deviceHead rowFields rowWord rowFits rowCoded packetRow rowDecoded carriesMask maskField colFields colWord colFits colCoded maskSaid packetMask colOf colDecoded recordFields recordBytes rowRecord colRecord recordOf recordRead usesByte spareRight placed requestOf requestRead requestFields requestBytes split contextOf rowTraits colTraits traits instant isPacket bankBy isClosed isOpen bankCount dataDelay lowest leaving loads waitingNext waitingAfter fresh waitingOf bufferOf dueOf bankNext trackNext afterPacket trackRetired afterRetire afterData after maxUpTo bounds distances deeds retireTraits checkOf checks judged placedAt under earliest leastFrom freshPlanner slot sent flushed flushedWhile closed closedUpTo reached plannedRead loaded written plannedWrite turned plannedRefresh plannedWait plannedDrain stepsOf planned inTime timely outcomeOf outcomeBy planOutcome isMade draftBy planNext planRecords listed storeLength dualoctAt dualoct dualoctBytes governs masked onesUpTo freshModel openRow retireMask retiredWrite storeNext refrBy refrNext bytesNext secondNext modelNext readOf retireAnswer passedAnswer recordAnswer readAnswer stepAnswer isTaken modelBy stepModel storeBy stepStore bytesRead bytesBy memoryBy answersBy memoryOf answersOf flatNext flatAnswer flatAfter flatAnswers masksBy masksOf flatMask flatMasks maskAt masksAfter onesOf started returned leftBy isFull fails writtenBy calledOn called driven fed
 result = (refl, refl, refl, refl, refl, refl, refl, refl, refl, refl)

@@ -36,7 +36,7 @@ unfolding layout
 tags-part n =
     let p : ℕ → List ℕ = λ k. plane 4 (n .figure k) 32 in
     let xs : List ℕ = p 0 ++ (p 1 ++ (p 2 ++ (p 3 ++ p 4))) in
-    let r : List ℕ = rest (n .last 0) (n .last 1) (n .last 2) (n .last 3) (n .last 4) (n .count) (n .write) (n .tail) in
+    let r : List ℕ = rest (n .last 0) (n .last 1) (n .last 2) (n .last 3) (n .last 4) (n .count) (n .write) (n .second) (n .tail) in
     let k : length xs ≡ 640 = simp (length-append, length-plane) in
     let g : length (plane 2 (n .tag) 32) ≡ 64 = length-plane 2 (n .tag) 32 in
     let join : body (n .figure 0) (n .figure 1) (n .figure 2) (n .figure 3) (n .figure 4) (n .tag) r ≡ xs ++ (plane 2 (n .tag) 32 ++ r) = simp append-assoc in
@@ -53,14 +53,14 @@ tag-at n x l f = ap number (plane-at (layout n) 640 2 (n .tag) 32 x (tags-part n
 -- these numbers with other tags and other instants of PRER
 abbrev shut : Numbers → (ℕ → ℕ) → (ℕ → ℕ) → Numbers
 shut n tag pre =
-    record { figure = λ j y. cond (eqb j 2) (pre y) (n .figure j y); tag = tag; last = n .last; count = n .count; write = n .write; tail = n .tail }
+    record { figure = λ j y. cond (eqb j 2) (pre y) (n .figure j y); tag = tag; last = n .last; count = n .count; write = n .write; second = n .second; tail = n .tail }
 
 module _ (n : Numbers) (v : ℕ) where
   shut-stored : (tag pre : ℕ → ℕ) (x : ℕ) {b : List ℕ} → x < 32 → b ≡ layout (shut n tag pre) → shutStored b x v ≡ layout (shut n (with tag x 0) (with pre x v))
   unfolding shutStored
   shut-stored tag pre x l e =
       on (640 + 2 * x) (bytes 2 0) (on (256 + 4 * x) (bytes 4 v) e (put-pre _ v x l)) (put-tag _ 0 x l)
-      ∙ layout-ext _ (shut n (with tag x 0) (with pre x v)) (λ i m. refl) (λ i m. refl) (λ i m. refl) (λ i m. refl) (λ i m. refl) (λ i m. refl) refl refl refl refl refl refl refl refl
+      ∙ layout-ext _ (shut n (with tag x 0) (with pre x v)) (λ i m. refl) (λ i m. refl) (λ i m. refl) (λ i m. refl) (λ i m. refl) (λ i m. refl) refl refl refl refl refl refl refl refl refl
 
   -- where a bank's tag is in its two bytes
   side-stored : (tag pre : ℕ → ℕ) (x : ℕ) (b : List ℕ) → (x < 32 → tag x < 256 ^ 2) → b ≡ layout (shut n tag pre)
@@ -162,8 +162,8 @@ module _ (cx : Context) (ch : Channel) (q : List ℕ) (e : length (ch .banks) �
   unfolding numbersOf figureOf
   own-closed =
       shut-stored (numbersOf ch q) (t - 3) tags pres x l
-      (by-numbers ch q i ∙ layout-ext _ (shut (numbersOf ch q) tags pres) (λ y m. refl) (λ y m. refl) (λ y m. refl) (λ y m. refl) (λ y m. refl) (λ y m. refl) refl refl refl refl refl refl refl refl)
-      ∙ layout-ext _ (closed (λ y. eqb y x)) (λ y m. refl) (λ y m. refl) (λ y m. own-pre tags pres x (t - 3) y) (λ y m. refl) (λ y m. refl) (λ y m. refl) refl refl refl refl refl refl refl refl
+      (by-numbers ch q i ∙ layout-ext _ (shut (numbersOf ch q) tags pres) (λ y m. refl) (λ y m. refl) (λ y m. refl) (λ y m. refl) (λ y m. refl) (λ y m. refl) refl refl refl refl refl refl refl refl refl)
+      ∙ layout-ext _ (closed (λ y. eqb y x)) (λ y m. refl) (λ y m. refl) (λ y m. own-pre tags pres x (t - 3) y) (λ y m. refl) (λ y m. refl) (λ y m. refl) refl refl refl refl refl refl refl refl refl
 
   small : (set : Bool) (n : ℕ) → n < 256 ^ 2 → cond set 0 n < 256 ^ 2
   small true n h = omega arith
@@ -172,7 +172,7 @@ module _ (cx : Context) (ch : Channel) (q : List ℕ) (e : length (ch .banks) �
   side-closed : (set : ℕ → Bool) (y : ℕ) (b : List ℕ) → b ≡ layout (closed set) → sideStored b y (t - 3) ≡ layout (closed (λ z. set z || eqb z y))
   side-closed set y b h =
       side-stored (numbersOf ch q) (t - 3) (tagBy tags pres x (t - 3) set) (preBy tags pres x (t - 3) set) y b (λ m. small (set y) (tags y) (fits y m)) h
-      ∙ layout-ext _ (closed (λ z. set z || eqb z y)) (λ z m. refl) (λ z m. refl) (λ z m. side-pre tags pres x (t - 3) set y z m) (λ z m. refl) (λ z m. refl) (λ z m. side-tag tags pres x (t - 3) set y z m) refl refl refl refl refl refl refl refl
+      ∙ layout-ext _ (closed (λ z. set z || eqb z y)) (λ z m. refl) (λ z m. refl) (λ z m. side-pre tags pres x (t - 3) set y z m) (λ z m. refl) (λ z m. refl) (λ z m. side-tag tags pres x (t - 3) set y z m) refl refl refl refl refl refl refl refl refl
 
   near-pre : (y : ℕ) → y < 32 → preBy tags pres x (t - 3) (λ z. (eqb z x || eqb z low) || eqb z high) y
       ≡ cond (eqb y x || (near cx x y && not (isClosed (stateOf ch y)))) (record { 0 = t }) (trackOf ch y .pre) .0 - 3
@@ -193,7 +193,7 @@ module _ (cx : Context) (ch : Channel) (q : List ℕ) (e : length (ch .banks) �
   prer-all-stored =
       row-stored _ (t - 3) (on 716 (bytes 4 (t - 3)) all-closed (put-716 _ (t - 3)))
       ∙ layout-ext _ (nextNumbers cx ch (RowAt (record { 0 = t }) (Prer x)) q) (λ y m. refl) (λ y m. refl) near-pre (λ y m. refl) (λ y m. refl) near-tag refl refl refl refl refl
-      (rw (buffer-waiting (ch .buffer), d)) (rw (buffer-waiting (ch .buffer))) refl
+      (rw (buffer-waiting (ch .buffer), d)) (rw (buffer-waiting (ch .buffer))) (rw (buffer-waiting (ch .buffer))) refl
       ∙ sym (next-bytes cx ch (RowAt (record { 0 = t }) (Prer x)) q e same-write)
 
   pub refp-all-stored : prerStored (channelBytes ch ++ q) x low high (t - 3) ≡ channelBytes (after cx ch (RowAt (record { 0 = t }) (Refp x))) ++ q
@@ -201,5 +201,5 @@ module _ (cx : Context) (ch : Channel) (q : List ℕ) (e : length (ch .banks) �
   refp-all-stored =
       row-stored _ (t - 3) (on 716 (bytes 4 (t - 3)) all-closed (put-716 _ (t - 3)))
       ∙ layout-ext _ (nextNumbers cx ch (RowAt (record { 0 = t }) (Refp x)) q) (λ y m. refl) (λ y m. refl) near-pre (λ y m. refl) (λ y m. refl) near-tag refl refl refl refl refl
-      (rw (buffer-waiting (ch .buffer), d)) (rw (buffer-waiting (ch .buffer))) refl
+      (rw (buffer-waiting (ch .buffer), d)) (rw (buffer-waiting (ch .buffer))) (rw (buffer-waiting (ch .buffer))) refl
       ∙ sym (next-bytes cx ch (RowAt (record { 0 = t }) (Refp x)) q e same-write)

@@ -13,7 +13,7 @@ use Rattle.settings.specs.declared.PacketAt.{PacketAt}
 use Rattle.spec_rules.specs.declared.LastInstants.{LastInstants}
 use Rattle.spec_rules.specs.declared.Write.{Write}
 use Rattle.spec_rules.specs.declared.Buffer.{Buffer}
-use Rattle.spec_rules.specs.declared.Buffer.the-variants.{Empty, One}
+use Rattle.spec_rules.specs.declared.Buffer.the-variants.{Empty, One, Two}
 use Rattle.spec_rules.specs.declared.Channel.{Channel}
 use Rattle.spec_rules.specs.Neighbour.{bankCount}
 use Rattle.spec_rules.specs.Channel.{trackOf}
@@ -41,7 +41,8 @@ length-write w = simp (length-append, length-bytes)
 pub length-buffer : (b : Buffer) (due : Bool) → length (bufferBytes b due) ≡ 24
 unfolding bufferBytes
 length-buffer Empty due = simp (length-append, length-count, length-zeros)
-length-buffer (One w) due = simp (length-append, length-count, length-write, length-zeros)
+length-buffer (One x) due = simp (length-append, length-count, length-write, length-zeros)
+length-buffer (Two x y) due = simp (length-append, length-count, length-write)
 
 pub channel-length : (ch : Channel) → length (channelBytes ch) ≡ 752
 unfolding channelBytes
@@ -67,6 +68,7 @@ Bytes-buffer : (b : Buffer) (due : Bool) → Bytes (bufferBytes b due)
 unfolding bufferBytes
 Bytes-buffer Empty due = Bytes-append (countBytes 0 due) _ (Bytes-count 0 due) (Bytes-zeros 16)
 Bytes-buffer (One w) due = Bytes-append (countBytes 1 due) _ (Bytes-count 1 due) (Bytes-append (writeBytes w) _ (Bytes-write w) (Bytes-zeros 8))
+Bytes-buffer (Two x y) due = Bytes-append (countBytes 2 due) _ (Bytes-count 2 due) (Bytes-append (writeBytes x) _ (Bytes-write x) (Bytes-write y))
 
 Bytes-lasts : (l : LastInstants) → Bytes (lastsBytes l)
 unfolding lastsBytes

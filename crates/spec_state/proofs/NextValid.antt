@@ -233,7 +233,7 @@ OneWrite q (some w) = q w ≡ true
 all-joined : (q : Write → Bool) (o : Option Write) (ws : List Write) → OneWrite q o → allWrites q ws ≡ true → allWrites q (joined o ws) ≡ true
 all-joined q none ws i h = h
 all-joined q (some w) [] i h = rw i
-all-joined q (some w) (x ∷ ws) i h = rw (and-left (q x) _ h) (all-joined q (some w) ws i (and-right (q x) _ h))
+all-joined q (some w) (x ∷ ws) i h = rw (and-left (q x) _ h, i)
 
 -- where a test on each waiting write goes over to another, and holds of the one that joins
 pub all-next : (cx : Context) (r : Record) (q : Write → Bool) (ws : List Write) → OneWrite q (loads r) → allWrites q ws ≡ true → allWrites q (waitingNext cx r ws) ≡ true

@@ -25,7 +25,7 @@ use Rattle.spec_rules.specs.declared.BankTrack.{BankTrack}
 use Rattle.spec_rules.specs.declared.LastInstants.{LastInstants}
 use Rattle.spec_rules.specs.declared.Write.{Write}
 use Rattle.spec_rules.specs.declared.Buffer.{Buffer}
-use Rattle.spec_rules.specs.declared.Buffer.the-variants.{Empty, One}
+use Rattle.spec_rules.specs.declared.Buffer.the-variants.{Empty, One, Two}
 use Rattle.spec_rules.specs.declared.Channel.{Channel}
 use Rattle.spec_rules.specs.Neighbour.{bankCount, Context}
 use Rattle.spec_rules.specs.History.{anyWrite, allWrites}
@@ -185,7 +185,7 @@ due-back true = (refl, refl)
 due-back false = (refl, refl)
 
 -- the number of writes that wait, and whether data are due
-count-back : (b : List ℕ) (n : ℕ) (due : Bool) (rest : List ℕ) → 752 ≤ length b → n < 2 → part b 728 24 ≡ countBytes n due ++ rest
+count-back : (b : List ℕ) (n : ℕ) (due : Bool) (rest : List ℕ) → 752 ≤ length b → n < 3 → part b 728 24 ≡ countBytes n due ++ rest
     → (getD b 728 0 ≡ n) × (eqb (getD b 729 0) 1 ≡ due) × (leb (getD b 729 0) 1 ≡ true) × (zeroPart b 730 6 ≡ true) × (part b 736 16 ≡ rest)
 unfolding countBytes
 count-back b n due rest l m h =
@@ -199,21 +199,23 @@ count-back b n due rest l m h =
     below true = omega arith
     below false = omega arith
 
-write-back : (cx : Context) (b : List ℕ) (w : Write) → 752 ≤ length b → cx .settings .columns ≤ 128 → writeValid cx w ≡ true → part b 736 8 ≡ writeBytes w
-    → (writeIn b 736 ≡ w) × (zeroPart b 738 2 ≡ true)
+write-back : (cx : Context) (b : List ℕ) (at : ℕ) (w : Write) → at + 8 ≤ length b → cx .settings .columns ≤ 128 → writeValid cx w ≡ true → part b at 8 ≡ writeBytes w
+    → (writeIn b at ≡ w) × (zeroPart b (at + 2) 2 ≡ true)
 unfolding writeBytes writeValid bankCount
-write-back cx b w l m v h =
+write-back cx b at w l m v h =
     let rest = and-right (ltb (w .bank) 32) _ v in
     let bank : w .bank < 32 = ltb-true (w .bank) 32 (and-left (ltb (w .bank) 32) _ v) in
     let column : w .column < cx .settings .columns = ltb-true _ _ (and-left (ltb (w .column) (cx .settings .columns)) _ rest) in
-    let at : isInstant (w .at .0) ≡ true = and-right (ltb (w .column) (cx .settings .columns)) _ rest in
-    let p1 = part-split b 736 1 7 (bytes 1 (w .bank)) (bytes 1 (w .column) ++ (bytes 2 0 ++ instantBytes (w .at))) (length-bytes 1 (w .bank)) h in
-    let p2 = part-split b 737 1 6 (bytes 1 (w .column)) (bytes 2 0 ++ instantBytes (w .at)) (length-bytes 1 (w .column)) (p1 .1) in
-    let p3 = part-split b 738 2 4 (bytes 2 0) (instantBytes (w .at)) (length-bytes 2 0) (p2 .1) in (
+    let early : isInstant (w .at .0) ≡ true = and-right (ltb (w .column) (cx .settings .columns)) _ rest in
+    let p1 = part-split b at 1 7 (bytes 1 (w .bank)) (bytes 1 (w .column) ++ (bytes 2 0 ++ instantBytes (w .at))) (length-bytes 1 (w .bank)) h in
+    let p2 = part-split b (at + 1) 1 6 (bytes 1 (w .column)) (bytes 2 0 ++ instantBytes (w .at)) (length-bytes 1 (w .column)) (p1 .1) in
+    let second : at + 1 + 1 ≡ at + 2 = omega arith in
+    let fourth : at + 2 + 2 ≡ at + 4 = omega arith in
+    let p3 = part-split b (at + 2) 2 4 (bytes 2 0) (instantBytes (w .at)) (length-bytes 2 0) (rw second at (p2 .1)) in (
       rw (
-        byte-back b 736 (w .bank) (p1 .0) (omega arith) (omega arith),
-        byte-back b 737 (w .column) (p2 .0) (omega arith) (omega arith),
-        instant-back b 740 (w .at) (p3 .1) (rw at (or-true (eqb (w .at .0) 0))),
+        byte-back b at (w .bank) (p1 .0) (omega arith) (omega arith),
+        byte-back b (at + 1) (w .column) (p2 .0) (omega arith) (omega arith),
+        instant-back b (at + 4) (w .at) (rw fourth at (p3 .1)) (rw early (or-true (eqb (w .at .0) 0))),
       ),
       rw (p3 .0, number-bytes 2 0 (omega arith)),
     )
@@ -229,8 +231,15 @@ buffer-back cx b Empty due l m v z h =
 buffer-back cx b (One w) due l m v z h =
     let q = count-back b 1 due (writeBytes w ++ zeros 8) l (omega arith) h in
     let p = part-split b 736 8 8 (writeBytes w) (zeros 8) (length-write w) (q .4) in
-    let one = write-back cx b w l m (and-left (writeValid cx w) _ v) (p .0) in
+    let one = write-back cx b 736 w (omega arith) m (and-left (writeValid cx w) _ v) (p .0) in
     (rw (q .0, one .0), q .1, rw (z, q .0, q .2, q .3, one .1, zero-back b 744 8 (p .1)))
+buffer-back cx b (Two x y) due l m v z h =
+    let q = count-back b 2 due (writeBytes x ++ writeBytes y) l (omega arith) h in
+    let p = part-split b 736 8 8 (writeBytes x) (writeBytes y) (length-write x) (q .4) in
+    let rest = and-right (writeValid cx x) _ v in
+    let one = write-back cx b 736 x (omega arith) m (and-left (writeValid cx x) _ v) (p .0) in
+    let other = write-back cx b 744 y (omega arith) m (and-left (writeValid cx y) _ rest) (p .1) in
+    (rw (q .0, one .0, other .0), q .1, rw (z, q .0, q .2, q .3, one .1, other .1))
 
 -- what a state must be for that: instants and open rows in range, and a waiting write that is one
 pub record Kept (cx : Context) (ch : Channel) : Type 0 where
@@ -300,12 +309,14 @@ lasts-in b w l z =
     (part-both b 712 4 12 _ _ (instant-in b 712 w (omega arith))
     (part-both b 716 4 8 _ _ (instant-in b 716 w (omega arith)) (part-both b 720 4 4 _ _ (instant-in b 720 w (omega arith)) (zero-in b 724 4 w (omega arith) z))))))
 
-write-in : (b : List ℕ) → Bytes b → 752 ≤ length b → zeroPart b 738 2 ≡ true → writeBytes (writeIn b 736) ≡ part b 736 8
+write-in : (b : List ℕ) (at : ℕ) → Bytes b → at + 8 ≤ length b → zeroPart b (at + 2) 2 ≡ true → writeBytes (writeIn b at) ≡ part b at 8
 unfolding writeBytes
-write-in b w l z =
-    part-both b 736 1 7 (bytes 1 (getD b 736 0)) _ (one-byte b 736 w (omega arith))
-    (part-both b 737 1 6 (bytes 1 (getD b 737 0)) _ (one-byte b 737 w (omega arith))
-    (part-both b 738 2 4 (bytes 2 0) _ (bytes-zero 2 ∙ zero-in b 738 2 w (omega arith) z) (instant-in b 740 w (omega arith))))
+write-in b at w l z =
+    let second : at + 1 + 1 ≡ at + 2 = omega arith in
+    let fourth : at + 2 + 2 ≡ at + 4 = omega arith in
+    part-both b at 1 7 (bytes 1 (getD b at 0)) _ (one-byte b at w (omega arith))
+    (part-both b (at + 1) 1 6 (bytes 1 (getD b (at + 1) 0)) _ (one-byte b (at + 1) w (omega arith))
+    (rw second (part-both b (at + 2) 2 4 (bytes 2 0) _ (bytes-zero 2 ∙ zero-in b (at + 2) 2 w (omega arith) z) (rw fourth (instant-in b (at + 4) w (omega arith))))))
 
 count-in : (b : List ℕ) (n : ℕ) → Bytes b → 752 ≤ length b → getD b 728 0 ≡ n → leb (getD b 729 0) 1 ≡ true → zeroPart b 730 6 ≡ true
     → countBytes n (eqb (getD b 729 0) 1) ≡ part b 728 8
@@ -322,23 +333,23 @@ count-in b n w l e d z =
 -- what `channelSpare` says, test by test
 record Spare (b : List ℕ) : Type 0 where
   after-lasts : zeroPart b 724 4 ≡ true
-  count : leb (getD b 728 0) 1 ≡ true
+  count : leb (getD b 728 0) 2 ≡ true
   due : leb (getD b 729 0) 1 ≡ true
   after-due : zeroPart b 730 6 ≡ true
   first : cond (eqb (getD b 728 0) 0) (zeroPart b 736 8) (zeroPart b 738 2) ≡ true
-  second : zeroPart b 744 8 ≡ true
+  second : cond (leb (getD b 728 0) 1) (zeroPart b 744 8) (zeroPart b 746 2) ≡ true
 
 spare-tests : (b : List ℕ) → channelSpare b ≡ true → Spare b
 unfolding channelSpare
 spare-tests b e =
-    let counts : Bool = leb (getD b 728 0) 1 && (leb (getD b 729 0) 1 && zeroPart b 730 6) in
+    let counts : Bool = leb (getD b 728 0) 2 && (leb (getD b 729 0) 1 && zeroPart b 730 6) in
     let rest = and-right (zeroPart b 724 4) _ e in
     let c = and-left counts _ rest in
-    let d = and-right (leb (getD b 728 0) 1) _ c in
+    let d = and-right (leb (getD b 728 0) 2) _ c in
     let f = and-right counts _ rest in
     record {
       after-lasts = and-left (zeroPart b 724 4) _ e;
-      count = and-left (leb (getD b 728 0) 1) _ c;
+      count = and-left (leb (getD b 728 0) 2) _ c;
       due = and-left (leb (getD b 729 0) 1) _ d;
       after-due = and-right (leb (getD b 729 0) 1) _ d;
       first = and-left (cond (eqb (getD b 728 0) 0) (zeroPart b 736 8) (zeroPart b 738 2)) _ f;
@@ -347,19 +358,28 @@ spare-tests b e =
 
 buffer-in : (b : List ℕ) → Bytes b → 752 ≤ length b → Spare b → part b 728 24 ≡ bufferBytes (bufferIn b) (eqb (getD b 729 0) 1)
 unfolding bufferIn bufferBytes
-buffer-in b w l k = go (eqb (getD b 728 0) 0) refl (k .first)
+buffer-in b w l k = go (eqb (getD b 728 0) 0) refl (eqb (getD b 728 0) 1) refl
   where
     due : Bool
     due = eqb (getD b 729 0) 1
 
-    go : (q : Bool) → eqb (getD b 728 0) 0 ≡ q → cond q (zeroPart b 736 8) (zeroPart b 738 2) ≡ true → part b 728 24 ≡ bufferBytes (cond q Empty (One (writeIn b 736))) due
-    go true e f =
-        sym (part-both b 728 8 16 (countBytes 0 due) (zeros 16) (count-in b 0 w l (eqb-true _ 0 e) (k .due) (k .after-due))
-        (part-both b 736 8 8 (zeros 8) (zeros 8) (zero-in b 736 8 w (omega arith) f) (zero-in b 744 8 w (omega arith) (k .second))))
-    go false e f =
-        let one : getD b 728 0 ≡ 1 = omega (arith, leb-true (getD b 728 0) 1 (k .count), eqb-false (getD b 728 0) 0 e) in
-        sym (part-both b 728 8 16 (countBytes 1 due) (writeBytes (writeIn b 736) ++ zeros 8) (count-in b 1 w l one (k .due) (k .after-due))
-        (part-both b 736 8 8 (writeBytes (writeIn b 736)) (zeros 8) (write-in b w l f) (zero-in b 744 8 w (omega arith) (k .second))))
+    counted : (n : ℕ) → getD b 728 0 ≡ n → countBytes n due ≡ part b 728 8
+    counted n e = count-in b n w l e (k .due) (k .after-due)
+
+    go : (z : Bool) → eqb (getD b 728 0) 0 ≡ z → (o : Bool) → eqb (getD b 728 0) 1 ≡ o
+        → part b 728 24 ≡ bufferBytes (cond z Empty (cond o (One (writeIn b 736)) (Two (writeIn b 736) (writeIn b 744)))) due
+    go true e o f =
+        let none : getD b 728 0 ≡ 0 = eqb-true _ 0 e in
+        sym (part-both b 728 8 16 (countBytes 0 due) (zeros 16) (counted 0 none)
+        (part-both b 736 8 8 (zeros 8) (zeros 8) (zero-in b 736 8 w (omega arith) (rw none at (k .first))) (zero-in b 744 8 w (omega arith) (rw none at (k .second)))))
+    go false e true f =
+        let one : getD b 728 0 ≡ 1 = eqb-true _ 1 f in
+        sym (part-both b 728 8 16 (countBytes 1 due) (writeBytes (writeIn b 736) ++ zeros 8) (counted 1 one)
+        (part-both b 736 8 8 (writeBytes (writeIn b 736)) (zeros 8) (write-in b 736 w (omega arith) (rw one at (k .first))) (zero-in b 744 8 w (omega arith) (rw one at (k .second)))))
+    go false e false f =
+        let both : getD b 728 0 ≡ 2 = omega (arith, leb-true (getD b 728 0) 2 (k .count), eqb-false (getD b 728 0) 0 e, eqb-false (getD b 728 0) 1 f) in
+        sym (part-both b 728 8 16 (countBytes 2 due) (writeBytes (writeIn b 736) ++ writeBytes (writeIn b 744)) (counted 2 both)
+        (part-both b 736 8 8 (writeBytes (writeIn b 736)) (writeBytes (writeIn b 744)) (write-in b 736 w (omega arith) (rw both at (k .first))) (write-in b 744 w (omega arith) (rw both at (k .second)))))
 
 pub channel-encode-decode : (b : List ℕ) → Bytes b → 752 ≤ length b → channelSpare b ≡ true → channelBytes (channelIn b) ≡ part b 0 752
 unfolding channelIn trackIn

@@ -68,7 +68,7 @@ WriteStamp (some w) = isInstant (w .at .0) ≡ true
 stamps-joined : (o : Option Write) (ws : List Write) → WriteStamp o → WriteStamps ws → WriteStamps (joined o ws)
 stamps-joined none ws i k = k
 stamps-joined (some w) [] i k = (i, tt)
-stamps-joined (some w) (x ∷ ws) i k = (k .0, stamps-joined (some w) ws i (k .1))
+stamps-joined (some w) (x ∷ ws) i k = (k .0, (i, tt))
 
 loads-stamp : (r : Record) → isInstant (instant r) ≡ true → WriteStamp (loads r)
 unfolding loads instant

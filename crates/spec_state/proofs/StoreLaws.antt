@@ -22,7 +22,7 @@ use Rattle.spec_rules.specs.declared.Bank.the-variants.{Closed, Open, Refresh}
 use Rattle.spec_rules.specs.declared.BankTrack.{BankTrack}
 use Rattle.spec_rules.specs.declared.Write.{Write}
 use Rattle.spec_rules.specs.declared.Buffer.{Buffer}
-use Rattle.spec_rules.specs.declared.Buffer.the-variants.{Empty, One}
+use Rattle.spec_rules.specs.declared.Buffer.the-variants.{Empty, One, Two}
 use Rattle.spec_rules.specs.declared.Channel.{Channel}
 use Rattle.spec_rules.specs.Neighbour.{bankCount, Context, near}
 use Rattle.spec_rules.specs.Packets.{traits, rowTraits, colTraits, instant}
@@ -31,7 +31,7 @@ use Rattle.spec_rules.specs.Channel.{idle, trackOf, stateOf, waitingOf, bufferO
 use Rattle.spec_rules.proofs.ListLaws.{getD-imap}
 use Rattle.spec_rules.proofs.TrackLaws.{buffer-waiting}
 use Rattle.spec_state.specs.ChannelBytes.{bankTag, plane, banksBytes, lastsBytes, countBytes, writeBytes, bufferBytes, channelBytes}
-use Rattle.spec_state.specs.form.Layout.{body, rest, Numbers, layout, figureOf, lastOfChannel, countNumber, writeWord, writeNumber, atLast, atCount, atWrite, atTag, atFigure, numbersOf}
+use Rattle.spec_state.specs.form.Layout.{body, rest, Numbers, layout, figureOf, lastOfChannel, countWord, countNumber, writeWord, wordOf, writeNumber, secondNumber, atLast, atCount, atWrite, atTag, atFigure, numbersOf}
 use Rattle.spec_state.specs.form.Stores.{put, rowStored, colStored, actStored, refaStored, closeStored, rdStored, retireStored, emptyStored, writeStored}
 use Rattle.spec_state.proofs.RoundTrip.{bytes-zero}
 use Rattle.spec_state.proofs.LayoutLaws.{put-opened, put-act, put-pre, put-rd, put-retire, put-tag, put-704, put-708, put-712, put-716, put-720, put-count, put-write, layout-ext}
@@ -60,20 +60,33 @@ write-word x c v l k =
     let i : 256 * v / 256 ≡ v = omega arith in
     rw (a, b, d, e, f, g, h, i)
 
--- a waiting write whose bank and column are bytes
+-- waiting writes whose banks and columns are bytes
+abbrev pub ByBytes : Write → Type 0
+ByBytes w = (w .bank < 256) × (w .column < 256)
+
 abbrev pub WriteIn : Buffer → Type 0
 WriteIn Empty = Unit {0}
-WriteIn (One w) = (w .bank < 256) × (w .column < 256)
+WriteIn (One x) = ByBytes x
+WriteIn (Two x y) = (ByBytes x) × (ByBytes y)
 
 pub below : (due : Bool) → cond due 1 0 < 256
 below true = omega arith
 below false = omega arith
 
-buffer-numbers : (buffer : Buffer) (due : Bool) → WriteIn buffer → bufferBytes buffer due ≡ bytes 8 (countNumber buffer due) ++ (bytes 8 (writeNumber buffer) ++ zeros 8)
-unfolding bufferBytes countBytes writeBytes countNumber writeNumber
-buffer-numbers Empty due i = rw (count-word 0 (cond due 1 0) (omega arith) (below due), bytes-zero 8) (simp append-assoc)
-buffer-numbers (One w) due i =
-    rw (count-word 1 (cond due 1 0) (omega arith) (below due), write-word (w .bank) (w .column) (w .at .0 - 3) (i .0) (i .1)) (simp append-assoc)
+write-numbers : (w : Write) → ByBytes w → writeBytes w ≡ bytes 8 (wordOf w)
+unfolding writeBytes
+write-numbers w i = sym (write-word (w .bank) (w .column) (w .at .0 - 3) (i .0) (i .1))
+
+count-numbers : (n : ℕ) (due : Bool) → n < 256 → countBytes n due ≡ bytes 8 (countWord n due)
+unfolding countBytes
+count-numbers n due l = sym (count-word n (cond due 1 0) l (below due))
+
+buffer-numbers : (buffer : Buffer) (due : Bool) → WriteIn buffer
+    → bufferBytes buffer due ≡ bytes 8 (countNumber buffer due) ++ (bytes 8 (writeNumber buffer) ++ bytes 8 (secondNumber buffer))
+unfolding bufferBytes countNumber writeNumber secondNumber
+buffer-numbers Empty due i = rw (count-numbers 0 due (omega arith), bytes-zero 8) refl
+buffer-numbers (One x) due i = rw (count-numbers 1 due (omega arith), write-numbers x i, bytes-zero 8) refl
+buffer-numbers (Two x y) due i = rw (count-numbers 2 due (omega arith), write-numbers x (i .0), write-numbers y (i .1)) refl
 
 pub by-numbers : (ch : Channel) (q : List ℕ) → WriteIn (ch .buffer) → channelBytes ch ++ q ≡ layout (numbersOf ch q)
 unfolding channelBytes banksBytes lastsBytes bankCount layout numbersOf figureOf lastOfChannel
@@ -91,10 +104,11 @@ module _ (cx : Context) (ch : Channel) (r : Record) (q : List ℕ) where
         last = λ i. lastOfChannel (afterPacket cx ch r .lasts) i - 3;
         count = countNumber (afterPacket cx ch r .buffer) (afterPacket cx ch r .due);
         write = writeNumber (afterPacket cx ch r .buffer);
+        second = secondNumber (afterPacket cx ch r .buffer);
         tail = q;
       }
 
-  track-next : length (ch .banks) ≡ 32 → (i : ℕ) → i < 32 → trackOf (afterPacket cx ch r) i ≡ trackNext cx ch r i (trackOf ch i)
+  pub track-next : length (ch .banks) ≡ 32 → (i : ℕ) → i < 32 → trackOf (afterPacket cx ch r) i ≡ trackNext cx ch r i (trackOf ch i)
   unfolding afterPacket
   track-next e i m = getD-imap (trackNext cx ch r) (ch .banks) i idle idle (omega arith)
 
@@ -109,7 +123,7 @@ module _ (cx : Context) (ch : Channel) (r : Record) (q : List ℕ) where
       (λ i m. ap (λ (k : BankTrack). figureOf k 3 - 3) (track-next e i m))
       (λ i m. ap (λ (k : BankTrack). figureOf k 4 - 3) (track-next e i m))
       (λ i m. ap (λ (k : BankTrack). bankTag (k .bank)) (track-next e i m))
-      refl refl refl refl refl refl refl refl
+      refl refl refl refl refl refl refl refl refl
 
 -- a number that a test picks
 pub pick : (q : Bool) (t u : PacketAt) → cond q (t .0 - 3) (u .0 - 3) ≡ cond q t u .0 - 3
@@ -128,7 +142,7 @@ pub row-stored : (n : Numbers) (v : ℕ) {b : List ℕ} → b ≡ layout n → r
 unfolding rowStored
 row-stored n v e = on 708 (bytes 4 v) (on 704 (bytes 4 v) e (put-704 n v)) (put-708 _ v)
 
-col-stored : (n : Numbers) (v : ℕ) {b : List ℕ} → b ≡ layout n → colStored b v ≡ layout (atLast 2 v (atLast 0 v n))
+pub col-stored : (n : Numbers) (v : ℕ) {b : List ℕ} → b ≡ layout n → colStored b v ≡ layout (atLast 2 v (atLast 0 v n))
 unfolding colStored
 col-stored n v e = on 712 (bytes 4 v) (on 704 (bytes 4 v) e (put-704 n v)) (put-712 _ v)
 
@@ -150,7 +164,7 @@ module _ (cx : Context) (ch : Channel) (q : List ℕ) (e : length (ch .banks) �
       (λ i m. pick (eqb i x) (record { 0 = t }) (trackOf ch i .opened))
       (λ i m. pick (eqb i x) (record { 0 = t }) (trackOf ch i .act))
       (λ i m. refl) (λ i m. refl) (λ i m. refl) (λ i m. tag-pick (eqb i x) (Open row) (trackOf ch i .bank)) refl refl refl refl refl
-      (rw (buffer-waiting (ch .buffer), d)) (rw (buffer-waiting (ch .buffer))) refl
+      (rw (buffer-waiting (ch .buffer), d)) (rw (buffer-waiting (ch .buffer))) (rw (buffer-waiting (ch .buffer))) refl
       ∙ sym (next-bytes cx ch (row-record (Act x row)) q e same-write)
 
   pub refa-stored : refaStored (channelBytes ch ++ q) x (t - 3) ≡ channelBytes (after cx ch (row-record (Refa x))) ++ q
@@ -161,7 +175,7 @@ module _ (cx : Context) (ch : Channel) (q : List ℕ) (e : length (ch .banks) �
       ∙ layout-ext _ (nextNumbers cx ch (row-record (Refa x)) q)
       (λ i m. pick (eqb i x) (record { 0 = t }) (trackOf ch i .opened))
       (λ i m. refl) (λ i m. refl) (λ i m. refl) (λ i m. refl) (λ i m. tag-pick (eqb i x) Refresh (trackOf ch i .bank)) refl refl refl refl refl
-      (rw (buffer-waiting (ch .buffer), d)) (rw (buffer-waiting (ch .buffer))) refl
+      (rw (buffer-waiting (ch .buffer), d)) (rw (buffer-waiting (ch .buffer))) (rw (buffer-waiting (ch .buffer))) refl
       ∙ sym (next-bytes cx ch (row-record (Refa x)) q e same-write)
 
   -- PRER and REFP to a bank whose neighbours are closed: what it closes is its bank alone
@@ -194,7 +208,7 @@ module _ (cx : Context) (ch : Channel) (q : List ℕ) (e : length (ch .banks) �
       ∙ layout-ext _ (nextNumbers cx ch (row-record (Prer x)) q) (λ i m. refl) (λ i m. refl)
       (λ i m. rw (only-own shut i m) (pick (eqb i x) (record { 0 = t }) (trackOf ch i .pre)))
       (λ i m. refl) (λ i m. refl) (tag-own shut) refl refl refl refl refl
-      (rw (buffer-waiting (ch .buffer), d)) (rw (buffer-waiting (ch .buffer))) refl
+      (rw (buffer-waiting (ch .buffer), d)) (rw (buffer-waiting (ch .buffer))) (rw (buffer-waiting (ch .buffer))) refl
       ∙ sym (next-bytes cx ch (row-record (Prer x)) q e same-write)
 
   pub refp-stored : SidesClosed → closeStored (channelBytes ch ++ q) x (t - 3) ≡ channelBytes (after cx ch (row-record (Refp x))) ++ q
@@ -205,7 +219,7 @@ module _ (cx : Context) (ch : Channel) (q : List ℕ) (e : length (ch .banks) �
       ∙ layout-ext _ (nextNumbers cx ch (row-record (Refp x)) q) (λ i m. refl) (λ i m. refl)
       (λ i m. rw (only-own shut i m) (pick (eqb i x) (record { 0 = t }) (trackOf ch i .pre)))
       (λ i m. refl) (λ i m. refl) (tag-own shut) refl refl refl refl refl
-      (rw (buffer-waiting (ch .buffer), d)) (rw (buffer-waiting (ch .buffer))) refl
+      (rw (buffer-waiting (ch .buffer), d)) (rw (buffer-waiting (ch .buffer))) (rw (buffer-waiting (ch .buffer))) refl
       ∙ sym (next-bytes cx ch (row-record (Refp x)) q e same-write)
 
   -- RD
@@ -218,85 +232,5 @@ module _ (cx : Context) (ch : Channel) (q : List ℕ) (e : length (ch .banks) �
       ∙ layout-ext _ (nextNumbers cx ch r q) (λ i m. refl) (λ i m. refl) (λ i m. refl)
       (λ i m. pick (eqb i x) (record { 0 = t }) (trackOf ch i .rd))
       (λ i m. refl) (λ i m. refl) refl refl refl refl refl
-      (rw (buffer-waiting (ch .buffer), d)) (rw (buffer-waiting (ch .buffer))) refl
+      (rw (buffer-waiting (ch .buffer), d)) (rw (buffer-waiting (ch .buffer))) (rw (buffer-waiting (ch .buffer))) refl
       ∙ sym (next-bytes cx ch r q e same-write)
-
--- ---- a retire
-
-module _ (ch : Channel) (q : List ℕ) (e : length (ch .banks) ≡ 32) (w : Write) (z : ch .buffer ≡ One w) (t : ℕ) where
-  retired-track : (i : ℕ) → i < 32 → trackOf (afterRetire t (some w) ch) i ≡ trackRetired t w i (trackOf ch i)
-  unfolding afterRetire
-  retired-track i m = getD-imap (trackRetired t w) (ch .banks) i idle idle (omega arith)
-
-  -- the waiting write leaves
-  pub retire-stored : w .bank < 32 → w .column < 256 → ch .due ≡ false
-      → emptyStored (retireStored (channelBytes ch ++ q) (w .bank) (t - 3)) ≡ channelBytes (afterRetire t (some w) ch) ++ q
-  unfolding emptyStored retireStored numbersOf countNumber writeNumber afterRetire trackRetired figureOf lastOfChannel bufferOf waitingOf
-  retire-stored l c d =
-      let i : WriteIn (ch .buffer) = rw z (omega arith, c) in
-      let then : Channel = afterRetire t (some w) ch in
-      on 736 (bytes 8 0) (on 728 (bytes 8 0) (on (512 + 4 * w .bank) (bytes 4 (t - 3)) (by-numbers ch q i) (put-retire _ (t - 3) (w .bank) l)) (put-count _ 0)) (put-write _ 0)
-      ∙ layout-ext _ (numbersOf then q)
-      (λ i m. sym (ap (λ (k : BankTrack). k .opened .0 - 3) (retired-track i m)))
-      (λ i m. sym (ap (λ (k : BankTrack). k .act .0 - 3) (retired-track i m)))
-      (λ i m. sym (ap (λ (k : BankTrack). k .pre .0 - 3) (retired-track i m)))
-      (λ i m. sym (ap (λ (k : BankTrack). k .rd .0 - 3) (retired-track i m)))
-      (λ i m. pick (eqb i (w .bank)) (record { 0 = t }) (trackOf ch i .retire) ∙ sym (ap (λ (k : BankTrack). k .retire .0 - 3) (retired-track i m)))
-      (λ i m. sym (ap (λ (k : BankTrack). bankTag (k .bank)) (retired-track i m)))
-      refl refl refl refl refl
-      (rw (z, d)) (rw z) refl
-      ∙ sym (by-numbers then q (rw z tt))
-
--- ---- NOCOP and WR, once the waiting write has left; D
-
-module _ (cx : Context) (ch : Channel) (q : List ℕ) (e : length (ch .banks) ≡ 32) (z : ch .buffer ≡ Empty) (d : ch .due ≡ false) (t : ℕ) where
-  nothing-in : WriteIn (ch .buffer)
-  nothing-in = rw z tt
-
-  pub nocop-stored : (m : ℕ) → colStored (channelBytes ch ++ q) (t - 3) ≡ channelBytes (afterPacket cx ch (ColAt (record { 0 = t }) (Nocop m))) ++ q
-  unfolding afterPacket trackNext traits colTraits bankNext instant figureOf lastOfChannel loads numbersOf bufferOf waitingOf
-  nocop-stored m =
-      let r : Record = ColAt (record { 0 = t }) (Nocop m) in
-      col-stored _ (t - 3) (by-numbers ch q nothing-in)
-      ∙ layout-ext _ (nextNumbers cx ch r q) (λ i m. refl) (λ i m. refl) (λ i m. refl) (λ i m. refl) (λ i m. refl) (λ i m. refl) refl refl refl refl refl
-      (rw (z, d)) (rw z) refl
-      ∙ sym (next-bytes cx ch r q e (rw z tt))
-
-  module _ (x c m : ℕ) (l : x < 32) (k : c < 256) where
-    abbrev wr-record : Record
-    wr-record = ColAt (record { 0 = t }) (Wr x c m)
-
-    -- where its data are due
-    pub wr-stored : colStored (writeStored (channelBytes ch ++ q) 257 x c (t - 3)) (t - 3) ≡ channelBytes (afterPacket cx ch wr-record) ++ q
-    unfolding writeStored afterPacket trackNext traits colTraits bankNext instant figureOf lastOfChannel loads numbersOf bufferOf waitingOf countNumber writeNumber
-    wr-stored =
-        col-stored _ (t - 3) (on 736 (bytes 8 (writeWord x c (t - 3))) (on 728 (bytes 8 257) (by-numbers ch q nothing-in) (put-count _ 257)) (put-write _ (writeWord x c (t - 3))))
-        ∙ layout-ext _ (nextNumbers cx ch wr-record q) (λ i m. refl) (λ i m. refl) (λ i m. refl) (λ i m. refl) (λ i m. refl) (λ i m. refl) refl refl refl refl refl
-        (rw z) (rw z) refl
-        ∙ sym (next-bytes cx ch wr-record q e (rw z (omega arith, k)))
-
-    -- where its D comes with it
-    pub loaded-stored : colStored (writeStored (channelBytes ch ++ q) 1 x c (t - 3)) (t - 3) ≡ channelBytes (afterData (afterPacket cx ch wr-record)) ++ q
-    unfolding writeStored afterPacket afterData trackNext traits colTraits bankNext instant figureOf lastOfChannel loads numbersOf bufferOf waitingOf countNumber writeNumber
-    loaded-stored =
-        let then : Channel = afterData (afterPacket cx ch wr-record) in
-        col-stored _ (t - 3) (on 736 (bytes 8 (writeWord x c (t - 3))) (on 728 (bytes 8 1) (by-numbers ch q nothing-in) (put-count _ 1)) (put-write _ (writeWord x c (t - 3))))
-        ∙ layout-ext _ (numbersOf then q)
-        (λ i m. sym (ap (λ (k : BankTrack). k .opened .0 - 3) (track-next cx ch wr-record q e i m)))
-        (λ i m. sym (ap (λ (k : BankTrack). k .act .0 - 3) (track-next cx ch wr-record q e i m)))
-        (λ i m. sym (ap (λ (k : BankTrack). k .pre .0 - 3) (track-next cx ch wr-record q e i m)))
-        (λ i m. sym (ap (λ (k : BankTrack). k .rd .0 - 3) (track-next cx ch wr-record q e i m)))
-        (λ i m. sym (ap (λ (k : BankTrack). k .retire .0 - 3) (track-next cx ch wr-record q e i m)))
-        (λ i m. sym (ap (λ (k : BankTrack). bankTag (k .bank)) (track-next cx ch wr-record q e i m)))
-        refl refl refl refl refl
-        (rw z) (rw z) refl
-        ∙ sym (by-numbers then q (rw z (omega arith, k)))
-
-pub data-stored : (ch : Channel) (q : List ℕ) (w : Write) → ch .buffer ≡ One w → w .bank < 256 → w .column < 256
-    → splice (channelBytes ch ++ q) 728 (bytes 8 1) ≡ channelBytes (afterData ch) ++ q
-unfolding afterData numbersOf countNumber writeNumber
-data-stored ch q w z l c =
-    on 728 (bytes 8 1) (by-numbers ch q (rw z (l, c))) (put-count _ 1)
-    ∙ layout-ext _ (numbersOf (afterData ch) q) (λ i m. refl) (λ i m. refl) (λ i m. refl) (λ i m. refl) (λ i m. refl) (λ i m. refl) refl refl refl refl refl
-    (rw z) refl refl
-    ∙ sym (by-numbers (afterData ch) q (rw z (l, c)))

@@ -14,7 +14,7 @@ use Rattle.spec_rules.specs.declared.BankTrack.{BankTrack}
 use Rattle.spec_rules.specs.declared.LastInstants.{LastInstants}
 use Rattle.spec_rules.specs.declared.Write.{Write}
 use Rattle.spec_rules.specs.declared.Buffer.{Buffer}
-use Rattle.spec_rules.specs.declared.Buffer.the-variants.{Empty, One}
+use Rattle.spec_rules.specs.declared.Buffer.the-variants.{Empty, One, Two}
 use Rattle.spec_rules.specs.declared.Channel.{Channel}
 use Rattle.spec_rules.specs.Neighbour.{bankCount}
 use Rattle.spec_rules.specs.Channel.{trackOf}
@@ -64,10 +64,11 @@ countBytes count due = bytes 1 count ++ (bytes 1 (cond due 1 0) ++ zeros 6)
 unfoldable pub writeBytes : Write → List ℕ
 writeBytes w = bytes 1 (w .bank) ++ (bytes 1 (w .column) ++ (bytes 2 0 ++ instantBytes (w .at)))
 
--- 24 bytes: the waiting write, and the place of a second
+-- 24 bytes: the writes that wait, older first; the place of one that does not wait is 0
 unfoldable pub bufferBytes : Buffer → Bool → List ℕ
 bufferBytes Empty due = countBytes 0 due ++ zeros 16
-bufferBytes (One w) due = countBytes 1 due ++ (writeBytes w ++ zeros 8)
+bufferBytes (One x) due = countBytes 1 due ++ (writeBytes x ++ zeros 8)
+bufferBytes (Two x y) due = countBytes 2 due ++ (writeBytes x ++ writeBytes y)
 
 unfoldable pub channelBytes : Channel → List ℕ
 channelBytes ch = banksBytes ch ++ (lastsBytes (ch .lasts) ++ bufferBytes (ch .buffer) (ch .due))
@@ -108,7 +109,8 @@ abbrev pub writeIn : List ℕ → ℕ → Write
 writeIn b at = record { bank = getD b at 0; column = getD b (at + 1) 0; at = instantIn b (at + 4) }
 
 unfoldable pub bufferIn : List ℕ → Buffer
-bufferIn b = cond (eqb (getD b 728 0) 0) Empty (One (writeIn b 736))
+bufferIn b =
+    cond (eqb (getD b 728 0) 0) Empty (cond (eqb (getD b 728 0) 1) (One (writeIn b 736)) (Two (writeIn b 736) (writeIn b 744)))
 
 unfoldable pub channelIn : List ℕ → Channel
 channelIn b = record { banks = tracksIn b bankCount; lasts = lastsIn b; buffer = bufferIn b; due = eqb (getD b 729 0) 1 }
@@ -119,9 +121,9 @@ channelIn b = record { banks = tracksIn b bankCount; lasts = lastsIn b; buffer =
 abbrev pub zeroPart : List ℕ → ℕ → ℕ → Bool
 zeroPart b at n = eqb (number (part b at n)) 0
 
--- one write waits at most, data are due or not, and every byte that no field uses is 0
+-- two writes wait at most, data are due or not, and every byte that no field uses is 0
 unfoldable pub channelSpare : List ℕ → Bool
 channelSpare b =
     zeroPart b 724 4
-    && ((leb (getD b 728 0) 1 && (leb (getD b 729 0) 1 && zeroPart b 730 6))
-    && (cond (eqb (getD b 728 0) 0) (zeroPart b 736 8) (zeroPart b 738 2) && zeroPart b 744 8))
+    && ((leb (getD b 728 0) 2 && (leb (getD b 729 0) 1 && zeroPart b 730 6))
+    && (cond (eqb (getD b 728 0) 0) (zeroPart b 736 8) (zeroPart b 738 2) && cond (leb (getD b 728 0) 1) (zeroPart b 744 8) (zeroPart b 746 2)))

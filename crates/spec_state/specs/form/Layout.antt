@@ -9,7 +9,7 @@ use Rattle.num.specs.Bytes.{bytes, zeros}
 use Rattle.spec_rules.specs.declared.BankTrack.{BankTrack}
 use Rattle.spec_rules.specs.declared.Write.{Write}
 use Rattle.spec_rules.specs.declared.Buffer.{Buffer}
-use Rattle.spec_rules.specs.declared.Buffer.the-variants.{Empty, One}
+use Rattle.spec_rules.specs.declared.Buffer.the-variants.{Empty, One, Two}
 use Rattle.spec_rules.specs.declared.LastInstants.{LastInstants}
 use Rattle.spec_rules.specs.declared.Channel.{Channel}
 use Rattle.spec_rules.specs.Channel.{trackOf}
@@ -20,10 +20,10 @@ abbrev pub body : (ℕ → ℕ) → (ℕ → ℕ) → (ℕ → ℕ) → (ℕ →
 body f0 f1 f2 f3 f4 g r =
     plane 4 f0 32 ++ (plane 4 f1 32 ++ (plane 4 f2 32 ++ (plane 4 f3 32 ++ (plane 4 f4 32 ++ (plane 2 g 32 ++ r)))))
 
--- the last instants, how many writes wait and whether data are due, the waiting write, then other bytes
-abbrev pub rest : ℕ → ℕ → ℕ → ℕ → ℕ → ℕ → ℕ → List ℕ → List ℕ
-rest l w c n d count write q =
-    bytes 4 l ++ (bytes 4 w ++ (bytes 4 c ++ (bytes 4 n ++ (bytes 4 d ++ (zeros 4 ++ (bytes 8 count ++ (bytes 8 write ++ (zeros 8 ++ q))))))))
+-- the last instants, how many writes wait and whether data are due, the older and the newer waiting write, then other bytes
+abbrev pub rest : ℕ → ℕ → ℕ → ℕ → ℕ → ℕ → ℕ → ℕ → List ℕ → List ℕ
+rest l w c n d count write second q =
+    bytes 4 l ++ (bytes 4 w ++ (bytes 4 c ++ (bytes 4 n ++ (bytes 4 d ++ (zeros 4 ++ (bytes 8 count ++ (bytes 8 write ++ (bytes 8 second ++ q))))))))
 
 -- figure k x: the instant of bank x in plane k; tag x: its state; last: of any packet, ROW, COL, PRER or REFP, RD
 pub record Numbers : Type 0 where
@@ -32,12 +32,13 @@ pub record Numbers : Type 0 where
   pub last : ℕ → ℕ
   pub count : ℕ
   pub write : ℕ
+  pub second : ℕ
   pub tail : List ℕ
 
 unfoldable pub layout : Numbers → List ℕ
 layout n =
     body (n .figure 0) (n .figure 1) (n .figure 2) (n .figure 3) (n .figure 4) (n .tag)
-    (rest (n .last 0) (n .last 1) (n .last 2) (n .last 3) (n .last 4) (n .count) (n .write) (n .tail))
+    (rest (n .last 0) (n .last 1) (n .last 2) (n .last 3) (n .last 4) (n .count) (n .write) (n .second) (n .tail))
 
 -- ---- with one number changed
 
@@ -47,22 +48,25 @@ with f x v i = cond (eqb i x) v (f i)
 
 abbrev pub atFigure : ℕ → ℕ → ℕ → Numbers → Numbers
 atFigure k x v n =
-    record { figure = λ j y. cond (eqb j k && eqb y x) v (n .figure j y); tag = n .tag; last = n .last; count = n .count; write = n .write; tail = n .tail }
+    record { figure = λ j y. cond (eqb j k && eqb y x) v (n .figure j y); tag = n .tag; last = n .last; count = n .count; write = n .write; second = n .second; tail = n .tail }
 
 abbrev pub atTag : ℕ → ℕ → Numbers → Numbers
-atTag x v n = record { figure = n .figure; tag = with (n .tag) x v; last = n .last; count = n .count; write = n .write; tail = n .tail }
+atTag x v n = record { figure = n .figure; tag = with (n .tag) x v; last = n .last; count = n .count; write = n .write; second = n .second; tail = n .tail }
 
 abbrev pub atLast : ℕ → ℕ → Numbers → Numbers
-atLast i v n = record { figure = n .figure; tag = n .tag; last = with (n .last) i v; count = n .count; write = n .write; tail = n .tail }
+atLast i v n = record { figure = n .figure; tag = n .tag; last = with (n .last) i v; count = n .count; write = n .write; second = n .second; tail = n .tail }
 
 abbrev pub atCount : ℕ → Numbers → Numbers
-atCount v n = record { figure = n .figure; tag = n .tag; last = n .last; count = v; write = n .write; tail = n .tail }
+atCount v n = record { figure = n .figure; tag = n .tag; last = n .last; count = v; write = n .write; second = n .second; tail = n .tail }
 
 abbrev pub atWrite : ℕ → Numbers → Numbers
-atWrite v n = record { figure = n .figure; tag = n .tag; last = n .last; count = n .count; write = v; tail = n .tail }
+atWrite v n = record { figure = n .figure; tag = n .tag; last = n .last; count = n .count; write = v; second = n .second; tail = n .tail }
+
+abbrev pub atSecond : ℕ → Numbers → Numbers
+atSecond v n = record { figure = n .figure; tag = n .tag; last = n .last; count = n .count; write = n .write; second = v; tail = n .tail }
 
 abbrev pub atTail : List ℕ → Numbers → Numbers
-atTail q n = record { figure = n .figure; tag = n .tag; last = n .last; count = n .count; write = n .write; tail = q }
+atTail q n = record { figure = n .figure; tag = n .tag; last = n .last; count = n .count; write = n .write; second = n .second; tail = q }
 
 -- ---- the numbers of a state
 
@@ -75,20 +79,30 @@ unfoldable pub lastOfChannel : LastInstants → ℕ → ℕ
 lastOfChannel l i =
     cond (eqb i 0) (l .packet .0) (cond (eqb i 1) (l .row .0) (cond (eqb i 2) (l .col .0) (cond (eqb i 3) (l .pre .0) (l .rd .0))))
 
--- how many writes wait, and whether data are due, in eight bytes; the waiting write in eight bytes
+-- how many writes wait, and whether data are due, in eight bytes; each waiting write in eight bytes
 abbrev pub countWord : ℕ → Bool → ℕ
 countWord n due = n + 256 * cond due 1 0
 
 unfoldable pub countNumber : Buffer → Bool → ℕ
 countNumber Empty due = countWord 0 due
-countNumber (One w) due = countWord 1 due
+countNumber (One x) due = countWord 1 due
+countNumber (Two x y) due = countWord 2 due
 
 abbrev pub writeWord : ℕ → ℕ → ℕ → ℕ
 writeWord bank column stored = bank + 256 * column + 4294967296 * stored
 
+abbrev pub wordOf : Write → ℕ
+wordOf w = writeWord (w .bank) (w .column) (w .at .0 - 3)
+
 unfoldable pub writeNumber : Buffer → ℕ
 writeNumber Empty = 0
-writeNumber (One w) = writeWord (w .bank) (w .column) (w .at .0 - 3)
+writeNumber (One x) = wordOf x
+writeNumber (Two x y) = wordOf x
+
+unfoldable pub secondNumber : Buffer → ℕ
+secondNumber Empty = 0
+secondNumber (One x) = 0
+secondNumber (Two x y) = wordOf y
 
 unfoldable pub numbersOf : Channel → List ℕ → Numbers
 numbersOf ch q =
@@ -98,5 +112,6 @@ numbersOf ch q =
       last = λ i. lastOfChannel (ch .lasts) i - 3;
       count = countNumber (ch .buffer) (ch .due);
       write = writeNumber (ch .buffer);
+      second = secondNumber (ch .buffer);
       tail = q;
     }

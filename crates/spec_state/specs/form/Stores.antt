@@ -48,10 +48,31 @@ rdStored b x t = colStored (put (put b (384 + 4 * x) t) 720 t) t
 unfoldable pub retireStored : List ℕ → ℕ → ℕ → List ℕ
 retireStored b h t = put b (512 + 4 * h) t
 
--- no write waits
+-- the eight bytes of the newer write, as one number
+abbrev pub secondIn : List ℕ → ℕ
+secondIn b = number (part b 744 8)
+
+-- no write waits, where one did
 unfoldable pub emptyStored : List ℕ → List ℕ
 emptyStored b = splice (splice b 728 (bytes 8 0)) 736 (bytes 8 0)
 
--- a write waits: count is 1, or 257 where its data are due
+-- the second write, where one waits, becomes the first: count is how many then wait
+unfoldable pub shiftStored : List ℕ → ℕ → List ℕ
+shiftStored b count = splice (splice (splice b 728 (bytes 8 count)) 736 (bytes 8 (secondIn b))) 744 (bytes 8 0)
+
+-- one write waits: count is 1, or 257 where its data are due
 unfoldable pub writeStored : List ℕ → ℕ → ℕ → ℕ → ℕ → List ℕ
 writeStored b count x c t = splice (splice b 728 (bytes 8 count)) 736 (bytes 8 (writeWord x c t))
+
+-- a write waits beside another: count is 2, or 258 where its data are due
+unfoldable pub besideStored : List ℕ → ℕ → ℕ → ℕ → ℕ → List ℕ
+besideStored b count x c t = splice (splice b 728 (bytes 8 count)) 744 (bytes 8 (writeWord x c t))
+
+-- the second write becomes the first, and another waits beside it
+unfoldable pub behindStored : List ℕ → ℕ → ℕ → ℕ → ℕ → List ℕ
+behindStored b count x c t =
+    splice (splice (splice b 728 (bytes 8 count)) 736 (bytes 8 (secondIn b))) 744 (bytes 8 (writeWord x c t))
+
+-- the data of the newest write have come: count is how many writes wait
+unfoldable pub dataStored : List ℕ → ℕ → List ℕ
+dataStored b count = splice b 728 (bytes 8 count)
