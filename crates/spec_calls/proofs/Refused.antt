@@ -28,7 +28,7 @@ use Rattle.spec_model.specs.Step.{stepAnswer}
 use Rattle.log.specs.declared.Copied.{Copied}
 use Rattle.log.specs.declared.Copied.the-variants as copied
 use Rattle.log.specs.Log.{copied}
-use Rattle.meter.specs.Answer.{accepted}
+use Rattle.meter.specs.Answer.{feedAccepted}
 use Rattle.meter.specs.Meter.{feedMeter}
 use Rattle.meter.specs.Calls.{fedAnswered}
 use Rattle.spec_calls.specs.Settings.{bySettings, underSettings}
@@ -96,7 +96,7 @@ copy-kept new lent answer settings =
     (λ s. copy-by new lent (answer s))
 
 pub refused-changes-nothing : RefusedCalls
-unfolding plannerFresh modelFresh logEncodeCall logDecodeCall accepted feedMeter fedAnswered
+unfolding plannerFresh modelFresh logEncodeCall logDecodeCall feedAccepted feedMeter fedAnswered
 refused-changes-nothing =
     record {
       planner-fresh = fresh-kept _ _;
