@@ -1,5 +1,4 @@
-// The lowest rule that a record breaks in the state that a model's bytes say: of the banks only those are read that it concerns, and
-// only a packet that fails a quick test is judged rule by rule.
+// The lowest rule that a record breaks in the state that a model's bytes say: of the banks only those are read that it concerns.
 ghost use mathlib.Core.Path.{_≡_};
 ghost use mathlib.Core.Bool.{true};
 ghost use Prim.Native.Nat.{ℕ, _≤_, _<_};
@@ -91,8 +90,8 @@ fn packet_in(s: Settings, b: &[u8], h: Held, v: View) -> u32
     packet_rule(s, v, h, k, 0, l)
 }
 
-// An instant that no bank was opened after: for a packet that opens a bank, when one was opened last; for any other, where the test
-// does not ask, the last of all instants.
+// An instant that no bank was opened after: the last such one for a packet that opens a bank, and else, where none asks, the last
+// of all instants.
 fn newest_in(b: &[u8], opens: bool) -> PacketAt
     requires { ⌜ 752 ≤ length (now b) ⌝ }
     requires { ⌜ InRange (now b) ⌝ }
