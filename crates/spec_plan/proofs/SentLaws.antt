@@ -5,7 +5,7 @@ use Prim.Native.Nat.{ℕ, zero, suc, _+_, _≤_, _<_, _^_, max}
 use mathlib.Core.Path.{_≡_, refl, sym, ap, _∙_}
 use mathlib.Core.Bool.{Bool, true, false, not, _&&_, cond}
 use mathlib.Core.List.{List, [], _∷_, _++_}
-use mathlib.Core.Option.{Option, none, some}
+use mathlib.Core.Option.{Option, none}
 use lib.Dec.{eqb, ltb}
 use lib.ListN.{length}
 use borrow.Author.Tests.{le-leb, lt-ltb, eqb-true, eqb-false, eq-eqb}
@@ -27,12 +27,11 @@ use Rattle.spec_rules.specs.Neighbour.{bankCount, Context, near}
 use Rattle.spec_rules.specs.Packets.{traits, colTraits, instant}
 use Rattle.spec_rules.specs.History.{bankBy, isClosed, first, rest, onlyWrite, passed, leaving, left, loads, joined, waitingNext, anyWrite, has}
 use Rattle.spec_rules.specs.Channel.{never, waitingOf, bankNext, leavingOf, after}
-use Rattle.spec_rules.specs.Earliest.{placedAt, under, earliest, retireBound, slotFrom, soonest, leastFrom}
+use Rattle.spec_rules.specs.Earliest.{placedAt, under, retireBound, slotFrom, soonest, leastFrom}
 use Rattle.spec_rules.proofs.Bools.{not-both, and-left, and-right}
 use Rattle.spec_rules.proofs.TrackLaws.{row-keeps, keeps-all, after-waits}
 use Rattle.spec_rules.proofs.EarliestLaws.{placed-instant, moved-not-read, moved-leaving, moved-bank, moved-writes}
 use Rattle.spec_state.proofs.AfterLaws.{after-size, after-due, after-state}
-use Rattle.spec_plan.specs.declared.PlannerState.{PlannerState}
 use Rattle.spec_plan.specs.Plan.{Draft, rowPacket, colPacket, when, waiting, stateIn, carried, shifted, anyWaits, slot, leaver, placedIn, sent, flushed, flushedWhile, loses, closed, closedUpTo}
 
 -- ---- a record at another instant, under another mask

@@ -2,8 +2,8 @@
 -- Assumes nothing.
 use Prim.Native.Nat.{ℕ, _+_, _*_, _-_, _<_}
 use mathlib.Core.Path.{_≡_, refl, sym, ap, _∙_}
-use mathlib.Core.Bool.{Bool, true, false, cond, _&&_}
-use mathlib.Core.List.{List, [], _∷_, _++_, append-assoc}
+use mathlib.Core.Bool.{Bool, true, false, _&&_}
+use mathlib.Core.List.{List, _∷_, _++_, append-assoc}
 use mathlib.Core.Option.{Option, none, some}
 use native.Mathlib.Omega.{arith}
 use lib.Dec.{eqb, leb}
@@ -11,9 +11,8 @@ use lib.ListN.{length, length-append}
 use Rattle.num.specs.Bytes.{bytes, number, part, splice, zeros}
 use Rattle.num.proofs.ByteLaws.{length-bytes}
 use Rattle.num.proofs.PartLaws.{part-left, part-right, part-all, bytes-part, Bytes-bytes}
-use Rattle.settings.specs.declared.PacketAt.{PacketAt}
 use Rattle.packet.specs.declared.ColPacket.{ColPacket}
-use Rattle.packet.specs.declared.ColPacket.the-variants.{Nocop, Wr, Rd}
+use Rattle.packet.specs.declared.ColPacket.the-variants.{Nocop, Wr}
 use Rattle.record.specs.declared.Record.{Record}
 use Rattle.record.specs.declared.Record.the-variants.{ColAt}
 use Rattle.spec_rules.specs.declared.BankTrack.{BankTrack}
@@ -23,13 +22,13 @@ use Rattle.spec_rules.specs.declared.Buffer.the-variants.{Empty, One, Two}
 use Rattle.spec_rules.specs.declared.Channel.{Channel}
 use Rattle.spec_rules.specs.Neighbour.{Context}
 use Rattle.spec_rules.specs.Packets.{traits, colTraits, instant}
-use Rattle.spec_rules.specs.History.{rest, onlyWrite, leaving, loads, joined}
+use Rattle.spec_rules.specs.History.{rest, onlyWrite, leaving, loads}
 use Rattle.spec_rules.specs.Channel.{idle, trackOf, waitingOf, bufferOf, bankNext, trackNext, afterPacket, trackRetired, afterRetire, afterData, leavingOf, after}
 use Rattle.spec_rules.proofs.ListLaws.{length-imap, getD-imap}
 use Rattle.spec_rules.proofs.TrackLaws.{buffer-waiting}
 use Rattle.spec_state.specs.ChannelBytes.{bankTag, plane, channelBytes}
-use Rattle.spec_state.specs.form.Layout.{body, Numbers, layout, figureOf, lastOfChannel, countWord, countNumber, writeWord, writeNumber, secondNumber, atLast, atCount, atWrite, atSecond, atFigure, numbersOf}
-use Rattle.spec_state.specs.form.Stores.{put, colStored, retireStored, secondIn, emptyStored, shiftStored, writeStored, besideStored, behindStored, dataStored}
+use Rattle.spec_state.specs.form.Layout.{Numbers, layout, figureOf, lastOfChannel, countWord, countNumber, writeWord, writeNumber, secondNumber, atCount, atWrite, atSecond, atFigure, numbersOf}
+use Rattle.spec_state.specs.form.Stores.{colStored, retireStored, secondIn, emptyStored, shiftStored, writeStored, besideStored, behindStored, dataStored}
 use Rattle.spec_state.proofs.PlaneLaws.{length-plane}
 use Rattle.spec_state.proofs.LayoutLaws.{put-retire, put-count, put-write, put-second, layout-ext}
 use Rattle.spec_state.proofs.StoreLaws.{WriteIn, by-numbers, nextNumbers, track-next, next-bytes, pick, on, col-stored}
