@@ -96,6 +96,10 @@ module _ (cx : Context) where
     unfolding sent
     sent-records = refl
 
+    -- it carries the mask of the older write where it retires one, and else M = 0
+    pub here-carries : here ≡ placedAt (slot cx (d .planner) r) (under (carried gone (d .planner .mask)) r)
+    here-carries = refl
+
     pub sent-size : length (sent cx r d .planner .channel .banks) ≡ length (d .planner .channel .banks)
     unfolding sent
     sent-size = after-size cx (d .planner .channel) here
@@ -177,18 +181,6 @@ module _ (cx : Context) where
 
   -- ---- NOCOP after NOCOP
 
-  -- what each NOCOP keeps
-  pub while-keeps : (P : Draft → Type 0) → ((z : Draft) → anyWaits (waiting z) ≡ true → P z → P (flushed cx z)) → (test : List Write → Bool) → test [] ≡ false → (d : Draft) → P d → P (flushedWhile cx test d)
-  unfolding flushedWhile
-  while-keeps P f test e d k =
-      let z : Draft = when (test (waiting d)) (flushed cx) d in
-      let kz : P z = when-either P (test (waiting d)) (flushed cx) d (λ h. f d (waits (waiting d) h) k) (λ _. k) in
-      when-either P (test (waiting z)) (flushed cx) z (λ h. f z (waits (waiting z) h) kz) (λ _. kz)
-    where
-      waits : (ws : List Write) → test ws ≡ true → anyWaits ws ≡ true
-      waits [] h = not-both (test []) h e
-      waits (w ∷ ws) h = refl
-
   -- they end where the test fails
   pub while-ends : (test : List Write → Bool) → test [] ≡ false → (d : Draft) → test (waiting (flushedWhile cx test d)) ≡ false
   unfolding flushedWhile
@@ -201,6 +193,18 @@ module _ (cx : Context) where
       go : (b : Bool) → test (waiting d) ≡ b → test (waiting (when (test (waiting (when b (flushed cx) d))) (flushed cx) (when b (flushed cx) d))) ≡ false
       go true h = last (test (waiting (flushed cx d))) refl
       go false h = rw h h
+
+  -- what each NOCOP keeps
+  pub while-keeps : (P : Draft → Type 0) → ((z : Draft) → anyWaits (waiting z) ≡ true → P z → P (flushed cx z)) → (test : List Write → Bool) → test [] ≡ false → (d : Draft) → P d → P (flushedWhile cx test d)
+  unfolding flushedWhile
+  while-keeps P f test e d k =
+      let z : Draft = when (test (waiting d)) (flushed cx) d in
+      let kz : P z = when-either P (test (waiting d)) (flushed cx) d (λ h. f d (waits (waiting d) h) k) (λ _. k) in
+      when-either P (test (waiting z)) (flushed cx) z (λ h. f z (waits (waiting z) h) kz) (λ _. kz)
+    where
+      waits : (ws : List Write) → test ws ≡ true → anyWaits ws ≡ true
+      waits [] h = not-both (test []) h e
+      waits (w ∷ ws) h = refl
 
   pub while-size : (test : List Write → Bool) → test [] ≡ false → (d : Draft) → Sized d → Sized (flushedWhile cx test d)
   while-size test e d n = while-keeps Sized (λ z _ k. flushed-size z ∙ k) test e d n
