@@ -329,7 +329,7 @@ module _ (cx : Context) (ns : Neighbours cx) (p : PlannerState) where
   good-read d k at i =
       let a = good-reached d k (at .bank) (at .row) (i .0) (i .1) in
       let z : Draft = reached cx (at .bank) (at .row) d in
-      let test : List Write → Bool = delays cx at in
+      let test : List Write → Bool = delays at in
       let y : Draft = flushedWhile cx test z in
       good-rd y (good-while z (a .0) test refl) (at .bank) (at .column) (at .row) (i .0) (i .2) (while-state cx test refl z (a .0 .inv .size) (at .bank) (i .0) ∙ a .1)
       (neither (two (waiting y)) _ (while-ends cx test refl z) .0)
