@@ -11,6 +11,8 @@ use lib.ListN.{length, length-map, getD, List·getD-eq-default}
 use Rattle.settings.specs.declared.Settings.{Settings}
 use Rattle.spec_rules.specs.declared.BankTrack.{BankTrack}
 use Rattle.spec_rules.specs.Channel.{idle}
+use Rattle.chan_view.specs.declared.Held.{Held}
+use Rattle.chan_view.specs.declared.Tracks.{Tracks}
 use Rattle.chan_view.specs.form.Beside.{lowOf, highOf, slotOf, heldAt, tracksOf, aroundOf}
 
 pub length-of-map : {A B : Type 0} (f : A → B) (l : List A) (n : ℕ) → length (map f l) ≡ n → length l ≡ n
@@ -28,6 +30,10 @@ module _ (l : List BankTrack) (e : length l ≡ 32) where
       go true q = refl
       go false q = sym (past b (ltb-false b 32 q))
 
-  pub around-is : (s : Settings) (b w : ℕ)
-      → aroundOf s b w (getD l (slotOf b) idle) (getD l (slotOf (lowOf s b)) idle) (getD l (slotOf (highOf s b)) idle) (getD l (slotOf w) idle) ≡ tracksOf s l b w
-  around-is s b w = rw (slot-read b, slot-read (lowOf s b), slot-read (highOf s b), slot-read w)
+  -- the tracks from what was read at the indices
+  abbrev pub readAround : Settings → ℕ → Held → Tracks
+  readAround s b h =
+      aroundOf s b h (getD l (slotOf b) idle) (getD l (slotOf (lowOf s b)) idle) (getD l (slotOf (highOf s b)) idle) (getD l (slotOf (h .bank)) idle) (getD l (slotOf (h .next)) idle)
+
+  pub around-is : (s : Settings) (b : ℕ) (h : Held) → readAround s b h ≡ tracksOf s l b h
+  around-is s b h = rw (slot-read b, slot-read (lowOf s b), slot-read (highOf s b), slot-read (h .bank), slot-read (h .next))

@@ -16,16 +16,16 @@ use Rattle.record.specs.declared.Record.{Record}
 use Rattle.record.specs.declared.Record.the-variants.{RowAt, ColAt, DataOf}
 use Rattle.spec_rules.specs.declared.Write.{Write}
 use Rattle.spec_rules.specs.declared.Buffer.{Buffer}
-use Rattle.spec_rules.specs.declared.Buffer.the-variants.{Empty, One}
+use Rattle.spec_rules.specs.declared.Buffer.the-variants.{Empty, One, Two}
 use Rattle.spec_rules.specs.declared.Channel.{Channel}
 use Rattle.chan_view.specs.declared.View.{View}
 use Rattle.chan_view.specs.declared.Seen.the-variants.{Packet}
 use Rattle.spec_rules.specs.Neighbour.{contextOf}
 use Rattle.spec_rules.specs.Packets.{Traits, traits, rowTraits, colTraits, instant, isPacket}
-use Rattle.spec_rules.specs.History.{only, onlyWrite, first, bankOf, leaving, anyWrite}
-use Rattle.spec_rules.specs.Rules.{dataDelay, waited}
+use Rattle.spec_rules.specs.History.{only, onlyWrite, first, passed, bankOf, leaving, anyWrite, has}
+use Rattle.spec_rules.specs.Rules.{dataDelay, stays}
 use Rattle.spec_rules.specs.Channel.{waitingOf, newestDue, dueOf}
-use Rattle.chan_view.specs.form.View.{rowView, colView, seenOf, heldOf, leaves, delayOf}
+use Rattle.chan_view.specs.form.View.{rowView, colView, seenOf, heldOf, leaves, staysBy, delayOf}
 
 -- the traits that a view stands for
 abbrev pub traitsOf : View → Traits
@@ -71,62 +71,67 @@ seen-shows (DataOf t d) v e = absurd (let z : _≡_ {A = ℕ} 0 1 = cc in omega 
 
 -- ---- the write buffer
 
--- the write that leaves, by whether one does
-module _ (s : Settings) (b : Buffer) (due : Bool) where
+module _ (s : Settings) (b : Buffer) (due : Bool) (r : Record) (v : View) (h : Shows r v) where
+  -- the older write, where this says that it leaves
   abbrev pub oldest : Bool → Option Write
   oldest leaves = onlyWrite leaves (first (waitingOf b))
 
-  oldest-is : (c : Bool) → oldest c ≡ oldest (heldOf b due .waits && c)
+  -- the write that a packet retires, and its bank
+  pub leaving-is : leaving (contextOf s) (waitingOf b) r ≡ oldest (leaves s (heldOf b due) v)
+  unfolding leaving waitingOf heldOf contextOf
+  leaving-is = rw (h .traits-of, h .instant-of) (go b)
+    where
+      none-leaves : (c : Bool) → onlyWrite (c && false) none ≡ none
+      none-leaves true = refl
+      none-leaves false = refl
+
+      go : (b : Buffer) → onlyWrite (v .other && passed (contextOf s) (first (waitingOf b)) (v .at .0)) (first (waitingOf b)) ≡ onlyWrite (leaves s (heldOf b due) v) (first (waitingOf b))
+      go Empty = none-leaves (v .other)
+      go (One x) = refl
+      go (Two x y) = refl
+
+  pub leaving-bank : bankOf (leaving (contextOf s) (waitingOf b) r) ≡ only (leaves s (heldOf b due) v) (some (heldOf b due .bank))
   unfolding waitingOf heldOf
-  oldest-is c = go b c
+  leaving-bank = ap bankOf leaving-is ∙ go b
     where
-      go : (b : Buffer) (c : Bool) → onlyWrite c (first (waitingOf b)) ≡ onlyWrite (heldOf b due .waits && c) (first (waitingOf b))
-      go Empty true = refl
-      go Empty false = refl
-      go (One w) c = refl
+      flag : (c : Bool) (x : Write) → bankOf (onlyWrite c (some x)) ≡ only c (some (x .bank))
+      flag true x = refl
+      flag false x = refl
 
-  oldest-bank : (c : Bool) → bankOf (oldest (heldOf b due .waits && c)) ≡ only (heldOf b due .waits && c) (some (heldOf b due .bank))
+      go : (b : Buffer) → bankOf (onlyWrite (leaves s (heldOf b due) v) (first (waitingOf b))) ≡ only (leaves s (heldOf b due) v) (some (heldOf b due .bank))
+      go Empty = refl
+      go (One x) = flag (leaves s (heldOf (One x) due) v) x
+      go (Two x y) = flag (leaves s (heldOf (Two x y) due) v) x
+
+  -- whether it may leave the waiting writes as they are
+  pub stays-is : stays (waitingOf b) (traits r) ≡ staysBy (heldOf b due) v
   unfolding waitingOf heldOf
-  oldest-bank c = go b c
+  stays-is = rw (h .traits-of) (go b)
     where
-      go : (b : Buffer) (c : Bool) → bankOf (onlyWrite (heldOf b due .waits && c) (first (waitingOf b))) ≡ only (heldOf b due .waits && c) (some (heldOf b due .bank))
-      go Empty c = refl
-      go (One w) true = refl
-      go (One w) false = refl
+      flag : (c : Bool) (x : ℕ) → has (only c (some x)) ≡ c
+      flag true x = refl
+      flag false x = refl
 
-  oldest-waited : (c : Bool) (t : ℕ) → waited (contextOf s) (oldest (heldOf b due .waits && c)) t ≡ (not (heldOf b due .waits && c) || leb (heldOf b due .at .0 + s .rtr) t)
-  unfolding waitingOf heldOf contextOf
-  oldest-waited c t = go b c
-    where
-      go : (b : Buffer) (c : Bool) → waited (contextOf s) (onlyWrite (heldOf b due .waits && c) (first (waitingOf b))) t ≡ (not (heldOf b due .waits && c) || leb (heldOf b due .at .0 + s .rtr) t)
-      go Empty c = refl
-      go (One w) true = refl
-      go (One w) false = refl
-
-  -- the write that a packet retires, its bank, and whether tRTR has passed
-  module _ (r : Record) (v : View) (h : Shows r v) where
-    pub leaving-is : leaving (contextOf s) (waitingOf b) r ≡ oldest (leaves s (heldOf b due) v)
-    unfolding leaving
-    leaving-is = ap oldest (ap (λ (k : Traits). k .notRead) (h .traits-of)) ∙ oldest-is (v .other)
-
-    pub leaving-bank : bankOf (leaving (contextOf s) (waitingOf b) r) ≡ only (leaves s (heldOf b due) v) (some (heldOf b due .bank))
-    leaving-bank = ap bankOf leaving-is ∙ oldest-bank (v .other)
-
-    pub leaving-waited : (t : ℕ) → waited (contextOf s) (leaving (contextOf s) (waitingOf b) r) t ≡ (not (leaves s (heldOf b due) v) || leb (heldOf b due .at .0 + s .rtr) t)
-    leaving-waited t = ap (λ (o : Option Write). waited (contextOf s) o t) leaving-is ∙ oldest-waited (v .other) t
+      go : (b : Buffer) → stays (waitingOf b) (traitsOf v) ≡ staysBy (heldOf b due) v
+      go Empty = refl
+      go (One x) = rw (flag (v .writes) (v .bank))
+      go (Two x y) = refl
 
 -- the data that are due
-pub held-due : (s : Settings) (ch : Channel) → dueOf (contextOf s) ch ≡ only (heldOf (ch .buffer) (ch .due) .due) (some (heldOf (ch .buffer) (ch .due) .at .0 + s .cwd))
+pub held-due : (s : Settings) (ch : Channel) → dueOf (contextOf s) ch ≡ only (heldOf (ch .buffer) (ch .due) .due) (some (heldOf (ch .buffer) (ch .due) .newest .0 + s .cwd))
 unfolding dueOf waitingOf heldOf contextOf
 held-due s ch = go (ch .buffer) (ch .due)
   where
-    go : (b : Buffer) (due : Bool) → only due (newestDue (contextOf s) (waitingOf b)) ≡ only (heldOf b due .due) (some (heldOf b due .at .0 + s .cwd))
+    go : (b : Buffer) (due : Bool) → only due (newestDue (contextOf s) (waitingOf b)) ≡ only (heldOf b due .due) (some (heldOf b due .newest .0 + s .cwd))
     go Empty true = refl
     go Empty false = refl
-    go (One w) due = refl
+    go (One x) due = refl
+    go (Two x y) due = refl
 
--- a test on the bank of a waiting write
-pub held-any : (b : Buffer) (due : Bool) (p : ℕ → Bool) → anyWrite (λ w. p (w .bank)) (waitingOf b) ≡ (heldOf b due .waits && p (heldOf b due .bank))
+-- a test on the banks of the waiting writes
+pub held-any : (b : Buffer) (due : Bool) (p : ℕ → Bool)
+    → anyWrite (λ w. p (w .bank)) (waitingOf b) ≡ ((heldOf b due .waits && p (heldOf b due .bank)) || (heldOf b due .two && p (heldOf b due .next)))
 unfolding waitingOf heldOf
 held-any Empty due p = refl
-held-any (One w) due p = or-false (p (w .bank))
+held-any (One x) due p = refl
+held-any (Two x y) due p = rw (or-false (p (y .bank)))

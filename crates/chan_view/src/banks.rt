@@ -4,6 +4,7 @@ ghost use Prim.Native.Nat.{_<_};
 ghost use Rattle.spec_rules.specs.History.{isClosed, isOpen};
 ghost use Rattle.spec_rules.specs.Channel.{idle};
 ghost use Rattle.chan_view.specs.form.Beside.{slotOf, heldAt, aroundOf};
+use crate::Held;
 use crate::Tracks;
 use crate::neighbours::high_of;
 use crate::neighbours::low_of;
@@ -41,23 +42,25 @@ pub fn track_of(b: u32, t: BankTrack) -> BankTrack
     if b < 32 { t } else { unused() }
 }
 
-// The tracks of a bank, of its neighbours and of the waiting write's bank, from what stands at their indices.
+// The tracks of a bank, of its neighbours and of the waiting writes' banks, from what stands at their indices.
 pub fn around(
     s: Settings,
     b: u32,
-    w: u32,
+    h: Held,
     own: BankTrack,
     low: BankTrack,
     high: BankTrack,
     held: BankTrack,
+    next: BankTrack,
 ) -> Tracks
-    ensures { λ k. ⌜ k ≡ aroundOf s b w own low high held ⌝ }
+    ensures { λ k. ⌜ k ≡ aroundOf s b h own low high held next ⌝ }
 {
     Tracks {
         own: track_of(b, own),
         low: track_of(low_of(s, b), low),
         high: track_of(high_of(s, b), high),
-        held: track_of(w, held),
+        held: track_of(h.bank, held),
+        next: track_of(h.next, next),
     }
 }
 

@@ -35,19 +35,24 @@ pub enum Seen {
     Data(DataAt),
 }
 
-// The write buffer in numbers: whether a write waits, whether its data are due, its bank and the instant of its WR.
+// The write buffer in numbers: whether a write waits, whether two do, whether the data of the newest are due; the older write's
+// bank and the instant of its WR; the newer write's bank where two wait; the instant of the newest WR. Number 32 stands for no bank.
 pub struct Held {
     pub waits: bool,
+    pub two: bool,
     pub due: bool,
     pub bank: u32,
     pub at: PacketAt,
+    pub next: u32,
+    pub newest: PacketAt,
 }
 
-// The tracks of the banks that a packet concerns: the bank that it names, the neighbours below and above that, and the bank
-// of the waiting write; idle where there is none.
+// The tracks of the banks that a packet concerns: the bank that it names, the neighbours below and above that, the banks of the
+// older and of the newer waiting write; idle where there is none.
 pub struct Tracks {
     pub own: BankTrack,
     pub low: BankTrack,
     pub high: BankTrack,
     pub held: BankTrack,
+    pub next: BankTrack,
 }

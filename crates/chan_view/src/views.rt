@@ -1,6 +1,6 @@
 // What a record and the write buffer are to the rules.
 ghost use mathlib.Core.Path.{_≡_};
-ghost use Rattle.chan_view.specs.form.View.{plain, rowView, colView, seenOf, heldOf, leaves};
+ghost use Rattle.chan_view.specs.form.View.{plain, rowView, colView, seenOf, heldOf, leaves, staysBy};
 use crate::Held;
 use crate::Seen;
 use crate::View;
@@ -117,25 +117,55 @@ pub fn held_of(b: Buffer, due: bool) -> Held
     match b {
         Buffer::Empty => Held {
             waits: false,
+            two: false,
             due: false,
             bank: 32,
             at: PacketAt(0),
+            next: 32,
+            newest: PacketAt(0),
         },
-        Buffer::One(w) => {
-            let at = w.at;
+        Buffer::One(x) => {
+            let at = x.at;
             Held {
                 waits: true,
+                two: false,
                 due: due,
-                bank: w.bank,
+                bank: x.bank,
                 at: at,
+                next: 32,
+                newest: at,
+            }
+        }
+        Buffer::Two(x, y) => {
+            let at = x.at;
+            let newest = y.at;
+            Held {
+                waits: true,
+                two: true,
+                due: due,
+                bank: x.bank,
+                at: at,
+                next: y.bank,
+                newest: newest,
             }
         }
     }
 }
 
-// Whether a packet retires the waiting write.
+// Whether a packet retires the older write.
 pub fn leaving(s: Settings, h: Held, v: View) -> bool
     ensures { λ r. ⌜ r ≡ leaves s h v ⌝ }
 {
-    h.waits & v.other
+    h.waits & (v.other & (num::wide32(h.at.0) + num::wide32(s.rtr) <= num::wide32(v.at.0)))
+}
+
+// Whether a packet may leave the waiting writes as they are.
+pub fn stays(h: Held, v: View) -> bool
+    ensures { λ r. ⌜ r ≡ staysBy h v ⌝ }
+{
+    if h.two {
+        !v.col
+    } else {
+        !h.waits | (!v.other | v.writes)
+    }
 }

@@ -8,6 +8,7 @@ use lib.ListN.{getD}
 use Rattle.settings.specs.declared.Settings.{Settings}
 use Rattle.spec_rules.specs.declared.BankTrack.{BankTrack}
 use Rattle.spec_rules.specs.Channel.{idle}
+use Rattle.chan_view.specs.declared.Held.{Held}
 use Rattle.chan_view.specs.declared.Tracks.{Tracks}
 
 -- ---- neighbours, where 15 and 16 are none
@@ -35,10 +36,24 @@ slotOf b = cond (ltb b 32) b 0
 abbrev pub heldAt : ℕ → BankTrack → BankTrack
 heldAt b t = cond (ltb b 32) t idle
 
--- the tracks that a packet to bank b concerns where a write waits in bank w
-abbrev pub tracksOf : Settings → List BankTrack → ℕ → ℕ → Tracks
-tracksOf s l b w = record { own = getD l b idle; low = getD l (lowOf s b) idle; high = getD l (highOf s b) idle; held = getD l w idle }
+-- the tracks that a packet to bank b concerns where these writes wait
+abbrev pub tracksOf : Settings → List BankTrack → ℕ → Held → Tracks
+tracksOf s l b h =
+    record {
+      own = getD l b idle;
+      low = getD l (lowOf s b) idle;
+      high = getD l (highOf s b) idle;
+      held = getD l (h .bank) idle;
+      next = getD l (h .next) idle;
+    }
 
 -- the same from what stands at the indices of these banks
-abbrev pub aroundOf : Settings → ℕ → ℕ → BankTrack → BankTrack → BankTrack → BankTrack → Tracks
-aroundOf s b w own low high held = record { own = heldAt b own; low = heldAt (lowOf s b) low; high = heldAt (highOf s b) high; held = heldAt w held }
+abbrev pub aroundOf : Settings → ℕ → Held → BankTrack → BankTrack → BankTrack → BankTrack → BankTrack → Tracks
+aroundOf s b h own low high held next =
+    record {
+      own = heldAt b own;
+      low = heldAt (lowOf s b) low;
+      high = heldAt (highOf s b) high;
+      held = heldAt (h .bank) held;
+      next = heldAt (h .next) next;
+    }

@@ -1,7 +1,8 @@
 -- Records and the write buffer as code reads them: flags with one bank, and number 32 for no bank.
 -- Assumes nothing.
-use Prim.Native.Nat.{ℕ}
-use mathlib.Core.Bool.{Bool, true, false, _&&_, cond}
+use Prim.Native.Nat.{ℕ, _+_}
+use mathlib.Core.Bool.{Bool, true, false, not, _&&_, _||_, cond}
+use lib.Dec.{leb}
 use Rattle.settings.specs.declared.Settings.{Settings}
 use Rattle.settings.specs.declared.PacketAt.{PacketAt}
 use Rattle.packet.specs.declared.RowPacket.{RowPacket}
@@ -13,7 +14,7 @@ use Rattle.record.specs.declared.Record.the-variants.{RowAt, ColAt, DataOf}
 use Rattle.spec_rules.specs.declared.Bank.{Bank}
 use Rattle.spec_rules.specs.declared.Bank.the-variants.{Closed, Open, Refresh}
 use Rattle.spec_rules.specs.declared.Buffer.{Buffer}
-use Rattle.spec_rules.specs.declared.Buffer.the-variants.{Empty, One}
+use Rattle.spec_rules.specs.declared.Buffer.the-variants.{Empty, One, Two}
 use Rattle.chan_view.specs.declared.View.{View}
 use Rattle.chan_view.specs.declared.Seen.{Seen}
 use Rattle.chan_view.specs.declared.Seen.the-variants.{Packet, Data}
@@ -103,9 +104,14 @@ delayOf s v = cond (v .reads) (s .cac) (cond (v .writes) (s .cwd) 0)
 -- ---- the write buffer
 
 unfoldable pub heldOf : Buffer → Bool → Held
-heldOf Empty due = record { waits = false; due = false; bank = 32; at = never }
-heldOf (One w) due = record { waits = true; due = due; bank = w .bank; at = w .at }
+heldOf Empty due = record { waits = false; two = false; due = false; bank = 32; at = never; next = 32; newest = never }
+heldOf (One x) due = record { waits = true; two = false; due = due; bank = x .bank; at = x .at; next = 32; newest = x .at }
+heldOf (Two x y) due = record { waits = true; two = true; due = due; bank = x .bank; at = x .at; next = y .bank; newest = y .at }
 
--- whether a packet retires the waiting write
+-- whether a packet retires the older write: it is a COL packet other than RD, and tRTR has passed since the WR
 abbrev pub leaves : Settings → Held → View → Bool
-leaves s h v = h .waits && v .other
+leaves s h v = h .waits && (v .other && leb (h .at .0 + s .rtr) (v .at .0))
+
+-- whether a packet may leave the waiting writes as they are
+abbrev pub staysBy : Held → View → Bool
+staysBy h v = cond (h .two) (not (v .col)) (not (h .waits) || (not (v .other) || v .writes))

@@ -12,5 +12,9 @@ returns-2 : tie.Need-returns-2
 unfolding heldOf
 returns-2 c = rw (c .before .before .b .given .1)
 
+returns-3 : tie.Need-returns-3
+unfolding heldOf
+returns-3 c = rw (c .before .before .before .b2 .given .1)
+
 pub held-of-spec : {M : Type 1} → statement M
-held-of-spec = tie.close (tie.spec (λ c. search needs) (λ c. search needs) returns returns-2)
+held-of-spec = tie.close (tie.spec (λ c. search needs) (λ c. search needs) (λ c. search needs) returns returns-2 returns-3)
