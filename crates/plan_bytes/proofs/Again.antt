@@ -26,12 +26,12 @@ use Rattle.spec_plan.specs.PlannerBytes.{plannerLength, plannerBytes, plannerIn
 use Rattle.spec_plan.proofs.Invariant.{Inv}
 use Rattle.spec_plan.proofs.Valid.{inv-valid}
 use Rattle.spec_plan.proofs.PlannerRoundTrip.{planner-length, planner-decode-encode, planner-encode-decode}
-use Rattle.plan_bytes.specs.form.Numbers.{word, waitsIn, Tops, Below}
+use Rattle.plan_bytes.specs.form.Numbers.{word, waitsIn, twoIn, Tops, Below}
 use Rattle.plan_bytes.specs.form.Drawn.{drafted, Ready}
 use Rattle.plan_bytes.proofs.Tops.{TrackAll, Under}
 use Rattle.plan_bytes.proofs.Marks.{Marked}
 use Rattle.plan_bytes.proofs.Instants.{said-top}
-use Rattle.plan_bytes.proofs.States.{track-at, held-is}
+use Rattle.plan_bytes.proofs.States.{track-at, waiting-is, two-is}
 use Rattle.plan_bytes.proofs.ReadyLaws.{readies, inv, under-top, now-top}
 
 -- ready bytes say a draft with no record yet
@@ -69,8 +69,11 @@ module _ (s : Settings) (top : ℕ) (b : List ℕ) (low : 4 ≤ plannerIn b .now
       go false false false false e f g h = let m = ltb-false k 128 h in at-plane k (512 + 4 * (k - 128)) (omega arith) (track-under (k - 128) (omega arith) .retire)
 
   wrote-under : waitsIn b ≡ true → word b 740 ≤ top
+  wrote-under w = said-top (word b 740) top ((rw (waiting-is b w) at (u .writes)) .0)
+
+  second-under : twoIn b ≡ true → word b 748 ≤ top
   unfolding waitingOf
-  wrote-under w = said-top (word b 740) top ((rw (held-is b w) at (u .writes)) .0)
+  second-under e = said-top (word b 748) top ((rw (two-is b e) at (u .writes)) .1 .0)
 
   below : Below top b
   unfolding Below plannerIn channelIn lastsIn
@@ -83,6 +86,7 @@ module _ (s : Settings) (top : ℕ) (b : List ℕ) (low : 4 ≤ plannerIn b .now
         pre = said-top (word b 716) top (u .lasts .pre);
         rd = said-top (word b 720) top (u .lasts .rd);
         wrote = wrote-under;
+        second = second-under;
         now = said-top (word b 752) top n;
       }
 
@@ -128,6 +132,7 @@ ready-more s top high b l k =
         pre = omega (arith, t .pre);
         rd = omega (arith, t .rd);
         wrote = λ w. omega (arith, t .wrote w);
+        second = λ e. omega (arith, t .second e);
         now = omega (arith, t .now);
       };
     }
@@ -136,4 +141,4 @@ ready-more s top high b l k =
 pub ready-call : (s : Settings) (top : ℕ) (b : List ℕ) → valid s ≡ true → Bytes b → plannerRight (contextOf s) b ≡ true → Below top b → Ready s top b
 unfolding Ready plannerRight plannerLength
 ready-call s top b v w r t =
-    record { figures = v; exact = planner-encode-decode (contextOf s) b w r; right = and-right (channelSpare b && (zeroPart b 758 2 && zeroPart b 762 6)) _ (and-right (eqb (length b) 768) _ r); below = t }
+    record { figures = v; exact = planner-encode-decode (contextOf s) b w r; right = and-right (channelSpare b && (zeroPart b 758 2 && zeroPart b 764 4)) _ (and-right (eqb (length b) 768) _ r); below = t }

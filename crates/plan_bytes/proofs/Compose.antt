@@ -51,7 +51,10 @@ module _ (cx : Context) where
 
   pub while-blind : (test : List Write → Bool) → Blind (flushedWhile cx test)
   unfolding flushedWhile
-  while-blind test l d = when-blind (flushed cx) flushed-blind (test (waiting d)) l d
+  while-blind test l d =
+      let z : Draft = when (test (waiting d)) (flushed cx) d in
+      ap (λ (y : Draft). when (test (waiting y)) (flushed cx) y) (when-blind (flushed cx) flushed-blind (test (waiting d)) l d)
+      ∙ when-blind (flushed cx) flushed-blind (test (waiting z)) l z
 
   pub closed-blind : (x : ℕ) → Blind (closed cx x)
   unfolding closed

@@ -2,8 +2,16 @@
 -- Assumes nothing.
 use Prim.Native.Nat.{ℕ, _+_, _≤_, max}
 use mathlib.Core.Path.{_≡_, refl}
+use mathlib.Core.Bool.{false}
+use mathlib.Core.List.{List, [], _∷_}
 use native.Mathlib.Omega.{arith}
+use Rattle.record.specs.declared.Record.{Record}
+use Rattle.spec_rules.specs.declared.Write.{Write}
+use Rattle.spec_rules.specs.declared.Channel.{Channel}
+use Rattle.spec_rules.specs.Neighbour.{Context}
+use Rattle.spec_rules.specs.Packets.{traits}
 use Rattle.spec_rules.specs.Checks.{since}
+use Rattle.spec_rules.specs.Earliest.{slotFrom}
 use Rattle.spec_state.specs.ChannelBytes.{instantOf}
 use Rattle.chan_view.proofs.BoundLaws.{since-max}
 use Rattle.spec_plan.specs.declared.PlannerState.{PlannerState}
@@ -43,3 +51,8 @@ floor n l r k h = let e : max n 4 ≡ n = omega arith in simp (max-left, e)
 pub floored : (p : PlannerState) → 4 ≤ p .now .0 → (base k : ℕ)
     → max (p .now .0) (max 4 (max (since (p .channel .lasts .packet .0) 0) (max base k))) ≡ max (max (max (p .now .0) (p .channel .lasts .packet .0)) base) k
 floored p low base k = rw (since-none (p .channel .lasts .packet .0)) (floor (p .now .0) (p .channel .lasts .packet .0) base k low)
+
+-- a packet that retires nothing stands where it would with no write waiting
+pub kept-slot : (cx : Context) (ch : Channel) (r : Record) → traits r .notRead ≡ false → (t : ℕ) (ws : List Write) → slotFrom cx ch r t ws ≡ t
+kept-slot cx ch r e t [] = refl
+kept-slot cx ch r e t (w ∷ ws) = rw e

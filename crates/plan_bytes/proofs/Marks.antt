@@ -1,4 +1,4 @@
--- Every step of the plan keeps all instants below a top that rises by at most 128 with each packet, and the records in time.
+-- Every step of the plan keeps all instants below a top that rises by at most 192 with each bank closed, and the records in time.
 -- Assumes nothing.
 use Prim.Native.Nat.{ℕ, zero, suc, _+_, _*_, _≤_, max}
 use mathlib.Core.Path.{_≡_}
@@ -20,15 +20,15 @@ use Rattle.record.specs.declared.Record.the-variants.{RowAt, ColAt, DataOf}
 use Rattle.spec_rules.specs.declared.Write.{Write}
 use Rattle.spec_rules.specs.Neighbour.{bankCount, Context, contextOf, near}
 use Rattle.spec_rules.specs.Packets.{instant}
-use Rattle.spec_rules.specs.History.{isClosed, anyWrite}
+use Rattle.spec_rules.specs.History.{isClosed}
 use Rattle.spec_rules.specs.Rules.{dataDelay}
-use Rattle.spec_rules.specs.Channel.{leavingOf}
+use Rattle.spec_rules.specs.Channel.{waitingOf}
 use Rattle.spec_rules.specs.Earliest.{earliest, leastFrom}
 use Rattle.spec_rules.proofs.Bools.{and-left, and-right}
 use Rattle.spec_rules.proofs.EarliestLaws.{moved-instant, picked-late}
 use Rattle.spec_state.proofs.Stamps.{Stamped, after-stamped}
 use Rattle.spec_plan.specs.declared.PlannerState.{PlannerState}
-use Rattle.spec_plan.specs.Plan.{Draft, rowPacket, colPacket, when, waiting, stateIn, openOn, hits, anyWaits, carried, slot, leaver, placedIn, sent, flushed, flushedWhile, closed, closedUpTo, reached, plannedRead, loaded, written, plannedWrite, turned, plannedRefresh, plannedDrain}
+use Rattle.spec_plan.specs.Plan.{Draft, rowPacket, colPacket, when, waiting, stateIn, openOn, anyWaits, carried, slot, leaver, placedIn, sent, flushed, flushedWhile, loses, closed, closedUpTo, reached, delays, plannedRead, loaded, written, plannedWrite, turned, plannedRefresh, plannedDrain}
 use Rattle.spec_plan.specs.Call.{inTime}
 use Rattle.spec_plan.proofs.SentLaws.{when-either}
 use Rattle.plan_bytes.proofs.Tops.{after-all, Under, under-more, least-top}
@@ -79,7 +79,7 @@ module _ (s : Settings) (v : valid s ≡ true) where
 
     slot-least : (r : Record) → 4 ≤ slot cx p r
     unfolding slot leastFrom
-    slot-least r = omega (arith, picked-late cx (p .channel) r (max (p .now .0) (earliest cx (p .channel) r)) (leavingOf cx (p .channel) r), k .low)
+    slot-least r = omega (arith, picked-late cx (p .channel) r (max (p .now .0) (earliest cx (p .channel) r)) (waitingOf (p .channel .buffer)), k .low)
 
     -- a packet
     pub marked-sent : (r : Record) → Marked s (top + 64) (sent cx r d)
@@ -125,68 +125,69 @@ module _ (s : Settings) (v : valid s ≡ true) where
   unfolding flushed
   marked-when b top d k h = when-either (Marked s (top + 64)) b (flushed cx) d (λ _. marked-sent top d k h (colPacket (Nocop 0xFFFF))) (λ _. marked-more s top (top + 64) (omega arith) d k)
 
-  pub marked-while : (test : List Write → Bool) (top : ℕ) (d : Draft) → Marked s top d → top ≤ far → Marked s (top + 64) (flushedWhile cx test d)
+  pub marked-while : (test : List Write → Bool) (top : ℕ) (d : Draft) → Marked s top d → top + 64 ≤ far → Marked s (top + 128) (flushedWhile cx test d)
   unfolding flushedWhile
-  marked-while test top d k h = marked-when (test (waiting d)) top d k h
+  marked-while test top d k h =
+      let z : Draft = when (test (waiting d)) (flushed cx) d in
+      marked-more s (top + 64 + 64) (top + 128) (omega arith) _ (marked-when (test (waiting z)) (top + 64) z (marked-when (test (waiting d)) top d k (omega arith)) h)
 
-  marked-closed : (x top : ℕ) (d : Draft) → Marked s top d → top + 64 ≤ far → Marked s (top + 128) (closed cx x d)
+  marked-closed : (x top : ℕ) (d : Draft) → Marked s top d → top + 128 ≤ far → Marked s (top + 192) (closed cx x d)
   unfolding closed
   marked-closed x top d k h =
-      let test : List Write → Bool = anyWrite (λ w. near cx x (w .bank)) in
-      let m = marked-sent (top + 64) (flushedWhile cx test d) (marked-while test top d k (omega arith)) h (rowPacket (Prer x)) in
-      marked-more s (top + 64 + 64) (top + 128) (omega arith) _ m
+      let m = marked-sent (top + 128) (flushedWhile cx (loses cx x) d) (marked-while (loses cx x) top d k (omega arith)) h (rowPacket (Prer x)) in
+      marked-more s (top + 128 + 64) (top + 192) (omega arith) _ m
 
-  pub marked-up-to : (pick : ℕ → Bool) (n top : ℕ) (d : Draft) → Marked s top d → top + 128 * n ≤ far → Marked s (top + 128 * n) (closedUpTo cx pick n d)
+  pub marked-up-to : (pick : ℕ → Bool) (n top : ℕ) (d : Draft) → Marked s top d → top + 192 * n ≤ far → Marked s (top + 192 * n) (closedUpTo cx pick n d)
   unfolding closedUpTo
-  marked-up-to pick zero top d k h = marked-more s top (top + 128 * 0) (omega arith) d k
+  marked-up-to pick zero top d k h = marked-more s top (top + 192 * 0) (omega arith) d k
   marked-up-to pick (suc n) top d k h =
       let z : Draft = closedUpTo cx pick n d in
-      let m : Marked s (top + 128 * n) z = marked-up-to pick n top d k (omega arith) in
-      when-either (Marked s (top + 128 * suc n)) (pick n && not (isClosed (stateIn z n))) (closed cx n) z
-      (λ _. marked-more s (top + 128 * n + 128) (top + 128 * suc n) (omega arith) _ (marked-closed n (top + 128 * n) z m (omega arith)))
-      (λ _. marked-more s (top + 128 * n) (top + 128 * suc n) (omega arith) z m)
+      let m : Marked s (top + 192 * n) z = marked-up-to pick n top d k (omega arith) in
+      when-either (Marked s (top + 192 * suc n)) (pick n && not (isClosed (stateIn z n))) (closed cx n) z
+      (λ _. marked-more s (top + 192 * n + 192) (top + 192 * suc n) (omega arith) _ (marked-closed n (top + 192 * n) z m (omega arith)))
+      (λ _. marked-more s (top + 192 * n) (top + 192 * suc n) (omega arith) z m)
 
-  pub marked-all : (pick : ℕ → Bool) (top : ℕ) (d : Draft) → Marked s top d → top + 4096 ≤ far → Marked s (top + 4096) (closedUpTo cx pick bankCount d)
+  pub marked-all : (pick : ℕ → Bool) (top : ℕ) (d : Draft) → Marked s top d → top + 6144 ≤ far → Marked s (top + 6144) (closedUpTo cx pick bankCount d)
   unfolding bankCount
   marked-all pick top d k h = marked-up-to pick 32 top d k h
 
-  pub marked-reached : (bank row top : ℕ) (d : Draft) → Marked s top d → top + 4096 ≤ far → Marked s (top + 4160) (reached cx bank row d)
+  pub marked-reached : (bank row top : ℕ) (d : Draft) → Marked s top d → top + 6144 ≤ far → Marked s (top + 6208) (reached cx bank row d)
   unfolding reached
   marked-reached bank row top d k h =
-      when-either (Marked s (top + 4160)) (not (openOn (stateIn d bank) row)) (λ d. sent cx (rowPacket (Act bank row)) (closedUpTo cx (near cx bank) bankCount d)) d
-      (λ _. marked-more s (top + 4096 + 64) (top + 4160) (omega arith) _ (marked-sent (top + 4096) _ (marked-all (near cx bank) top d k h) h (rowPacket (Act bank row))))
-      (λ _. marked-more s top (top + 4160) (omega arith) d k)
+      when-either (Marked s (top + 6208)) (not (openOn (stateIn d bank) row)) (λ d. sent cx (rowPacket (Act bank row)) (closedUpTo cx (near cx bank) bankCount d)) d
+      (λ _. marked-more s (top + 6144 + 64) (top + 6208) (omega arith) _ (marked-sent (top + 6144) _ (marked-all (near cx bank) top d k h) h (rowPacket (Act bank row))))
+      (λ _. marked-more s top (top + 6208) (omega arith) d k)
 
   -- ---- requests
 
-  module _ (top : ℕ) (d : Draft) (k : Marked s top d) (h : top + 4400 ≤ far) where
-    pub marked-read : (at : Place) → Marked s (top + 4400) (plannedRead cx at d)
+  module _ (top : ℕ) (d : Draft) (k : Marked s top d) (h : top + 6400 ≤ far) where
+    pub marked-read : (at : Place) → Marked s (top + 6400) (plannedRead cx at d)
     unfolding plannedRead
     marked-read at =
         let z : Draft = reached cx (at .bank) (at .row) d in
-        let m : Marked s (top + 4160) z = marked-reached (at .bank) (at .row) top d k (omega arith) in
-        let test : List Write → Bool = anyWrite (hits (at .bank) (at .column)) in
-        marked-more s (top + 4160 + 64 + 64) (top + 4400) (omega arith) _ (marked-sent (top + 4160 + 64) (flushedWhile cx test z) (marked-while test (top + 4160) z m (omega arith)) (omega arith) (colPacket (Rd (at .bank) (at .column) 0xFFFF)))
+        let m : Marked s (top + 6208) z = marked-reached (at .bank) (at .row) top d k (omega arith) in
+        let test : List Write → Bool = delays cx at in
+        marked-more s (top + 6208 + 128 + 64) (top + 6400) (omega arith) _ (marked-sent (top + 6208 + 128) (flushedWhile cx test z) (marked-while test (top + 6208) z m (omega arith)) (omega arith) (colPacket (Rd (at .bank) (at .column) 0xFFFF)))
 
-    pub marked-write : (at : Place) (mask : ℕ) (bytes : Dualoct) → Marked s (top + 4400) (plannedWrite cx at mask bytes d)
+    pub marked-write : (at : Place) (mask : ℕ) (bytes : Dualoct) → Marked s (top + 6400) (plannedWrite cx at mask bytes d)
     unfolding plannedWrite written
     marked-write at mask bytes =
         let z : Draft = reached cx (at .bank) (at .row) d in
-        let m : Marked s (top + 4160) z = marked-reached (at .bank) (at .row) top d k (omega arith) in
+        let m : Marked s (top + 6208) z = marked-reached (at .bank) (at .row) top d k (omega arith) in
         let r : Record = colPacket (Wr (at .bank) (at .column) 0xFFFF) in
-        marked-more s (top + 4160 + 64 + 64) (top + 4400) (omega arith) _ (marked-loaded (top + 4160 + 64) (sent cx r z) (marked-sent (top + 4160) z m (omega arith) r) (omega arith) mask bytes)
+        marked-more s (top + 6208 + 64 + 64) (top + 6400) (omega arith) _ (marked-loaded (top + 6208 + 64) (sent cx r z) (marked-sent (top + 6208) z m (omega arith) r) (omega arith) mask bytes)
 
-    pub marked-refresh : Marked s (top + 4400) (plannedRefresh cx d)
+    pub marked-refresh : Marked s (top + 6400) (plannedRefresh cx d)
     unfolding plannedRefresh
     marked-refresh =
         let b : ℕ = d .planner .refresh in
         let z : Draft = closedUpTo cx (near cx b) bankCount d in
-        let m : Marked s (top + 4096) z = marked-all (near cx b) top d k (omega arith) in
+        let m : Marked s (top + 6144) z = marked-all (near cx b) top d k (omega arith) in
         let y : Draft = sent cx (rowPacket (Refa b)) z in
-        let n : Marked s (top + 4096 + 64) y = marked-sent (top + 4096) z m (omega arith) (rowPacket (Refa b)) in
+        let n : Marked s (top + 6144 + 64) y = marked-sent (top + 6144) z m (omega arith) (rowPacket (Refa b)) in
         let x : Draft = sent cx (rowPacket (Refp b)) y in
-        marked-more s (top + 4096 + 64 + 64) (top + 4400) (omega arith) _ (marked-turned (top + 4096 + 64 + 64) x (marked-sent (top + 4096 + 64) y n (omega arith) (rowPacket (Refp b))) (omega arith))
+        marked-more s (top + 6144 + 64 + 64) (top + 6400) (omega arith) _ (marked-turned (top + 6144 + 64 + 64) x (marked-sent (top + 6144 + 64) y n (omega arith) (rowPacket (Refp b))) (omega arith))
 
-    pub marked-drain : Marked s (top + 4400) (plannedDrain cx d)
+    pub marked-drain : Marked s (top + 6400) (plannedDrain cx d)
     unfolding plannedDrain
-    marked-drain = marked-more s (top + 64 + 4096) (top + 4400) (omega arith) _ (marked-all (λ x. true) (top + 64) (flushedWhile cx anyWaits d) (marked-while anyWaits top d k (omega arith)) (omega arith))
+    marked-drain = marked-more s (top + 128 + 6144) (top + 6400) (omega arith) _ (marked-all (λ x. true) (top + 128) (flushedWhile cx anyWaits d) (marked-while anyWaits top d k (omega arith)) (omega arith))

@@ -5,35 +5,36 @@ use mathlib.Core.Path.{_≡_, refl, sym, ap, _∙_}
 use mathlib.Core.Bool.{Bool, true, false, cond}
 use mathlib.Core.List.{List}
 use native.Mathlib.Omega.{arith}
-use borrow.Author.Tests.{leb-true}
+use borrow.Author.Tests.{leb-true, eqb-false, lt-ltb}
 use lib.Dec.{eqb, leb, ltb}
 use lib.ListN.{length, getD}
 use Rattle.settings.specs.declared.Settings.{Settings}
 use Rattle.settings.specs.Instants.{isInstant}
 use Rattle.settings.proofs.SettingsLaws.{bounds}
 use Rattle.record.specs.declared.Record.{Record}
+use Rattle.spec_rules.specs.declared.Write.{Write}
 use Rattle.spec_rules.specs.declared.Buffer.{Buffer}
-use Rattle.spec_rules.specs.declared.Buffer.the-variants.{Empty, One}
+use Rattle.spec_rules.specs.declared.Buffer.the-variants.{Empty, One, Two}
 use Rattle.spec_rules.specs.Neighbour.{bankCount, contextOf}
 use Rattle.spec_rules.specs.History.{allWrites}
-use Rattle.spec_rules.specs.Channel.{waitingOf, leavingOf}
+use Rattle.spec_rules.specs.Channel.{waitingOf}
 use Rattle.spec_rules.specs.Earliest.{leastFrom, earliest}
 use Rattle.spec_rules.proofs.Bools.{and-left, and-right}
 use Rattle.spec_rules.proofs.EarliestLaws.{picked-late}
 use Rattle.spec_state.specs.Valid.{writeValid}
 use Rattle.spec_state.specs.ChannelBytes.{instantOf, trackIn, lastsIn, writeIn, bufferIn, channelIn}
 use Rattle.spec_state.proofs.RoundTrip.{stored-in}
-use Rattle.spec_state.proofs.StoreLaws.{WriteIn}
+use Rattle.spec_state.proofs.StoreLaws.{ByBytes, WriteIn}
 use Rattle.spec_plan.specs.declared.PlannerState.{PlannerState}
 use Rattle.spec_plan.specs.Plan.{slot}
 use Rattle.spec_plan.specs.PlannerBytes.{plannerIn}
 use Rattle.spec_plan.proofs.Invariant.{Inv, Tested, WritesIn, valid-tested, valid-inv}
 use Rattle.spec_plan.proofs.PlannerRoundTrip.{planner-length}
-use Rattle.plan_bytes.specs.form.Numbers.{word, waitsIn, heldBank, Tops, Below}
+use Rattle.plan_bytes.specs.form.Numbers.{word, waitsIn, heldBank, twoIn, Tops, Below}
 use Rattle.plan_bytes.specs.form.Drawn.{Readies, Ready}
 use Rattle.plan_bytes.proofs.Tops.{TrackAll, WritesAll, Under, least-top}
 use Rattle.plan_bytes.proofs.Instants.{top-said}
-use Rattle.plan_bytes.proofs.States.{Early, track-at, held-is}
+use Rattle.plan_bytes.proofs.States.{Early, track-at, two-is, one-is}
 use Rattle.plan_bytes.proofs.Puts.{Plain, BankIn}
 
 -- ---- what ready bytes say
@@ -66,10 +67,15 @@ module _ (s : Settings) (top : ℕ) (b : List ℕ) (k : Ready s top b) where
   tested : Tested (contextOf s) p
   tested = valid-tested (contextOf s) p (readies .right)
 
+  by-bytes : (w : Write) → (w .bank < bankCount) × (w .column < s .columns) → ByBytes w
+  unfolding bankCount
+  by-bytes w i = let l = i .0 in let m = i .1 in (omega arith, omega (arith, bounds s (readies .figures) .columns-most))
+
   write-fits : (buffer : Buffer) → WritesIn (contextOf s) (waitingOf buffer) → WriteIn buffer × BankIn buffer
   unfolding waitingOf bankCount contextOf
   write-fits Empty i = (tt, tt)
-  write-fits (One w) i = ((omega arith, omega (arith, bounds s (readies .figures) .columns-most)), i .0 .0)
+  write-fits (One x) i = (by-bytes x (i .0), i .0 .0)
+  write-fits (Two x y) i = ((by-bytes x (i .0), by-bytes y (i .1 .0)), (i .0 .0, i .1 .0 .0))
 
   pub plain : Plain (p .channel)
   unfolding bankCount
@@ -82,18 +88,30 @@ module _ (s : Settings) (top : ℕ) (b : List ℕ) (k : Ready s top b) where
   unfolding waitingOf writeValid
   early = go (p .channel .buffer) (tested .write)
     where
-      go : (buffer : Buffer) → allWrites (writeValid (contextOf s)) (waitingOf buffer) ≡ true → Early buffer
-      go Empty e = tt
-      go (One w) e =
-          let at : isInstant (w .at .0) ≡ true = and-right (ltb (w .column) _) _ (and-right (ltb (w .bank) _) _ (and-left (writeValid (contextOf s) w) _ e)) in
+      late : (w : Write) → writeValid (contextOf s) w ≡ true → 4 ≤ w .at .0
+      late w e =
+          let at : isInstant (w .at .0) ≡ true = and-right (ltb (w .column) _) _ (and-right (ltb (w .bank) _) _ e) in
           leb-true 4 (w .at .0) (and-left (leb 4 (w .at .0)) _ at)
 
-  -- the bank of the waiting write
+      go : (buffer : Buffer) → allWrites (writeValid (contextOf s)) (waitingOf buffer) ≡ true → Early buffer
+      go Empty e = tt
+      go (One x) e = late x (and-left (writeValid (contextOf s) x) _ e)
+      go (Two x y) e = late x (and-left (writeValid (contextOf s) x) _ e)
+
+  -- the older waiting write
   pub held-bank : waitsIn b ≡ true → heldBank b < 32
-  held-bank e = rw (held-is b e) at bank-in
+  held-bank e = go (twoIn b) refl
+    where
+      go : (q : Bool) → twoIn b ≡ q → heldBank b < 32
+      go true f = (rw (two-is b f) at bank-in) .0
+      go false f = rw (one-is b e f) at bank-in
 
   pub held-early : waitsIn b ≡ true → 4 ≤ writeIn b 736 .at .0
-  held-early e = rw (held-is b e) at early
+  held-early e = go (twoIn b) refl
+    where
+      go : (q : Bool) → twoIn b ≡ q → 4 ≤ writeIn b 736 .at .0
+      go true f = rw (two-is b f) at early
+      go false f = rw (one-is b e f) at early
 
   track-top : (x : ℕ) → x < 32 → TrackAll (λ t. t ≤ top + 3) (trackIn b x)
   unfolding trackIn
@@ -108,11 +126,15 @@ module _ (s : Settings) (top : ℕ) (b : List ℕ) (k : Ready s top b) where
 
   writes-top : WritesAll (λ t. t ≤ top + 3) (waitingOf (bufferIn b))
   unfolding bufferIn waitingOf
-  writes-top = go (eqb (getD b 728 0) 0) refl
+  writes-top = go (eqb (getD b 728 0) 0) (eqb (getD b 728 0) 1) refl refl
     where
-      go : (q : Bool) → eqb (getD b 728 0) 0 ≡ q → WritesAll (λ t. t ≤ top + 3) (waitingOf (cond q Empty (One (writeIn b 736))))
-      go true e = tt
-      go false e = (top-said (word b 740) top (tops .wrote (rw e)), tt)
+      go : (q r : Bool) → eqb (getD b 728 0) 0 ≡ q → eqb (getD b 728 0) 1 ≡ r
+          → WritesAll (λ t. t ≤ top + 3) (waitingOf (cond q Empty (cond r (One (writeIn b 736)) (Two (writeIn b 736) (writeIn b 744)))))
+      go true r e f = tt
+      go false true e f = (top-said (word b 740) top (tops .wrote (rw e)), tt)
+      go false false e f =
+          let both : twoIn b ≡ true = lt-ltb 1 (getD b 728 0) (omega (arith, eqb-false (getD b 728 0) 0 e, eqb-false (getD b 728 0) 1 f)) in
+          (top-said (word b 740) top (tops .wrote (rw e)), (top-said (word b 748) top (tops .second both), tt))
 
   pub under-top : Under (top + 3) (p .channel)
   unfolding plannerIn channelIn lastsIn bankCount
@@ -152,7 +174,7 @@ module _ (s : Settings) (b : List ℕ) where
   slot-low low r =
       let p : PlannerState = plannerIn b in
       let t0 : ℕ = max (p .now .0) (earliest (contextOf s) (p .channel) r) in
-      omega (arith, picked-late (contextOf s) (p .channel) r t0 (leavingOf (contextOf s) (p .channel) r))
+      omega (arith, picked-late (contextOf s) (p .channel) r t0 (waitingOf (p .channel .buffer)))
 
   pub says : 4 ≤ plannerIn b .now .0 → (v : ℕ) (r : Record) → slot (contextOf s) (plannerIn b) r ≤ 999999100 → instantOf v ≡ slot (contextOf s) (plannerIn b) r → Says v r
   says low v r m e =

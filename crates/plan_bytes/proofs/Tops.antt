@@ -2,11 +2,11 @@
 -- Assumes nothing.
 use Prim.Native.Nat.{ℕ, _+_, _<_, _≤_, max}
 use mathlib.Core.Path.{_≡_, _∙_}
-use mathlib.Core.Bool.{Bool, true, false, not, _||_, cond}
+use mathlib.Core.Bool.{Bool, true, false, not, _&&_, _||_, cond}
 use mathlib.Core.List.{List, [], _∷_}
 use mathlib.Core.Option.{Option, none, some}
 use native.Mathlib.Omega.{arith}
-use lib.Dec.{eqb}
+use lib.Dec.{eqb, leb}
 use lib.ListN.{length}
 use Rattle.settings.specs.declared.Settings.{Settings}
 use Rattle.settings.specs.declared.PacketAt.{PacketAt}
@@ -20,11 +20,12 @@ use Rattle.spec_rules.specs.declared.Write.{Write}
 use Rattle.spec_rules.specs.declared.Channel.{Channel}
 use Rattle.spec_rules.specs.Neighbour.{bankCount, Context, near}
 use Rattle.spec_rules.specs.Packets.{Traits, traits, retireTraits, instant}
-use Rattle.spec_rules.specs.History.{first, onlyWrite, leaving, left, loads, joined, waitingNext, only, closes, has}
+use Rattle.spec_rules.specs.History.{left, loads, joined, waitingNext, only, closes, has}
 use Rattle.spec_rules.specs.Distances.{Kind, packet, ROW, COL, ACT, onlyACT, PRER, RD, WR, retire, bankAs, Banks, any, same, sameOrNeighbour, others, sameNeighbourOrClosed, Distance, distances}
+use Rattle.spec_rules.specs.Rules.{stays}
 use Rattle.spec_rules.specs.Channel.{idle, trackOf, stateOf, waitingOf, inBank, trackNext, afterPacket, trackRetired, afterRetire, afterData, leavingOf, after}
 use Rattle.spec_rules.specs.Checks.{asks, boundOf, maxLine, lastOn, lastAt, boundBanks, boundBy, bound, bounds}
-use Rattle.spec_rules.specs.Earliest.{earliest, slotFrom, leastFrom}
+use Rattle.spec_rules.specs.Earliest.{earliest, retireBound, slotFrom, leastFrom}
 use Rattle.spec_rules.proofs.ListLaws.{length-imap, getD-imap}
 use Rattle.spec_rules.proofs.TrackLaws.{after-waits}
 use Rattle.plan_bytes.proofs.Since.{since-top, max-top}
@@ -71,7 +72,7 @@ module _ (P : ℕ → Type 0) where
   writes-joined (RowAt t p) ws e k = k
   writes-joined (ColAt t (Nocop m)) ws e k = k
   writes-joined (ColAt t (Wr b c m)) [] e k = (e, tt)
-  writes-joined (ColAt t (Wr b c m)) (w ∷ ws) e k = (k .0, writes-joined (ColAt t (Wr b c m)) ws e (k .1))
+  writes-joined (ColAt t (Wr b c m)) (w ∷ ws) e k = (k .0, (e, tt))
   writes-joined (ColAt t (Rd b c m)) ws e k = k
   writes-joined (DataOf t d) ws e k = k
 
@@ -240,13 +241,19 @@ module _ (cx : Context) (ch : Channel) (top : ℕ) (k : Under top ch) where
 
   -- every packet
   pub least-top : valid (cx .settings) ≡ true → (r : Record) (now : ℕ) → now ≤ top → leastFrom cx ch r now ≤ top + 64
-  unfolding leastFrom earliest leaving highs
-  least-top v r now h = go (traits r .notRead) (waitingOf (ch .buffer)) (k .writes)
+  unfolding leastFrom earliest highs
+  least-top v r now h = go (waitingOf (ch .buffer)) (k .writes)
     where
-      base : max now (max 4 (bounds cx ch (traits r))) ≤ top + 64
+      t0 : ℕ
+      t0 = max now (max 4 (bounds cx ch (traits r)))
+
+      base : t0 ≤ top + 64
       base = omega (arith, bounds-top v (traits r))
 
-      go : (q : Bool) (ws : List Write) → WritesAll (λ t. t ≤ top) ws → slotFrom cx ch r (max now (max 4 (bounds cx ch (traits r)))) (onlyWrite q (first ws)) ≤ top + 64
-      go true [] e = base
-      go true (w ∷ ws) e = omega (arith, base, bounds-top v (retireTraits (w .bank)), e .0, timing-range (cx .settings) v 6 (omega arith) .1)
-      go false ws e = base
+      either : (w : Write) → w .at .0 ≤ top → (q : Bool) → cond q (max t0 (retireBound cx ch r w)) t0 ≤ top + 64
+      either w e true = omega (arith, base, bounds-top v (retireTraits (w .bank)), timing-range (cx .settings) v 6 (omega arith) .1)
+      either w e false = base
+
+      go : (ws : List Write) → WritesAll (λ t. t ≤ top) ws → slotFrom cx ch r t0 ws ≤ top + 64
+      go [] e = base
+      go (w ∷ ws) e = either w (e .0) (traits r .notRead && (not (stays (w ∷ ws) (traits r)) || leb (w .at .0 + cx .settings .rtr) t0))

@@ -5,7 +5,7 @@ ghost use lib.ListN.{length};
 ghost use Rattle.num.specs.Bytes.{splice};
 ghost use Rattle.record.specs.Record.{recordFields};
 ghost use Rattle.spec_rules.specs.Checks.{since};
-ghost use Rattle.plan_bytes.specs.form.Numbers.{word, waitsIn, heldBank, nowStored};
+ghost use Rattle.plan_bytes.specs.form.Numbers.{word, waitsIn, heldBank, twoIn, nextBank, nowStored};
 use chan_view::bounds::after_gap;
 use num::u32_at;
 use puts::put_u32;
@@ -45,12 +45,28 @@ pub fn waits(b: &[u8]) -> bool
     num::wide(b[728]) != 0
 }
 
-// The bank that it waits for.
+// The bank of the older one.
 pub fn held_bank(b: &[u8]) -> u32
     requires { ⌜ length (now b) ≡ 768 ⌝ }
     ensures { λ r. ⌜ (r ≡ heldBank (now (b .entry))) × (r < 256) ⌝ }
 {
     num::wide(b[736])
+}
+
+// Whether two writes wait.
+pub fn two(b: &[u8]) -> bool
+    requires { ⌜ length (now b) ≡ 768 ⌝ }
+    ensures { λ r. ⌜ r ≡ twoIn (now (b .entry)) ⌝ }
+{
+    1 < num::wide(b[728])
+}
+
+// The bank of the newer one.
+pub fn next_bank(b: &[u8]) -> u32
+    requires { ⌜ length (now b) ≡ 768 ⌝ }
+    ensures { λ r. ⌜ (r ≡ nextBank (now (b .entry))) × (r < 256) ⌝ }
+{
+    num::wide(b[744])
 }
 
 // Now after a packet at t, as it is stored.

@@ -23,6 +23,9 @@ max-at f (suc n) k l = ⊎-elim (λ (e : k ≡ n). rw e (omega arith)) (λ (m : 
 le-here : (a b top : ℕ) → max a b ≤ top → (a ≤ top) × (b ≤ top)
 le-here a b top h = (omega arith, omega arith)
 
+through : (a b c : ℕ) → a ≤ b → b ≤ c → a ≤ c
+through a b c h g = omega arith
+
 highest-below : (b : List ℕ) (top : ℕ) → highestIn b ≤ top → Below top b
 unfolding highestIn Below
 highest-below b top h =
@@ -32,16 +35,18 @@ highest-below b top h =
     let p3 = le-here (word b 712) _ top (p2 .1) in
     let p4 = le-here (word b 716) _ top (p3 .1) in
     let p5 = le-here (word b 720) _ top (p4 .1) in
-    let p6 = le-here (word b 740) (word b 752) top (p5 .1) in
+    let p6 = le-here (word b 740) _ top (p5 .1) in
+    let p7 = le-here (word b 748) (word b 752) top (p6 .1) in
     record {
-      banks = λ k l. omega (arith, max-at (λ k. word b (4 * k)) 160 k l, p0 .0);
+      banks = λ k l. through _ _ top (max-at (λ k. word b (4 * k)) 160 k l) (p0 .0);
       packet = p1 .0;
       row = p2 .0;
       col = p3 .0;
       pre = p4 .0;
       rd = p5 .0;
       wrote = λ _. p6 .0;
-      now = p6 .1;
+      second = λ _. p7 .0;
+      now = p7 .1;
     }
 
 pub calm-below : (b : List ℕ) → isCalm b ≡ true → Below 999990000 b
@@ -65,14 +70,14 @@ pub or-step : (f : ℕ → ℕ) (n : ℕ) {top x y : ℕ} → maxUpTo f n ≤ to
 unfolding maxUpTo
 or-step f n {top} {x} h e g = rw (add-one n, g, ← e) (omega (arith, or-left top x, or-right top x))
 
--- the or that the code makes of the eight numbers
-pub or-highest : (b : List ℕ) (banks a c d e f g n : ℕ) → maxUpTo (λ k. word b (4 * k)) 160 ≤ banks
-    → a ≡ word b 704 → c ≡ word b 708 → d ≡ word b 716 → e ≡ word b 712 → f ≡ word b 720 → g ≡ word b 740 → n ≡ word b 752
-    → highestIn b ≤ bitOr (bitOr (bitOr banks (bitOr (bitOr a c) d)) (bitOr (bitOr e f) g)) n
+-- the or that the code makes of the nine numbers
+pub or-highest : (b : List ℕ) (banks a c d e f g k n : ℕ) → maxUpTo (λ k. word b (4 * k)) 160 ≤ banks
+    → a ≡ word b 704 → c ≡ word b 708 → d ≡ word b 716 → e ≡ word b 712 → f ≡ word b 720 → g ≡ word b 740 → k ≡ word b 748 → n ≡ word b 752
+    → highestIn b ≤ bitOr (bitOr (bitOr banks (bitOr (bitOr a c) d)) (bitOr (bitOr (bitOr e f) g) k)) n
 unfolding highestIn
-or-highest b banks a c d e f g n h0 ha hc hd he hf hg hn =
+or-highest b banks a c d e f g k n h0 ha hc hd he hf hg hk hn =
     let rows : ℕ = bitOr (bitOr a c) d in
-    let cols : ℕ = bitOr (bitOr e f) g in
+    let cols : ℕ = bitOr (bitOr (bitOr e f) g) k in
     let r0 = or-left a c in
     let r1 = or-right a c in
     let r2 = or-left (bitOr a c) d in
@@ -81,6 +86,8 @@ or-highest b banks a c d e f g n h0 ha hc hd he hf hg hn =
     let c1 = or-right e f in
     let c2 = or-left (bitOr e f) g in
     let c3 = or-right (bitOr e f) g in
+    let c4 = or-left (bitOr (bitOr e f) g) k in
+    let c5 = or-right (bitOr (bitOr e f) g) k in
     let x0 = or-left banks rows in
     let x1 = or-right banks rows in
     let y0 = or-left (bitOr banks rows) cols in
@@ -91,7 +98,7 @@ or-highest b banks a c d e f g n h0 ha hc hd he hf hg hn =
     most _ _ all (omega arith)
     (most _ _ all (omega arith)
     (most _ _ all (omega arith)
-    (most _ _ all (omega arith) (most _ _ all (omega arith) (most _ _ all (omega arith) (most (word b 740) (word b 752) all (omega arith) (omega arith)))))))
+    (most _ _ all (omega arith) (most _ _ all (omega arith) (most _ _ all (omega arith) (most _ _ all (omega arith) (most (word b 748) (word b 752) all (omega arith) (omega arith))))))))
   where
     most : (a b top : ℕ) → a ≤ top → b ≤ top → max a b ≤ top
     most a b top h g = omega arith

@@ -28,7 +28,7 @@ fn top(b: &[u8]) -> u32
     ensures { λ r. ⌜ highestIn (now (b .entry)) ≤ r ⌝ }
 {
     let rows = u32_at(b, 704) | u32_at(b, 708) | u32_at(b, 716);
-    let cols = u32_at(b, 712) | u32_at(b, 720) | u32_at(b, 740);
+    let cols = u32_at(b, 712) | u32_at(b, 720) | u32_at(b, 740) | u32_at(b, 748);
     banks_top(b) | rows | cols | u32_at(b, 752)
 }
 
@@ -51,7 +51,10 @@ fn highest(b: &[u8]) -> u32
     requires { ⌜ length (now b) ≡ 768 ⌝ }
     ensures { λ r. ⌜ r ≡ highestIn (now (b .entry)) ⌝ }
 {
-    let last = latest(u32_at(b, 740), u32_at(b, 752));
+    let last = latest(
+        u32_at(b, 740),
+        latest(u32_at(b, 748), u32_at(b, 752)),
+    );
     let cols = latest(
         u32_at(b, 712),
         latest(u32_at(b, 716), latest(u32_at(b, 720), last)),

@@ -2,10 +2,13 @@
 -- Assumes nothing.
 use Prim.Native.Nat.{ℕ, _+_, _*_, _-_, _<_, _≤_, max}
 use mathlib.Core.Path.{_≡_, refl, sym, ap, ap₂, _∙_}
-use mathlib.Core.Bool.{Bool, true, false, cond}
-use mathlib.Core.List.{List}
+use mathlib.Core.Bool.{Bool, true, false, cond, _&&_, _||_}
+use mathlib.Core.List.{List, [], _∷_}
+use mathlib.Core.Option.{none, some}
 use native.Mathlib.Nat.{max-zero}
 use native.Mathlib.Omega.{arith}
+use borrow.Author.Tests.{leb-true, le-leb}
+use lib.Dec.{leb}
 use lib.ListN.{length}
 use Rattle.settings.specs.declared.Settings.{Settings}
 use Rattle.packet.specs.declared.ColPacket.the-variants.{Nocop, Wr, Rd}
@@ -13,26 +16,28 @@ use Rattle.record.specs.declared.Record.{Record}
 use Rattle.spec_rules.specs.declared.BankTrack.{BankTrack}
 use Rattle.spec_rules.specs.declared.Write.{Write}
 use Rattle.spec_rules.specs.declared.Buffer.{Buffer}
-use Rattle.spec_rules.specs.declared.Buffer.the-variants.{Empty, One}
+use Rattle.spec_rules.specs.declared.Buffer.the-variants.{Empty, One, Two}
 use Rattle.spec_rules.specs.declared.Channel.{Channel}
 use Rattle.spec_rules.specs.Neighbour.{contextOf}
-use Rattle.spec_rules.specs.Packets.{traits, colTraits}
-use Rattle.spec_rules.specs.History.{leaving, first}
+use Rattle.spec_rules.specs.Packets.{traits, colTraits, instant}
+use Rattle.spec_rules.specs.History.{onlyWrite}
 use Rattle.spec_rules.specs.Distances.{onlyACT}
 use Rattle.spec_rules.specs.Channel.{trackOf, waitingOf}
 use Rattle.spec_rules.specs.Checks.{since}
-use Rattle.spec_rules.specs.Earliest.{earliest, leastFrom, retireBound, slotFrom}
+use Rattle.spec_rules.specs.Earliest.{placedAt, earliest, leastFrom, retireBound, slotFrom, soonest}
+use Rattle.spec_rules.proofs.Bools.{iff-eq}
 use Rattle.spec_rules.proofs.ByCommand.{nocop-bounds, rd-bounds, wr-bounds, retire-bounds}
 use Rattle.spec_state.specs.ChannelBytes.{instantOf, trackIn, lastsIn, writeIn, channelIn}
+use Rattle.spec_state.proofs.ColLaws.{leaving-first, leaving-none}
 use Rattle.chan_view.proofs.BoundLaws.{own-bound}
 use Rattle.spec_plan.specs.declared.PlannerState.{PlannerState}
-use Rattle.spec_plan.specs.Plan.{colPacket, slot}
+use Rattle.spec_plan.specs.Plan.{colPacket, slot, leaver}
 use Rattle.spec_plan.specs.PlannerBytes.{plannerIn}
-use Rattle.plan_bytes.specs.form.Numbers.{word, waitsIn, heldBank}
+use Rattle.plan_bytes.specs.form.Numbers.{word, waitsIn, heldBank, twoIn}
 use Rattle.plan_bytes.proofs.Since.{since-some}
-use Rattle.plan_bytes.proofs.Instants.{said-max, said-since, floored}
-use Rattle.plan_bytes.proofs.States.{Early, sized, track-at, held-is, none-is}
-use Rattle.plan_cols.specs.form.Slots.{colBase, rdAt, retireAt, nocopAt, wrAt}
+use Rattle.plan_bytes.proofs.Instants.{said-max, said-since, said-some, some-said, floored, kept-slot}
+use Rattle.plan_bytes.proofs.States.{restIn, sized, track-at, two-is, one-is, none-is, waiting-is}
+use Rattle.plan_cols.specs.form.Slots.{colBase, rdAt, retireAt, nocopAt, wrBase, retiresIn, wrFrom, wrAt}
 
 -- ---- the plan's slots by the state, command by command
 
@@ -49,8 +54,10 @@ module _ (s : Settings) (p : PlannerState) (e : length (p .channel .banks) ≡ 3
   ownAsks gap x = since (trackOf ch x .act .0) gap
 
   rd-by : (x c m : ℕ) → slot (contextOf s) p (colPacket (Rd x c m)) ≡ max colFloor (ownAsks (s .rcd) x)
-  unfolding slot leastFrom earliest leaving traits colTraits contextOf
-  rd-by x c m = rw (rd-bounds (contextOf s) ch x c m, own-bound s ch e onlyACT (s .rcd) x) (floored p low _ _)
+  unfolding slot leastFrom earliest traits colTraits contextOf
+  rd-by x c m =
+      kept-slot (contextOf s) ch (colPacket (Rd x c m)) refl _ (waitingOf (ch .buffer))
+      ∙ rw (rd-bounds (contextOf s) ch x c m, own-bound s ch e onlyACT (s .rcd) x) (floored p low _ _)
 
   -- the retire of a write
   abbrev retireAsks : Write → ℕ
@@ -60,28 +67,77 @@ module _ (s : Settings) (p : PlannerState) (e : length (p .channel .banks) ≡ 3
   unfolding contextOf
   retire-by r w l = rw (retire-bounds (contextOf s) ch (w .bank), own-bound s ch e onlyACT (s .rcd) (w .bank), since-some (w .at .0) (s .rtr) (omega arith))
 
-  nocop-by : (m : ℕ) (w : Write) → ch .buffer ≡ One w → 4 ≤ w .at .0 → slot (contextOf s) p (colPacket (Nocop m)) ≡ max colFloor (retireAsks w)
-  unfolding slot leastFrom earliest leaving traits colTraits waitingOf contextOf
-  nocop-by m w z l =
-      let r : Record = colPacket (Nocop m) in
-      rw (nocop-bounds (contextOf s) ch m)
-      (ap (λ (b : Buffer). slotFrom (contextOf s) ch r (max (p .now .0) (max 4 (max (since (ch .lasts .packet .0) 0) (max (since (ch .lasts .col .0) (s .cc)) 0)))) (first (waitingOf b))) z ∙ ap₂ max (floored p low (since (ch .lasts .col .0) (s .cc)) 0 ∙ max-zero colFloor) (retire-by r w l))
+  -- NOCOP
+  nocop-floor : (m : ℕ) → soonest (contextOf s) ch (colPacket (Nocop m)) (p .now .0) ≡ colFloor
+  unfolding earliest traits colTraits contextOf
+  nocop-floor m = rw (nocop-bounds (contextOf s) ch m) (floored p low (since (ch .lasts .col .0) (s .cc)) 0 ∙ max-zero colFloor)
 
+  nocop-from : (m t0 : ℕ) (w : Write) (ws : List Write) → slotFrom (contextOf s) ch (colPacket (Nocop m)) t0 (w ∷ ws) ≡ max t0 (retireBound (contextOf s) ch (colPacket (Nocop m)) w)
+  unfolding traits colTraits
+  nocop-from m t0 w [] = refl
+  nocop-from m t0 w (y ∷ ws) = refl
+
+  nocop-by : (m : ℕ) (w : Write) (ws : List Write) → waitingOf (ch .buffer) ≡ w ∷ ws → 4 ≤ w .at .0 → slot (contextOf s) p (colPacket (Nocop m)) ≡ max colFloor (retireAsks w)
+  unfolding slot leastFrom
+  nocop-by m w ws z l =
+      let r : Record = colPacket (Nocop m) in
+      let t0 : ℕ = soonest (contextOf s) ch r (p .now .0) in
+      ap (λ (l : List Write). slotFrom (contextOf s) ch r t0 l) z ∙ nocop-from m t0 w ws ∙ ap₂ max (nocop-floor m) (retire-by r w l)
+
+  -- WR but for what it retires
   abbrev wrFloor : ℕ → ℕ
   wrFloor x = max colFloor (max (ownAsks (s .rcd - s .rtr) x) (since (ch .lasts .rd .0) (s .cc + s .cac - s .cwd)))
 
-  -- a WR, and what the write that it retires asks
-  abbrev leftAsks : Buffer → ℕ
-  leftAsks Empty = 0
-  leftAsks (One w) = retireAsks w
+  module _ (x c m : ℕ) where
+    abbrev wr : Record
+    wr = colPacket (Wr x c m)
 
-  wr-by : (x c m : ℕ) → Early (ch .buffer) → slot (contextOf s) p (colPacket (Wr x c m)) ≡ max (wrFloor x) (leftAsks (ch .buffer))
-  unfolding slot leastFrom earliest leaving traits colTraits waitingOf contextOf
-  wr-by x c m l = rw (wr-bounds (contextOf s) ch x c m, own-bound s ch e onlyACT (s .rcd - s .rtr) x) (go (ch .buffer) l)
-    where
-      go : (b : Buffer) → Early b → slotFrom (contextOf s) ch (colPacket (Wr x c m)) (max (p .now .0) (max 4 (max (since (ch .lasts .packet .0) 0) (max (since (ch .lasts .col .0) (s .cc)) (max (ownAsks (s .rcd - s .rtr) x) (since (ch .lasts .rd .0) (s .cc + s .cac - s .cwd))))))) (first (waitingOf b)) ≡ max (wrFloor x) (leftAsks b)
-      go Empty l = floored p low _ _ ∙ sym (max-zero (wrFloor x))
-      go (One w) l = ap₂ max (floored p low _ _) (retire-by (colPacket (Wr x c m)) w l)
+    wr-floor : soonest (contextOf s) ch wr (p .now .0) ≡ wrFloor x
+    unfolding earliest traits colTraits contextOf
+    wr-floor = rw (wr-bounds (contextOf s) ch x c m, own-bound s ch e onlyACT (s .rcd - s .rtr) x) (floored p low _ _)
+
+    -- by what waits
+    wr-none : ch .buffer ≡ Empty → slot (contextOf s) p wr ≡ wrFloor x
+    unfolding slot leastFrom waitingOf
+    wr-none z = ap (λ (b : Buffer). slotFrom (contextOf s) ch wr (soonest (contextOf s) ch wr (p .now .0)) (waitingOf b)) z ∙ wr-floor
+
+    wr-one : (w : Write) → ch .buffer ≡ One w → 4 ≤ w .at .0
+        → slot (contextOf s) p wr ≡ cond (leb (w .at .0 + s .rtr) (wrFloor x)) (max (wrFloor x) (retireAsks w)) (wrFloor x)
+    unfolding slot leastFrom waitingOf traits colTraits contextOf
+    wr-one w z l =
+        ap (λ (b : Buffer). slotFrom (contextOf s) ch wr (soonest (contextOf s) ch wr (p .now .0)) (waitingOf b)) z
+        ∙ ap₂ (λ (t0 r : ℕ). cond (leb (w .at .0 + s .rtr) t0) (max t0 r) t0) wr-floor (retire-by wr w l)
+
+    wr-two : (w y : Write) → ch .buffer ≡ Two w y → 4 ≤ w .at .0 → slot (contextOf s) p wr ≡ max (wrFloor x) (retireAsks w)
+    unfolding slot leastFrom waitingOf traits colTraits contextOf
+    wr-two w y z l =
+        ap (λ (b : Buffer). slotFrom (contextOf s) ch wr (soonest (contextOf s) ch wr (p .now .0)) (waitingOf b)) z
+        ∙ ap₂ max wr-floor (retire-by wr w l)
+
+    -- what it retires
+    none-leaver : ch .buffer ≡ Empty → leaver (contextOf s) p wr ≡ none
+    none-leaver z = leaving-none (contextOf s) ch (placedAt (slot (contextOf s) p wr) wr) z
+
+    first-leaver : (w : Write) (ws : List Write) → waitingOf (ch .buffer) ≡ w ∷ ws → leaver (contextOf s) p wr ≡ onlyWrite (leb (w .at .0 + s .rtr) (slot (contextOf s) p wr)) (some w)
+    unfolding placedAt instant traits colTraits contextOf
+    first-leaver w ws z = leaving-first (contextOf s) ch (placedAt (slot (contextOf s) p wr) wr) w ws z refl
+
+    one-leaver : (w : Write) → ch .buffer ≡ One w → 4 ≤ w .at .0 → leaver (contextOf s) p wr ≡ onlyWrite (leb (w .at .0 + s .rtr) (wrFloor x)) (some w)
+    unfolding waitingOf
+    one-leaver w z l =
+        let same : leb (w .at .0 + s .rtr) (slot (contextOf s) p wr) ≡ leb (w .at .0 + s .rtr) (wrFloor x) = rw (wr-one w z l) (go (leb (w .at .0 + s .rtr) (wrFloor x)) refl) in
+        first-leaver w [] (rw z) ∙ ap (λ (q : Bool). onlyWrite q (some w)) same
+      where
+        go : (q : Bool) → leb (w .at .0 + s .rtr) (wrFloor x) ≡ q → leb (w .at .0 + s .rtr) (cond q (max (wrFloor x) (retireAsks w)) (wrFloor x)) ≡ q
+        go true h = le-leb (w .at .0 + s .rtr) (max (wrFloor x) (retireAsks w)) (omega (arith, leb-true (w .at .0 + s .rtr) (wrFloor x) h))
+        go false h = h
+
+    two-leaver : (w y : Write) → ch .buffer ≡ Two w y → 4 ≤ w .at .0 → leaver (contextOf s) p wr ≡ some w
+    unfolding waitingOf
+    two-leaver w y z l =
+        let late : leb (w .at .0 + s .rtr) (slot (contextOf s) p wr) ≡ true =
+            rw (wr-two w y z l) (le-leb (w .at .0 + s .rtr) (max (wrFloor x) (retireAsks w)) (omega (arith, since-some (w .at .0) (s .rtr) (omega arith)))) in
+        first-leaver w (y ∷ []) (rw z) ∙ ap (λ (q : Bool). onlyWrite q (some w)) late
 
 -- ---- in stored numbers
 
@@ -107,21 +163,67 @@ module _ (s : Settings) (b : List ℕ) (low : 4 ≤ plannerIn b .now .0) where
 
   pub nocop-slot : (m : ℕ) → waitsIn b ≡ true → heldBank b < 32 → 4 ≤ writeIn b 736 .at .0 → instantOf (nocopAt s b) ≡ slot (contextOf s) state (colPacket (Nocop m))
   unfolding nocopAt
-  nocop-slot m w l h = said-max (colBase s b) _ ∙ ap₂ max col-said (retire-said l) ∙ sym (nocop-by s state (sized b) low m (writeIn b 736) (held-is b w) h)
+  nocop-slot m w l h = said-max (colBase s b) _ ∙ ap₂ max col-said (retire-said l) ∙ sym (nocop-by s state (sized b) low m (writeIn b 736) (restIn b) (waiting-is b w) h)
 
   rd-last-said : (g : ℕ) → instantOf (since (word b 720) g) ≡ since (state .channel .lasts .rd .0) g
   unfolding plannerIn channelIn lastsIn
   rd-last-said g = said-since (word b 720) g
 
-  pub wr-slot : (x c m : ℕ) → x < 32 → Early (plannerIn b .channel .buffer) → (waitsIn b ≡ true → heldBank b < 32) → instantOf (wrAt s b x) ≡ slot (contextOf s) state (colPacket (Wr x c m))
-  unfolding wrAt
-  wr-slot x c m l h k =
-      said-max _ (cond (waitsIn b) (retireAt s b) 0)
-      ∙ ap₂ max
-      (said-max (colBase s b) _ ∙ ap₂ max col-said (said-max (since (word b (128 + 4 * x)) (s .rcd - s .rtr)) _ ∙ ap₂ max (own-said (s .rcd - s .rtr) x l) (rd-last-said (s .cc + s .cac - s .cwd))))
-      (go (waitsIn b) refl)
-      ∙ sym (wr-by s state (sized b) low x c m h)
-    where
-      go : (q : Bool) → waitsIn b ≡ q → instantOf (cond q (retireAt s b) 0) ≡ leftAsks s state (sized b) low (plannerIn b .channel .buffer)
-      go true e = rw (held-is b e) (retire-said (k e))
-      go false e = rw (none-is b e)
+  -- ---- WR
+
+  module _ (x c m : ℕ) (l : x < 32) (h : waitsIn b ≡ true → heldBank b < 32) (k : waitsIn b ≡ true → 4 ≤ writeIn b 736 .at .0) where
+    abbrev v : ℕ
+    v = wrBase s b x
+
+    abbrev floor : ℕ
+    floor = wrFloor s state (sized b) low x
+
+    abbrev wr′ : Record
+    wr′ = colPacket (Wr x c m)
+
+    base-said : instantOf v ≡ floor
+    unfolding wrBase
+    base-said =
+        said-max (colBase s b) _
+        ∙ ap₂ max col-said (said-max (since (word b (128 + 4 * x)) (s .rcd - s .rtr)) _ ∙ ap₂ max (own-said (s .rcd - s .rtr) x l) (rd-last-said (s .cc + s .cac - s .cwd)))
+
+    base-some : 1 ≤ v
+    base-some = some-said v (rw base-said (omega (arith, low)))
+
+    -- whether tRTR has passed
+    passed-said : waitsIn b ≡ true → leb (since (word b 740) (s .rtr)) v ≡ leb (writeIn b 736 .at .0 + s .rtr) floor
+    passed-said w =
+        let a : ℕ = word b 740 in
+        let one : 1 ≤ a = some-said a (k w) in
+        let big = base-some in
+        rw (since-some a (s .rtr) one, said-some a one, ← base-said, said-some v base-some)
+        (iff-eq (leb (a + s .rtr) v) (leb (a + 3 + s .rtr) (v + 3)) (λ e. le-leb (a + 3 + s .rtr) (v + 3) (omega (arith, leb-true (a + s .rtr) v e))) (λ e. le-leb (a + s .rtr) v (omega (arith, leb-true (a + 3 + s .rtr) (v + 3) e))))
+
+    later-said : waitsIn b ≡ true → instantOf (max v (retireAt s b)) ≡ max floor (retireAsks s state (sized b) low (writeIn b 736))
+    later-said w = said-max v _ ∙ ap₂ max base-said (retire-said (h w))
+
+    pub wr-slot : instantOf (wrAt s b x) ≡ slot (contextOf s) state wr′
+    unfolding wrAt retiresIn
+    wr-slot = go (waitsIn b) refl (twoIn b) refl
+      where
+        one : (q : Bool) → instantOf (max v (retireAt s b)) ≡ max floor (retireAsks s state (sized b) low (writeIn b 736))
+            → instantOf (wrFrom s b v q) ≡ cond q (max floor (retireAsks s state (sized b) low (writeIn b 736))) floor
+        one true e = e
+        one false e = base-said
+
+        go : (w : Bool) → waitsIn b ≡ w → (t : Bool) → twoIn b ≡ t → instantOf (wrFrom s b v (w && (t || leb (since (word b 740) (s .rtr)) v))) ≡ slot (contextOf s) state wr′
+        go false w t e = base-said ∙ sym (wr-none s state (sized b) low x c m (none-is b w))
+        go true w true e = later-said w ∙ sym (wr-two s state (sized b) low x c m _ _ (two-is b e) (k w))
+        go true w false e =
+            one (leb (since (word b 740) (s .rtr)) v) (later-said w)
+            ∙ ap (λ (q : Bool). cond q (max floor (retireAsks s state (sized b) low (writeIn b 736))) floor) (passed-said w)
+            ∙ sym (wr-one s state (sized b) low x c m _ (one-is b w e) (k w))
+
+    pub wr-leaver : leaver (contextOf s) state wr′ ≡ onlyWrite (retiresIn s b v) (some (writeIn b 736))
+    unfolding retiresIn
+    wr-leaver = go (waitsIn b) refl (twoIn b) refl
+      where
+        go : (w : Bool) → waitsIn b ≡ w → (t : Bool) → twoIn b ≡ t → leaver (contextOf s) state wr′ ≡ onlyWrite (w && (t || leb (since (word b 740) (s .rtr)) v)) (some (writeIn b 736))
+        go false w t e = none-leaver s state (sized b) low x c m (none-is b w)
+        go true w true e = two-leaver s state (sized b) low x c m _ _ (two-is b e) (k w)
+        go true w false e = one-leaver s state (sized b) low x c m _ (one-is b w e) (k w) ∙ ap (λ (q : Bool). onlyWrite q (some (writeIn b 736))) (sym (passed-said w))

@@ -7,14 +7,15 @@ ghost use Rattle.packet.specs.declared.ColPacket.the-variants.{Rd};
 ghost use Rattle.settings.specs.Instants.{horizon};
 ghost use Rattle.record.proofs.RequestLaws.{InPlace};
 ghost use Rattle.spec_rules.specs.Neighbour.{contextOf};
-ghost use Rattle.spec_state.specs.form.Stores.{colStored, retireStored, emptyStored};
 ghost use Rattle.spec_plan.specs.Plan.{colPacket, sent, flushed, written};
-ghost use Rattle.plan_bytes.specs.form.Numbers.{waitsIn, heldBank, nowStored};
+ghost use Rattle.plan_bytes.specs.form.Numbers.{waitsIn, heldBank, twoIn};
 ghost use Rattle.plan_bytes.specs.form.Drawn.{drafted, Ready, Drawn};
-ghost use Rattle.plan_cols.specs.form.Slots.{colBase, rdAt, retireAt, wrAt, carriedIn, leftStored, wrStored};
+ghost use Rattle.plan_cols.specs.form.Slots.{colBase, rdAt, retireAt, wrBase, retiresIn, wrFrom, carriedIn, nocopStored, aloneStored, newerStored, movedStored, insteadStored, wrStored};
 use chan_view::bounds::later;
 use col_words::col_word;
 use instants::write_arrival;
+use num::both;
+use num::either;
 use num::u16_at;
 use num::wide32;
 use packet::ColPacket;
@@ -25,6 +26,7 @@ use plan_bytes::put_data;
 use plan_bytes::put_now;
 use plan_bytes::put_packet;
 use plan_bytes::stored;
+use plan_bytes::two;
 use plan_bytes::waits;
 use puts::put_u16;
 use record::Dualoct;
@@ -34,10 +36,12 @@ use settings::DataAt;
 use settings::HORIZON;
 use settings::PacketAt;
 use settings::Settings;
+use state_stores::cols::store_behind;
+use state_stores::cols::store_beside;
 use state_stores::cols::store_col;
-use state_stores::cols::store_empty;
 use state_stores::cols::store_rd;
 use state_stores::cols::store_retire;
+use state_stores::cols::store_shift;
 use state_stores::cols::store_write;
 
 // The difference, or 0 where it would be negative.
@@ -87,7 +91,7 @@ pub fn rd(s: Settings, b: &mut [u8], bank: u32, column: u32, room: &mut [u8], to
     to + 32
 }
 
-// What rules 12 and 10 ask of the retire of the waiting write.
+// What rules 12 and 10 ask of the retire of the older write.
 fn retire_at(s: Settings, b: &[u8]) -> u64
     requires { ⌜ length (now b) ≡ 768 ⌝ }
     requires { ⌜ heldBank (now b) < 32 ⌝ }
@@ -97,17 +101,28 @@ fn retire_at(s: Settings, b: &[u8]) -> u64
     later(after(b, 740, s.rtr), after(b, 128 + 4 * h, s.rcd))
 }
 
-// No write waits after a retire at t.
+// How many writes wait once the older one has left.
+fn left_count(b: &[u8]) -> u64
+    requires { ⌜ length (now b) ≡ 768 ⌝ }
+    ensures { λ r. ⌜ r ≡ cond (twoIn (now (b .entry))) 1 0 ⌝ }
+{
+    if two(b) { 1 } else { 0 }
+}
+
+// The older write leaves at t, and the newer one, if there is one, moves up with its mask.
 fn put_nocop(b: &mut [u8], t: u64)
     requires { ⌜ length (now b) ≡ 768 ⌝ }
     requires { ⌜ heldBank (now b) < 32 ⌝ }
-    ensures { λ _. ⌜ now (b .exit) ≡ nowStored (colStored (emptyStored (retireStored (now (b .entry)) (heldBank (now (b .entry))) t)) t) t ⌝ }
+    ensures { λ _. ⌜ now (b .exit) ≡ nocopStored (now (b .entry)) t ⌝ }
 {
     let h = held_bank(b) as usize;
+    let left = left_count(b);
+    let second = wide32(u16_at(b, 762));
     store_retire(b, h, t);
-    store_empty(b);
+    store_shift(b, left);
     store_col(b, t);
     put_now(b, t);
+    put_u16(b, 760, second);
 }
 
 // NOCOP, where a write waits.
@@ -130,62 +145,124 @@ pub fn nocop(s: Settings, b: &mut [u8], room: &mut [u8], to: usize) -> usize
     to + 32
 }
 
-// What the waiting write asks of a WR, if one waits.
-fn left_at(s: Settings, b: &[u8]) -> u64
-    requires { ⌜ length (now b) ≡ 768 ⌝ }
-    requires { ⌜ (waitsIn (now b) ≡ true → heldBank (now b) < 32) ⌝ }
-    ensures { λ r. ⌜ r ≡ cond (waitsIn (now (b .entry))) (retireAt s (now (b .entry))) 0 ⌝ }
-{
-    if waits(b) { retire_at(s, b) } else { 0 }
-}
-
-// The mask that a WR carries: that of the write that it retires.
-fn carried(b: &[u8]) -> u32
-    requires { ⌜ length (now b) ≡ 768 ⌝ }
-    ensures { λ r. ⌜ (r ≡ carriedIn (now (b .entry))) × (r < 2 ^ 16) ⌝ }
-{
-    if waits(b) { u16_at(b, 760) } else { FULL }
-}
-
-fn wr_at(s: Settings, b: &[u8], x: usize) -> u64
+// A WR but for what it retires.
+fn wr_base(s: Settings, b: &[u8], x: usize) -> u64
     requires { ⌜ length (now b) ≡ 768 ⌝ }
     requires { ⌜ x < 32 ⌝ }
-    requires { ⌜ (waitsIn (now b) ≡ true → heldBank (now b) < 32) ⌝ }
     requires { ⌜ s .cwd ≤ s .cac ⌝ }
     requires { ⌜ s .cc + s .cac < 2 ^ 32 ⌝ }
-    ensures { λ r. ⌜ r ≡ wrAt s (now (b .entry)) x ⌝ }
+    ensures { λ r. ⌜ r ≡ wrBase s (now (b .entry)) x ⌝ }
 {
     let opened = after(b, 128 + 4 * x, minus(s.rcd, s.rtr));
     let free = later(opened, after(b, 720, s.cc + s.cac - s.cwd));
-    later(later(col_base(s, b), free), left_at(s, b))
+    later(col_base(s, b), free)
 }
 
-// The retire that a WR makes, if a write waits.
-fn put_left(b: &mut [u8], t: u64)
+// Whether a WR that could stand at v retires the older write: it never waits for tRTR unless two wait.
+fn retires(s: Settings, b: &[u8], v: u64) -> bool
     requires { ⌜ length (now b) ≡ 768 ⌝ }
-    requires { ⌜ (waitsIn (now b) ≡ true → heldBank (now b) < 32) ⌝ }
-    ensures { λ _. ⌜ now (b .exit) ≡ leftStored (now (b .entry)) t ⌝ }
+    ensures { λ r. ⌜ r ≡ retiresIn s (now (b .entry)) v ⌝ }
 {
-    if waits(b) {
-        let h = held_bank(b) as usize;
-        store_retire(b, h, t);
-    }
+    let passed = after(b, 740, s.rtr) <= v;
+    both(waits(b), either(two(b), passed))
 }
 
-// WR and its D: the write waits with its own mask.
-fn put_wr(b: &mut [u8], at: Place, mask: u32, t: u64)
+fn wr_from(s: Settings, b: &[u8], v: u64, leaves: bool) -> u64
     requires { ⌜ length (now b) ≡ 768 ⌝ }
-    requires { ⌜ (waitsIn (now b) ≡ true → heldBank (now b) < 32) ⌝ }
+    requires { ⌜ (leaves ≡ true → heldBank (now b) < 32) ⌝ }
+    ensures { λ r. ⌜ r ≡ wrFrom s (now (b .entry)) v leaves ⌝ }
+{
+    if leaves { later(v, retire_at(s, b)) } else { v }
+}
+
+// The mask that a WR carries: that of the write that it retires.
+fn carried(b: &[u8], leaves: bool) -> u32
+    requires { ⌜ length (now b) ≡ 768 ⌝ }
+    ensures { λ r. ⌜ (r ≡ carriedIn (now (b .entry)) leaves) × (r < 2 ^ 16) ⌝ }
+{
+    if leaves { u16_at(b, 760) } else { FULL }
+}
+
+// WR and its D: the write waits alone with its own mask.
+fn put_alone(b: &mut [u8], at: Place, mask: u32, t: u64)
+    requires { ⌜ length (now b) ≡ 768 ⌝ }
     requires { ⌜ at .bank < 256 ⌝ }
     requires { ⌜ at .column < 256 ⌝ }
     requires { ⌜ t < 2 ^ 32 ⌝ }
-    ensures { λ _. ⌜ now (b .exit) ≡ wrStored (now (b .entry)) (at .bank) (at .column) mask t ⌝ }
+    ensures { λ _. ⌜ now (b .exit) ≡ aloneStored (now (b .entry)) (at .bank) (at .column) mask t ⌝ }
 {
-    put_left(b, t);
     store_write(b, 1, at.bank, at.column, t);
     store_col(b, t);
     put_now(b, t);
     put_u16(b, 760, wide32(mask));
+}
+
+// Beside an older one.
+fn put_newer(b: &mut [u8], at: Place, mask: u32, t: u64)
+    requires { ⌜ length (now b) ≡ 768 ⌝ }
+    requires { ⌜ at .bank < 256 ⌝ }
+    requires { ⌜ at .column < 256 ⌝ }
+    requires { ⌜ t < 2 ^ 32 ⌝ }
+    ensures { λ _. ⌜ now (b .exit) ≡ newerStored (now (b .entry)) (at .bank) (at .column) mask t ⌝ }
+{
+    store_beside(b, 2, at.bank, at.column, t);
+    store_col(b, t);
+    put_now(b, t);
+    put_u16(b, 762, wide32(mask));
+}
+
+// Behind the one that moves up with its mask.
+fn put_moved(b: &mut [u8], at: Place, second: u32, mask: u32, t: u64)
+    requires { ⌜ length (now b) ≡ 768 ⌝ }
+    requires { ⌜ at .bank < 256 ⌝ }
+    requires { ⌜ at .column < 256 ⌝ }
+    requires { ⌜ t < 2 ^ 32 ⌝ }
+    ensures { λ _. ⌜ now (b .exit) ≡ movedStored (now (b .entry)) (at .bank) (at .column) second mask t ⌝ }
+{
+    store_behind(b, 2, at.bank, at.column, t);
+    store_col(b, t);
+    put_now(b, t);
+    put_u16(b, 760, wide32(second));
+    put_u16(b, 762, wide32(mask));
+}
+
+// Where the older one leaves.
+fn put_instead(b: &mut [u8], at: Place, mask: u32, t: u64)
+    requires { ⌜ length (now b) ≡ 768 ⌝ }
+    requires { ⌜ heldBank (now b) < 32 ⌝ }
+    requires { ⌜ at .bank < 256 ⌝ }
+    requires { ⌜ at .column < 256 ⌝ }
+    requires { ⌜ t < 2 ^ 32 ⌝ }
+    ensures { λ _. ⌜ now (b .exit) ≡ insteadStored (now (b .entry)) (at .bank) (at .column) mask t ⌝ }
+{
+    let moved = two(b);
+    let second = u16_at(b, 762);
+    let h = held_bank(b) as usize;
+    store_retire(b, h, t);
+    if moved {
+        put_moved(b, at, second, mask, t);
+        return;
+    }
+    put_alone(b, at, mask, t);
+}
+
+fn put_wr(b: &mut [u8], at: Place, mask: u32, leaves: bool, t: u64)
+    requires { ⌜ length (now b) ≡ 768 ⌝ }
+    requires { ⌜ (leaves ≡ true → heldBank (now b) < 32) ⌝ }
+    requires { ⌜ at .bank < 256 ⌝ }
+    requires { ⌜ at .column < 256 ⌝ }
+    requires { ⌜ t < 2 ^ 32 ⌝ }
+    ensures { λ _. ⌜ now (b .exit) ≡ wrStored (now (b .entry)) (at .bank) (at .column) mask leaves t ⌝ }
+{
+    if leaves {
+        put_instead(b, at, mask, t);
+        return;
+    }
+    if waits(b) {
+        put_newer(b, at, mask, t);
+        return;
+    }
+    put_alone(b, at, mask, t);
 }
 
 // D's instant, of a WR whose instant comes as it is stored. None is late: a planner that is ready ends before the last instant.
@@ -215,8 +292,10 @@ pub fn wr(
     requires { ⌜ to + 64 ≤ length (now room) ⌝ }
     ensures { λ r. ⌜ Drawn s (written (contextOf s) at mask d (drafted (now (b .entry)))) (now (room .entry)) to (now (b .exit)) (now (room .exit)) r ⌝ }
 {
-    let t = wr_at(s, b, at.bank as usize);
-    let left = carried(b);
+    let v = wr_base(s, b, at.bank as usize);
+    let leaves = retires(s, b, v);
+    let t = wr_from(s, b, v, leaves);
+    let left = carried(b, leaves);
     let word = col_word(
         s.device,
         ColPacket::Wr {
@@ -227,6 +306,6 @@ pub fn wr(
     );
     put_packet(room, to, t, 1, word);
     put_data(room, to + 32, data_at(s, t), d);
-    put_wr(b, at, mask, t);
+    put_wr(b, at, mask, leaves, t);
     to + 64
 }

@@ -32,7 +32,7 @@ use Rattle.spec_plan.specs.declared.PlannerState.{PlannerState}
 use Rattle.spec_plan.specs.Plan.{Draft, rowPacket, stateIn, sent}
 use Rattle.spec_plan.specs.PlannerBytes.{plannerBytes, plannerIn}
 use Rattle.spec_plan.proofs.Invariant.{Inv, valid-tested}
-use Rattle.spec_plan.proofs.SentLaws.{sent-size, sent-state, sent-due, sent-refresh, sent-mask, row-waiting}
+use Rattle.spec_plan.proofs.SentLaws.{sent-size, sent-state, sent-due, sent-refresh, sent-mask, sent-second, row-gone, row-waiting}
 use Rattle.spec_plan.proofs.PlannerRoundTrip.{planner-back}
 use Rattle.plan_bytes.specs.form.Numbers.{nowStored}
 use Rattle.plan_bytes.specs.form.Drawn.{bare, drafted, Ready, NearShut, Fits, Drawn}
@@ -114,7 +114,7 @@ module _ (s : Settings) (top : ℕ) (b : List ℕ) (k : Ready s top b) (h : top 
         let p : PlannerState = z .planner in
         let now : isInstant (p .now .0) ≡ true = rw (le-leb 4 (p .now .0) (marked .low), le-leb (p .now .0) horizon (omega (arith, marked .now))) in
         let refresh : p .refresh < 2 ^ 16 = rw (sent-refresh cx refa d) (omega (arith, known .refresh-in)) in
-        ap plannerIn e ∙ planner-back cx (readies s top b k .figures) p kept now refresh (rw (sent-mask cx refa d) (known .mask-in))
+        ap plannerIn e ∙ planner-back cx (readies s top b k .figures) p kept now refresh (rw (sent-mask cx refa d, row-gone cx (Refa x) d) (known .mask-in)) (rw (sent-second cx refa d) (known .second-in))
 
     low : 4 ≤ plannerIn b1 .now .0
     low = rw mid-back (marked .low)

@@ -4,6 +4,7 @@ use Prim.Native.Nat.{ℕ, _+_, _-_, _<_, _≤_}
 use mathlib.Core.Path.{_≡_, refl, sym, ap, ap₂, _∙_}
 use mathlib.Core.Bool.{Bool, true, false, _||_}
 use mathlib.Core.List.{List, _++_}
+use mathlib.Core.Option.{Option}
 use lib.Dec.{eqb}
 use Rattle.num.specs.Bytes.{splice}
 use Rattle.settings.specs.declared.Settings.{Settings}
@@ -14,6 +15,7 @@ use Rattle.record.specs.declared.Record.the-variants.{RowAt}
 use Rattle.record.specs.Record.{recordFields, recordBytes}
 use Rattle.spec_rules.specs.declared.Bank.{Bank}
 use Rattle.spec_rules.specs.declared.Bank.the-variants.{Closed, Open, Refresh}
+use Rattle.spec_rules.specs.declared.Write.{Write}
 use Rattle.spec_rules.specs.Neighbour.{bankCount, Context, contextOf, near}
 use Rattle.spec_rules.specs.History.{isClosed}
 use Rattle.spec_rules.specs.Channel.{stateOf, after}
@@ -23,9 +25,10 @@ use Rattle.spec_state.specs.ChannelBytes.{channelBytes}
 use Rattle.spec_state.specs.form.Stores.{closeStored, actStored, refaStored}
 use Rattle.spec_state.proofs.StoreLaws.{act-stored, refa-stored, prer-stored}
 use Rattle.spec_plan.specs.declared.PlannerState.{PlannerState}
-use Rattle.spec_plan.specs.Plan.{rowPacket, slot, sent}
+use Rattle.spec_plan.specs.Plan.{rowPacket, shifted, slot, sent}
 use Rattle.spec_plan.specs.PlannerBytes.{plannerBytes, plannerIn}
 use Rattle.spec_plan.proofs.Invariant.{Inv}
+use Rattle.spec_plan.proofs.SentLaws.{row-gone}
 use Rattle.plan_bytes.specs.form.Numbers.{nowStored}
 use Rattle.plan_bytes.specs.form.Drawn.{bare, drafted, Ready, OpenAt, Drawn}
 use Rattle.plan_bytes.proofs.Puts.{Plain, then-now}
@@ -42,7 +45,11 @@ module _ (cx : Context) (p : PlannerState) where
       → ((t : ℕ) (l : List ℕ) → stored (channelBytes (p .channel) ++ l) (t - 3) ≡ channelBytes (after cx (p .channel) (RowAt (record { 0 = t }) q)) ++ l)
       → nowStored (stored (plannerBytes p) (slot cx p (rowPacket q) - 3)) (slot cx p (rowPacket q) - 3) ≡ plannerBytes (sent cx (rowPacket q) (bare p) .planner)
   unfolding sent placedAt under
-  row-bytes q stored h = let t : ℕ = slot cx p (rowPacket q) in then-now p (after cx (p .channel) (RowAt (record { 0 = t }) q)) (λ b. stored b (t - 3)) t (h t)
+  row-bytes q stored h =
+      let t : ℕ = slot cx p (rowPacket q) in
+      then-now p (after cx (p .channel) (RowAt (record { 0 = t }) q)) (λ b. stored b (t - 3)) t (h t)
+      ∙ ap (λ (o : Option Write). plannerBytes (record { channel = after cx (p .channel) (RowAt (record { 0 = t }) q); now = record { 0 = t }; refresh = p .refresh; mask = shifted o (p .mask) (p .second); second = p .second }))
+      (sym (row-gone cx q (bare p)))
 
 module _ (s : Settings) (b : List ℕ) where
   -- a ROW packet: what has been stored and recorded for it, where its least instant is v as it is stored

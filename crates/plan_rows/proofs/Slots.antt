@@ -11,16 +11,18 @@ use borrow.Author.Tests.{ltb-false, eqb-false}
 use lib.Dec.{eqb, ltb}
 use lib.ListN.{length}
 use Rattle.settings.specs.declared.Settings.{Settings}
+use Rattle.packet.specs.declared.RowPacket.{RowPacket}
 use Rattle.packet.specs.declared.RowPacket.the-variants.{Act, Prer, Refa, Refp}
 use Rattle.spec_rules.specs.declared.BankTrack.{BankTrack}
 use Rattle.spec_rules.specs.declared.Channel.{Channel}
 use Rattle.spec_rules.specs.Neighbour.{bankCount, contextOf, near}
 use Rattle.spec_rules.specs.Packets.{traits, rowTraits}
-use Rattle.spec_rules.specs.History.{leaving, only}
+use Rattle.spec_rules.specs.History.{only}
 use Rattle.spec_rules.specs.Distances.{Kind, ACT, PRER, RD, retire}
-use Rattle.spec_rules.specs.Channel.{idle, trackOf}
+use Rattle.spec_rules.specs.Channel.{idle, never, trackOf, waitingOf}
 use Rattle.spec_rules.specs.Checks.{since, asks, maxUpTo, lastAt, boundBanks}
 use Rattle.spec_rules.specs.Earliest.{earliest, leastFrom}
+use Rattle.spec_rules.proofs.TrackLaws.{row-keeps}
 use Rattle.spec_rules.proofs.ByCommand.{act-bounds, prer-bounds, refa-bounds}
 use Rattle.spec_state.specs.ChannelBytes.{instantOf, trackIn, lastsIn, channelIn}
 use Rattle.chan_view.specs.form.Beside.{lowOf, highOf, firstNear, lastNear}
@@ -32,7 +34,7 @@ use Rattle.spec_plan.specs.Plan.{rowPacket, slot}
 use Rattle.spec_plan.specs.PlannerBytes.{plannerIn}
 use Rattle.plan_bytes.specs.form.Numbers.{word}
 use Rattle.plan_bytes.proofs.Since.{max-ext, max-since, max-both, since-more}
-use Rattle.plan_bytes.proofs.Instants.{said-max, said-since, floored}
+use Rattle.plan_bytes.proofs.Instants.{said-max, said-since, floored, kept-slot}
 use Rattle.plan_bytes.proofs.States.{sized, track-at}
 use Rattle.plan_rows.specs.form.Slots.{rowBase, mostIn, closeAt, latestIn, farIn, otherIn, openAt}
 
@@ -50,26 +52,31 @@ module _ (s : Settings) (p : PlannerState) (e : length (p .channel .banks) ≡ 3
   abbrev nearAsks : Kind → ℕ → ℕ → ℕ
   nearAsks a gap x = three (lastAt (trackOf ch x) a) (lastAt (trackOf ch (lowOf s x)) a) (lastAt (trackOf ch (highOf s x)) a) gap
 
+  -- a ROW packet retires nothing
+  kept : (q : RowPacket) → slot (contextOf s) p (rowPacket q) ≡ max (p .now .0) (earliest (contextOf s) ch (rowPacket q))
+  unfolding slot leastFrom
+  kept q = kept-slot (contextOf s) ch (rowPacket q) (row-keeps never q) _ (waitingOf (ch .buffer))
+
   prer-by : (x : ℕ) → slot (contextOf s) p (rowPacket (Prer x)) ≡ max rowFloor (max (nearAsks ACT (s .ras) x) (max (since (ch .lasts .pre .0) (s .pp)) (max (nearAsks RD (s .rdp) x) (nearAsks retire (s .rtp) x))))
-  unfolding slot leastFrom earliest leaving traits rowTraits contextOf
-  prer-by x = rw (prer-bounds (contextOf s) ch x, near-bound s ch e ACT (s .ras) x, near-bound s ch e RD (s .rdp) x, near-bound s ch e retire (s .rtp) x) (floored p low _ _)
+  unfolding slot leastFrom earliest traits rowTraits contextOf
+  prer-by x = kept (Prer x) ∙ rw (prer-bounds (contextOf s) ch x, near-bound s ch e ACT (s .ras) x, near-bound s ch e RD (s .rdp) x, near-bound s ch e retire (s .rtp) x) (floored p low _ _)
 
   -- REFP acts as PRER, REFA as ACT
   refp-by : (x : ℕ) → slot (contextOf s) p (rowPacket (Refp x)) ≡ slot (contextOf s) p (rowPacket (Prer x))
-  unfolding slot leastFrom earliest leaving traits rowTraits
-  refp-by x = refl
+  unfolding earliest traits rowTraits
+  refp-by x = kept (Refp x) ∙ sym (kept (Prer x))
 
   -- all other banks
   abbrev farAsks : ℕ → ℕ
   farAsks x = boundBanks (contextOf s) ch (λ b y. not (near (contextOf s) b y)) ACT (s .rr) x
 
   act-by : (x row : ℕ) → slot (contextOf s) p (rowPacket (Act x row)) ≡ max rowFloor (max (nearAsks ACT (s .rc) x) (max (farAsks x) (nearAsks PRER (s .rp) x)))
-  unfolding slot leastFrom earliest leaving traits rowTraits contextOf
-  act-by x row = rw (act-bounds (contextOf s) ch x row, near-bound s ch e ACT (s .rc) x, near-bound s ch e PRER (s .rp) x) (floored p low _ _)
+  unfolding slot leastFrom earliest traits rowTraits contextOf
+  act-by x row = kept (Act x row) ∙ rw (act-bounds (contextOf s) ch x row, near-bound s ch e ACT (s .rc) x, near-bound s ch e PRER (s .rp) x) (floored p low _ _)
 
   refa-by : (x row : ℕ) → slot (contextOf s) p (rowPacket (Refa x)) ≡ slot (contextOf s) p (rowPacket (Act x row))
-  unfolding slot leastFrom earliest leaving traits rowTraits
-  refa-by x row = rw (refa-bounds (contextOf s) ch x, act-bounds (contextOf s) ch x row)
+  unfolding earliest traits rowTraits
+  refa-by x row = kept (Refa x) ∙ rw (refa-bounds (contextOf s) ch x, ← act-bounds (contextOf s) ch x row) (sym (kept (Act x row)))
 
 -- ---- in stored numbers
 

@@ -4,7 +4,7 @@ use Prim.Native.Nat.{ℕ, _*_, _<_, _≤_}
 use mathlib.Core.Path.{_≡_}
 use mathlib.Core.Bool.{Bool, true, not}
 use mathlib.Core.List.{List}
-use lib.Dec.{eqb}
+use lib.Dec.{eqb, ltb}
 use lib.ListN.{getD}
 use Rattle.num.specs.Bytes.{number, part}
 use Rattle.spec_state.specs.form.Stores.{put}
@@ -16,14 +16,21 @@ word b at = number (part b at 4)
 abbrev pub half : List ℕ → ℕ → ℕ
 half b at = number (part b at 2)
 
--- whether a write waits, and the bank that it waits for
+-- whether a write waits, and the bank of the older
 abbrev pub waitsIn : List ℕ → Bool
 waitsIn b = not (eqb (getD b 728 0) 0)
 
 abbrev pub heldBank : List ℕ → ℕ
 heldBank b = getD b 736 0
 
--- no stored instant is above a top: those of the banks, the last ones of the channel, WR's of the waiting write, and now
+-- whether two wait, and the bank of the newer
+abbrev pub twoIn : List ℕ → Bool
+twoIn b = ltb 1 (getD b 728 0)
+
+abbrev pub nextBank : List ℕ → ℕ
+nextBank b = getD b 744 0
+
+-- no stored instant is above a top: those of the banks, the last ones of the channel, WR's of the waiting writes, and now
 pub record Tops (top : ℕ) (b : List ℕ) : Type 0 where
   pub banks : (k : ℕ) → k < 160 → word b (4 * k) ≤ top
   pub packet : word b 704 ≤ top
@@ -32,6 +39,7 @@ pub record Tops (top : ℕ) (b : List ℕ) : Type 0 where
   pub pre : word b 716 ≤ top
   pub rd : word b 720 ≤ top
   pub wrote : waitsIn b ≡ true → word b 740 ≤ top
+  pub second : twoIn b ≡ true → word b 748 ≤ top
   pub now : word b 752 ≤ top
 
 -- the same, shut: a search for a function's needs would read all its fields at each need

@@ -1,10 +1,12 @@
 -- `plan_cols::put_nocop` meets its contract.
+use Rattle.plan_cols.specs.form.Slots.{nocopStored}
 use borrow.Author.Needs.{needs}
 use Rattle.plan_cols.proofs.put_nocop.Statement.{statement}
 use Rattle.plan_cols.proofs.put_nocop.Tie as tie
 
 returns : tie.Need-returns
-returns c = rw (c .before .before .put-now .ensures, c .before .before .before .before .before .before .store-col .ensures, c .before .before .before .before .before .before .before .before .before .before .store-empty .ensures, c .before .before .before .before .before .before .before .before .before .before .before .before .before .before .store-retire .ensures, c .before .before .before .before .before .before .before .before .before .before .before .before .before .before .before .before .held-bank .ensures .0)
+unfolding nocopStored
+returns c = rw (c .before .before .put-u16 .ensures, c .before .before .before .before .before .before .put-now .ensures, c .before .before .before .before .before .before .before .before .before .before .store-col .ensures, c .before .before .before .before .before .before .before .before .before .before .before .before .before .before .store-shift .ensures, c .before .before .before .before .before .before .before .before .before .before .before .before .before .before .before .before .before .before .store-retire .ensures, c .before .before .before .before .before .before .before .before .before .before .before .before .before .before .before .before .before .before .before .before .wide32 .ensures .0, c .before .before .before .before .before .before .before .before .before .before .before .before .before .before .before .before .before .before .before .before .before .u16-at .ensures .0, c .before .before .before .before .before .before .before .before .before .before .before .before .before .before .before .before .before .before .before .before .before .before .before .left-count .ensures, c .before .before .before .before .before .before .before .before .before .before .before .before .before .before .before .before .before .before .before .before .before .before .before .before .before .held-bank .ensures .0)
 
 pub put-nocop-spec : {M : Type 1} → statement M
 put-nocop-spec =
@@ -12,6 +14,10 @@ put-nocop-spec =
     (tie.spec
     (λ c κs. search needs)
     (λ c. search needs)
+    (λ c κs. search needs)
+    (λ c κs. search needs)
+    (λ c κs. search needs)
+    (λ c κs. search needs)
     (λ c κs. search needs)
     (λ c κs. search needs)
     (λ c κs. search needs)

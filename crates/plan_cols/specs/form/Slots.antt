@@ -1,13 +1,14 @@
 -- The least instants of COL packets, in the stored instants of a planner's bytes, and what a WR stores. The laws in proofs/ say that these are the plan's.
 -- Assumes nothing.
 use Prim.Native.Nat.{ℕ, _+_, _*_, _-_, max}
-use mathlib.Core.Bool.{cond}
+use mathlib.Core.Bool.{Bool, cond, _&&_, _||_}
 use mathlib.Core.List.{List}
+use lib.Dec.{leb}
 use Rattle.num.specs.Bytes.{bytes, splice}
 use Rattle.settings.specs.declared.Settings.{Settings}
 use Rattle.spec_rules.specs.Checks.{since}
-use Rattle.spec_state.specs.form.Stores.{colStored, retireStored, writeStored}
-use Rattle.plan_bytes.specs.form.Numbers.{word, half, waitsIn, heldBank, nowStored}
+use Rattle.spec_state.specs.form.Stores.{colStored, retireStored, shiftStored, writeStored, besideStored, behindStored}
+use Rattle.plan_bytes.specs.form.Numbers.{word, half, waitsIn, heldBank, twoIn, nowStored}
 
 -- what now and rules 1 and 3 ask of a COL packet
 unfoldable pub colBase : Settings → List ℕ → ℕ
@@ -16,29 +17,53 @@ colBase s b = max (max (word b 752) (word b 704)) (since (word b 712) (s .cc))
 unfoldable pub rdAt : Settings → List ℕ → ℕ → ℕ
 rdAt s b x = max (colBase s b) (since (word b (128 + 4 * x)) (s .rcd))
 
--- what rules 12 and 10 ask of the retire of the waiting write
+-- what rules 12 and 10 ask of the retire of the older write
 unfoldable pub retireAt : Settings → List ℕ → ℕ
 retireAt s b = max (since (word b 740) (s .rtr)) (since (word b (128 + 4 * heldBank b)) (s .rcd))
 
 unfoldable pub nocopAt : Settings → List ℕ → ℕ
 nocopAt s b = max (colBase s b) (retireAt s b)
 
--- WR, which retires the waiting write, if one waits
-unfoldable pub wrAt : Settings → List ℕ → ℕ → ℕ
-wrAt s b x =
-    max (max (colBase s b) (max (since (word b (128 + 4 * x)) (s .rcd - s .rtr)) (since (word b 720) (s .cc + s .cac - s .cwd))))
-    (cond (waitsIn b) (retireAt s b) 0)
+-- WR but for what it retires
+unfoldable pub wrBase : Settings → List ℕ → ℕ → ℕ
+wrBase s b x = max (colBase s b) (max (since (word b (128 + 4 * x)) (s .rcd - s .rtr)) (since (word b 720) (s .cc + s .cac - s .cwd)))
 
--- the mask that it carries
-unfoldable pub carriedIn : List ℕ → ℕ
-carriedIn b = cond (waitsIn b) (half b 760) 0xFFFF
+-- whether a WR that could stand at v retires the older write: tRTR has passed since its WR, or two wait
+unfoldable pub retiresIn : Settings → List ℕ → ℕ → Bool
+retiresIn s b v = waitsIn b && (twoIn b || leb (since (word b 740) (s .rtr)) v)
+
+-- its instant, and the mask that it carries
+abbrev pub wrFrom : Settings → List ℕ → ℕ → Bool → ℕ
+wrFrom s b v leaves = cond leaves (max v (retireAt s b)) v
+
+unfoldable pub wrAt : Settings → List ℕ → ℕ → ℕ
+wrAt s b x = wrFrom s b (wrBase s b x) (retiresIn s b (wrBase s b x))
+
+abbrev pub carriedIn : List ℕ → Bool → ℕ
+carriedIn b leaves = cond leaves (half b 760) 0xFFFF
 
 -- ---- what is stored
 
--- the waiting write retired at t, where one waits
-unfoldable pub leftStored : List ℕ → ℕ → List ℕ
-leftStored b t = cond (waitsIn b) (retireStored b (heldBank b) t) b
+-- NOCOP: the older write leaves, and the newer one, if there is one, moves up with its mask
+unfoldable pub nocopStored : List ℕ → ℕ → List ℕ
+nocopStored b t = splice (nowStored (colStored (shiftStored (retireStored b (heldBank b) t) (cond (twoIn b) 1 0)) t) t) 760 (bytes 2 (half b 762))
 
--- WR and its D: a write waits with its own mask
-unfoldable pub wrStored : List ℕ → ℕ → ℕ → ℕ → ℕ → List ℕ
-wrStored b x c mask t = splice (nowStored (colStored (writeStored (leftStored b t) 1 x c t) t) t) 760 (bytes 2 mask)
+-- WR and its D: a write waits alone with its own mask
+unfoldable pub aloneStored : List ℕ → ℕ → ℕ → ℕ → ℕ → List ℕ
+aloneStored b x c mask t = splice (nowStored (colStored (writeStored b 1 x c t) t) t) 760 (bytes 2 mask)
+
+-- beside an older one
+unfoldable pub newerStored : List ℕ → ℕ → ℕ → ℕ → ℕ → List ℕ
+newerStored b x c mask t = splice (nowStored (colStored (besideStored b 2 x c t) t) t) 762 (bytes 2 mask)
+
+-- behind the one that moves up with its mask
+unfoldable pub movedStored : List ℕ → ℕ → ℕ → ℕ → ℕ → ℕ → List ℕ
+movedStored b x c second mask t = splice (splice (nowStored (colStored (behindStored b 2 x c t) t) t) 760 (bytes 2 second)) 762 (bytes 2 mask)
+
+-- where the older one leaves
+unfoldable pub insteadStored : List ℕ → ℕ → ℕ → ℕ → ℕ → List ℕ
+insteadStored b x c mask t =
+    cond (twoIn b) (movedStored (retireStored b (heldBank b) t) x c (half b 762) mask t) (aloneStored (retireStored b (heldBank b) t) x c mask t)
+
+unfoldable pub wrStored : List ℕ → ℕ → ℕ → ℕ → Bool → ℕ → List ℕ
+wrStored b x c mask leaves t = cond leaves (insteadStored b x c mask t) (cond (waitsIn b) (newerStored b x c mask t) (aloneStored b x c mask t))
