@@ -1,5 +1,6 @@
 pub mod OrLaws
 pub mod NumberLaws
 pub mod TestedLaws
+pub mod BufferLaws
 pub mod RightLaws
 pub mod RangeLaws

@@ -3,15 +3,15 @@
 use Prim.Native.Nat.{ℕ, zero, suc, _+_, _*_, _/_, _%_, _<_, _≤_}
 use mathlib.Core.Path.{_≡_, refl, sym, _∙_}
 use mathlib.Core.Bool.{Bool, true, false, not, _&&_, cond}
-use mathlib.Core.List.{List}
+use mathlib.Core.List.{List, [], _∷_}
 use native.Mathlib.Omega.{arith}
-use borrow.Author.Tests.{leb-true, eqb-true}
+use borrow.Author.Tests.{leb-true, leb-false, eqb-true, ne-eqb}
 use lib.Dec.{eqb, leb}
 use lib.ListN.{length, getD}
 use Rattle.num.specs.Bytes.{number, part}
 use Rattle.num.proofs.ByteLaws.{number-part}
 use Rattle.settings.specs.Instants.{isInstant}
-use Rattle.spec_rules.specs.declared.Buffer.the-variants.{Empty, One}
+use Rattle.spec_rules.specs.declared.Buffer.the-variants.{Empty, One, Two}
 use Rattle.spec_rules.specs.Neighbour.{bankCount, Context}
 use Rattle.spec_rules.specs.Channel.{waitingOf}
 use Rattle.spec_rules.proofs.Bools.{and-left, and-right}
@@ -92,22 +92,38 @@ module _ (cx : Context) (b : List ℕ) (v : channelValid cx (channelIn b) ≡ tr
   lasts-most (suc (suc (suc (suc zero)))) l = stamp-most (number (part b 720 4)) (stamped .rd .right)
   lasts-most (suc (suc (suc (suc (suc k))))) l = absurd (omega arith)
 
-  -- where no write waits its place is 0
-  write-most : 752 ≤ length b → channelSpare b ≡ true → number (part b 740 4) ≤ latest
-  unfolding channelIn bufferIn channelSpare waitingOf
-  write-most n z = go (eqb (getD b 728 0) 0) (stamped .write) first
-    where
-      first : cond (eqb (getD b 728 0) 0) (zeroPart b 736 8) (zeroPart b 738 2) ≡ true
-      first =
-          and-left (cond (eqb (getD b 728 0) 0) (zeroPart b 736 8) (zeroPart b 738 2)) (zeroPart b 744 8)
-          (and-right (leb (getD b 728 0) 1 && (leb (getD b 729 0) 1 && zeroPart b 730 6)) _ (and-right (zeroPart b 724 4) _ z))
+  -- where a write does not wait its place is 0
+  module _ (n : 752 ≤ length b) (z : channelSpare b ≡ true) where
+    spare : cond (eqb (getD b 728 0) 0) (zeroPart b 736 8) (zeroPart b 738 2) && cond (leb (getD b 728 0) 1) (zeroPart b 744 8) (zeroPart b 746 2) ≡ true
+    unfolding channelSpare
+    spare = and-right (leb (getD b 728 0) 2 && (leb (getD b 729 0) 1 && zeroPart b 730 6)) _ (and-right (zeroPart b 724 4) _ z)
 
-      go : (q : Bool) → WriteStamps (waitingOf (cond q Empty (One (writeIn b 736)))) → cond q (zeroPart b 736 8) (zeroPart b 738 2) ≡ true → number (part b 740 4) ≤ latest
-      go true s e = omega (arith, number-part b 736 4 4 (omega arith), eqb-true (number (part b 736 8)) 0 e)
-      go false s e = instant-most (number (part b 740 4)) (s .0)
+    zero-most : (p : ℕ) → p + 8 ≤ length b → zeroPart b p 8 ≡ true → number (part b (p + 4) 4) ≤ latest
+    zero-most p m e = omega (arith, number-part b p 4 4 (omega arith), eqb-true (number (part b p 8)) 0 e)
 
-  channel-in-range : 752 ≤ length b → channelSpare b ≡ true → InRange b
-  channel-in-range n z = record { planes = planes-most; lasts = lasts-most; write = write-most n z }
+    write-most : number (part b 740 4) ≤ latest
+    unfolding channelIn bufferIn waitingOf
+    write-most = go (eqb (getD b 728 0) 0) (eqb (getD b 728 0) 1) (stamped .write) (and-left (cond (eqb (getD b 728 0) 0) (zeroPart b 736 8) (zeroPart b 738 2)) _ spare)
+      where
+        go : (q r : Bool) → WriteStamps (waitingOf (cond q Empty (cond r (One (writeIn b 736)) (Two (writeIn b 736) (writeIn b 744)))))
+            → cond q (zeroPart b 736 8) (zeroPart b 738 2) ≡ true → number (part b 740 4) ≤ latest
+        go true r s e = zero-most 736 (omega arith) e
+        go false true s e = instant-most (number (part b 740 4)) (s .0)
+        go false false s e = instant-most (number (part b 740 4)) (s .0)
+
+    second-most : number (part b 748 4) ≤ latest
+    unfolding channelIn bufferIn waitingOf
+    second-most = go (leb (getD b 728 0) 1) refl (and-right (cond (eqb (getD b 728 0) 0) (zeroPart b 736 8) (zeroPart b 738 2)) _ spare)
+      where
+        two : leb (getD b 728 0) 1 ≡ false → WriteStamps (writeIn b 736 ∷ writeIn b 744 ∷ [])
+        two h = rw (ne-eqb (getD b 728 0) 0 (λ e. omega (arith, leb-false (getD b 728 0) 1 h)), ne-eqb (getD b 728 0) 1 (λ e. omega (arith, leb-false (getD b 728 0) 1 h))) at (stamped .write)
+
+        go : (q : Bool) → leb (getD b 728 0) 1 ≡ q → cond q (zeroPart b 744 8) (zeroPart b 746 2) ≡ true → number (part b 748 4) ≤ latest
+        go true h e = zero-most 744 (omega arith) e
+        go false h e = instant-most (number (part b 748 4)) (two h .1 .0)
+
+    channel-in-range : InRange b
+    channel-in-range = record { planes = planes-most; lasts = lasts-most; write = write-most; second = second-most }
 
 -- ---- planners and models
 
@@ -117,7 +133,7 @@ module _ (cx : Context) (b : List ℕ) where
   planner-in-range r =
       let n : length b ≡ 768 = eqb-true (length b) 768 (and-left (eqb (length b) 768) _ r) in
       let rest = and-right (eqb (length b) 768) _ r in
-      let zeros : Bool = zeroPart b 758 2 && zeroPart b 762 6 in
+      let zeros : Bool = zeroPart b 758 2 && zeroPart b 764 4 in
       let v = and-right (channelSpare b && zeros) _ rest in
       let spare = and-left (channelSpare b) zeros (and-left (channelSpare b && zeros) _ rest) in
       (channel-in-range cx b (and-left (channelValid cx (channelIn b)) _ v) (omega arith) spare, instant-most (number (part b 752 4)) (valid-tested cx (plannerIn b) v .now-in))
@@ -127,7 +143,7 @@ module _ (cx : Context) (b : List ℕ) where
   model-in-range r =
       let n : length b ≡ 792 = eqb-true (length b) 792 (and-left (eqb (length b) 792) _ r) in
       let rest = and-right (eqb (length b) 792) _ r in
-      let zeros : Bool = zeroPart b 754 6 && zeroPart b 776 16 in
+      let zeros : Bool = zeroPart b 754 6 in
       let v = and-right (channelSpare b && zeros) _ rest in
       let spare = and-left (channelSpare b) zeros (and-left (channelSpare b && zeros) _ rest) in
       channel-in-range cx b (and-left (channelValid cx (channelIn b)) _ v) (omega arith) spare

@@ -23,36 +23,45 @@ use Rattle.spec_model.specs.Model.{modelValid}
 use Rattle.spec_model.specs.ModelBytes.{modelLength, modelIn, modelRight}
 use Rattle.state_bytes.specs.form.Tested.{allStored, tagsRight, bufferRight, channelTested, plannerFields, modelFields}
 use Rattle.state_bytes.proofs.NumberLaws.{instant-stored, below-word}
-use Rattle.state_bytes.proofs.TestedLaws.{and-shift, none-refreshed, model-tags, planner-tags, channel-as}
+use Rattle.state_bytes.proofs.TestedLaws.{and-shift, none-refreshed, model-tags, planner-tags}
+use Rattle.state_bytes.proofs.BufferLaws.{channel-as}
 
 -- ---- planners
 
 module _ (s : Settings) (b : List ℕ) where
   planner-fields : 768 ≤ length b
-      → plannerFields b ≡ (isInstant (instantOf (number (part b 752 4))) && (ltb (number (part b 756 2)) 32 && zeroPart b 758 2)) && (ltb (number (part b 760 2)) 0x10000 && zeroPart b 762 6)
+      → plannerFields b ≡ (isInstant (instantOf (number (part b 752 4))) && (ltb (number (part b 756 2)) 32 && zeroPart b 758 2)) && zeroPart b 764 4
   planner-fields l =
       rw (
         instant-stored (number (part b 752 4)),
         number-part b 756 2 2 (omega arith),
-        number-part b 760 2 6 (omega arith),
         below-word (number (part b 756 2)) (number (part b 758 2)) 32 (omega arith),
-        below-word (number (part b 760 2)) (number (part b 762 6)) 0x10000 (omega arith),
       )
 
-  planner-shuffle : (n r z m u p v e d : Bool) → ((n && (r && z)) && (m && u)) && ((p && v) && (e && d)) ≡ (p && (z && u)) && (v && (e && (d && (n && (r && m)))))
-  planner-shuffle n r z m u p v e d = simp (and-assoc, and-comm, and-shift)
+  planner-shuffle : (n r z u p v e d : Bool) → ((n && (r && z)) && u) && ((p && v) && (e && d)) ≡ (p && (z && u)) && (v && (e && (d && (n && (r && (true && true))))))
+  planner-shuffle n r z u p v e d = rw (and-true r) (simp (and-assoc, and-comm, and-shift))
 
-  pub planner-tested : Bytes b → length b ≡ 768 → plannerFields b && channelTested s 0 1 b ≡ plannerRight (contextOf s) b
+  -- a mask is a number of two bytes
+  mask-fits : Bytes b → (at : ℕ) → at + 2 ≤ length b → ltb (number (part b at 2)) 0x10000 ≡ true
+  mask-fits w at l = lt-ltb (number (part b at 2)) 0x10000 (number-fits b at 2 w l)
+
+  pub planner-tested : Bytes b → length b ≡ 768 → plannerFields b && channelTested s 0 0 b ≡ plannerRight (contextOf s) b
   unfolding plannerRight plannerLength plannerValid plannerIn bankCount channelIn
   planner-tested w l =
-      rw (eq-eqb (length b) 768 l, planner-fields (omega arith), channel-as s b false 0 (none-refreshed s b) w (omega arith) (planner-tags s b w (omega arith)))
-      (planner-shuffle (isInstant (instantOf (number (part b 752 4)))) (ltb (number (part b 756 2)) 32) (zeroPart b 758 2) (ltb (number (part b 760 2)) 0x10000) (zeroPart b 762 6)
+      rw (
+        eq-eqb (length b) 768 l,
+        planner-fields (omega arith),
+        mask-fits w 760 (omega arith),
+        mask-fits w 762 (omega arith),
+        channel-as s b false 0 (none-refreshed s b) w (omega arith) (planner-tags s b w (omega arith)),
+      )
+      (planner-shuffle (isInstant (instantOf (number (part b 752 4)))) (ltb (number (part b 756 2)) 32) (zeroPart b 758 2) (zeroPart b 764 4)
       (channelSpare b) (channelValid (contextOf s) (channelIn b)) (none-refreshed s b) (not (eqb (getD b 729 0) 1)))
 
   -- the same where the stored instants are in range
-  pub planner-rest : Bytes b → length b ≡ 768 → allStored b 0 160 && allStored b 704 5 ≡ true → (plannerFields b && tagsRight s 0 b) && bufferRight s 1 b ≡ plannerRight (contextOf s) b
+  pub planner-rest : Bytes b → length b ≡ 768 → allStored b 0 160 && allStored b 704 5 ≡ true → (plannerFields b && tagsRight s 0 b) && bufferRight s 0 b ≡ plannerRight (contextOf s) b
   unfolding channelTested
-  planner-rest w l h = and-assoc (plannerFields b) (tagsRight s 0 b) (bufferRight s 1 b) ∙ rw h at (planner-tested w l)
+  planner-rest w l h = and-assoc (plannerFields b) (tagsRight s 0 b) (bufferRight s 0 b) ∙ rw h at (planner-tested w l)
 
   pub planner-length-wrong : (length b ≡ 768 → ⊥) → plannerRight (contextOf s) b ≡ false
   unfolding plannerRight plannerLength
@@ -73,31 +82,19 @@ refr-word r z rows l =
     let q = ltb-true r rows (and-right (eqb z 0) _ h) in
     rw (lt-ltb n 0x10000 (omega arith), lt-ltb n rows (omega arith)))
 
-both-zero : (x y : ℕ) → eqb (x + 0x10000000000000000 * y) 0 ≡ eqb x 0 && eqb y 0
-both-zero x y =
-    iff-eq _ _
-    (λ h. let q = eqb-true (x + 0x10000000000000000 * y) 0 h in rw (eq-eqb x 0 (omega arith), eq-eqb y 0 (omega arith)))
-    (λ h. eq-eqb (x + 0x10000000000000000 * y) 0 (omega (arith, eqb-true x 0 (and-left (eqb x 0) _ h), eqb-true y 0 (and-right (eqb x 0) _ h))))
-
 module _ (s : Settings) (b : List ℕ) where
-  model-fields : Bytes b → 792 ≤ length b → modelFields s b ≡ (zeroPart b 754 6 && ltb (number (part b 752 2)) (s .rows)) && zeroPart b 776 16
+  model-fields : Bytes b → 792 ≤ length b → modelFields s b ≡ zeroPart b 754 6 && ltb (number (part b 752 2)) (s .rows)
   model-fields w l =
-      rw (
-        number-part b 752 2 6 (omega arith),
-        refr-word (number (part b 752 2)) (number (part b 754 6)) (s .rows) (number-fits b 752 2 w (omega arith)),
-        number-part b 776 8 8 (omega arith),
-        both-zero (number (part b 776 8)) (number (part b 784 8)),
-      )
-      (and-assoc (zeroPart b 754 6 && ltb (number (part b 752 2)) (s .rows)) (zeroPart b 776 8) (zeroPart b 784 8))
+      rw (number-part b 752 2 6 (omega arith)) (refr-word (number (part b 752 2)) (number (part b 754 6)) (s .rows) (number-fits b 752 2 w (omega arith)))
 
-  model-shuffle : (z r u p v : Bool) → ((z && r) && u) && ((p && v) && true) ≡ (p && (z && u)) && (v && r)
-  model-shuffle z r u p v = rw (and-true (p && v)) (simp (and-assoc, and-comm, and-shift))
+  model-shuffle : (z r p v : Bool) → (z && r) && ((p && v) && true) ≡ (p && z) && (v && r)
+  model-shuffle z r p v = rw (and-true (p && v)) (simp (and-assoc, and-comm, and-shift))
 
-  pub model-tested : Bytes b → length b ≡ 792 → modelFields s b && channelTested s 0xFFFF 257 b ≡ modelRight (contextOf s) b
+  pub model-tested : Bytes b → length b ≡ 792 → modelFields s b && channelTested s 0xFFFF 256 b ≡ modelRight (contextOf s) b
   unfolding modelRight modelLength modelValid modelIn contextOf
   model-tested w l =
       rw (eq-eqb (length b) 792 l, model-fields w (omega arith), channel-as s b true 0xFFFF true w (omega arith) (model-tags s b w (omega arith)))
-      (model-shuffle (zeroPart b 754 6) (ltb (number (part b 752 2)) (s .rows)) (zeroPart b 776 16) (channelSpare b) (channelValid (contextOf s) (channelIn b)))
+      (model-shuffle (zeroPart b 754 6) (ltb (number (part b 752 2)) (s .rows)) (channelSpare b) (channelValid (contextOf s) (channelIn b)))
 
   pub model-length-wrong : (length b ≡ 792 → ⊥) → modelRight (contextOf s) b ≡ false
   unfolding modelRight modelLength

@@ -35,47 +35,6 @@ pub and-shift : (a b c : Bool) → a && (b && c) ≡ b && (a && c)
 and-shift true b c = refl
 and-shift false b c = sym (and-false b)
 
-up-to-one : (x : ℕ) → leb x 1 ≡ eqb x 0 || eqb x 1
-up-to-one x = go (eqb x 0) refl (eqb x 1) refl
-  where
-    go : (p : Bool) → eqb x 0 ≡ p → (q : Bool) → eqb x 1 ≡ q → leb x 1 ≡ p || q
-    go true e q f = le-leb x 1 (omega (arith, eqb-true x 0 e))
-    go false e true f = le-leb x 1 (omega (arith, eqb-true x 1 f))
-    go false e false f = lt-leb x 1 (omega (arith, eqb-false x 0 e, eqb-false x 1 f))
-
-not-two : (x : ℕ) → eqb x 0 && eqb x 1 ≡ false
-not-two x = go (eqb x 0) refl
-  where
-    go : (p : Bool) → eqb x 0 ≡ p → p && eqb x 1 ≡ false
-    go true e = ne-eqb x 1 (λ z. omega (arith, eqb-true x 0 e))
-    go false e = refl
-
-may-below : (may : Bool) → cond may 1 0 < 2
-may-below true = omega arith
-may-below false = omega arith
-
-may-is : (may : Bool) (d : ℕ) → eqb d (cond may 1 0) ≡ cond may (eqb d 1) (eqb d 0)
-may-is true d = refl
-may-is false d = refl
-
--- the buffer's tests, by the number of writes (none, one) and by whether data are due (not, due)
-by-counts : (none one not-due due may z none-zero one-zero right : Bool) → none && one ≡ false → not-due && due ≡ false
-    → ((none && (not-due && z)) && none-zero) || (((one && (not-due && z)) || (one && (cond may due not-due && z))) && (one-zero && right))
-    ≡ (((none || one) && ((not-due || due) && z)) && (cond none none-zero one-zero && cond none (not due) right)) && (may || not due)
-by-counts true true n d may z a b r e f = not-both true refl e
-by-counts true false true true may z a b r e f = not-both true refl f
-by-counts true false true false may z a b r e f = rw (and-true a, or-true may, or-false (z && a), and-true (z && a))
-by-counts true false false true may z a b r e f = rw (and-false a, and-false z)
-by-counts true false false false may z a b r e f = refl
-by-counts false true true true may z a b r e f = not-both true refl f
-by-counts false true true false true z a b r e f = rw (or-false z, and-true (z && (b && r)))
-by-counts false true true false false z a b r e f = rw (or-self z, and-true (z && (b && r)))
-by-counts false true false true true z a b r e f = sym (and-true (z && (b && r)))
-by-counts false true false true false z a b r e f = sym (and-false (z && (b && r)))
-by-counts false true false false true z a b r e f = refl
-by-counts false true false false false z a b r e f = refl
-by-counts false false n d may z a b r e f = refl
-
 -- ---- neighbours: each bank with the one below it
 
 module _ (s : Settings) (state : ℕ → Bank) where
@@ -166,13 +125,13 @@ planes-join f =
 -- ---- the banks
 
 module _ (s : Settings) (b : List ℕ) where
-  abbrev cx : Context
+  abbrev pub cx : Context
   cx = contextOf s
 
-  abbrev tagIn : ℕ → ℕ
+  abbrev pub tagIn : ℕ → ℕ
   tagIn x = number (part b (640 + 2 * x) 2)
 
-  state-at : (x : ℕ) → x < 32 → stateOf (channelIn b) x ≡ bankIn (tagIn x)
+  pub state-at : (x : ℕ) → x < 32 → stateOf (channelIn b) x ≡ bankIn (tagIn x)
   unfolding channelIn bankCount trackIn
   state-at x l = ap (λ t. t .bank) (tracks-at b 32 x l)
 
@@ -203,12 +162,12 @@ module _ (s : Settings) (b : List ℕ) where
   abbrev pub rows-in : Bool
   rows-in = allUpTo (λ x. bankValid cx (bankIn (tagIn x))) 32
 
-  tracks-tested : allUpTo (λ x. trackValid cx (trackOf (channelIn b) x)) 32 ≡ rows-in && allStored b 0 160
+  pub tracks-tested : allUpTo (λ x. trackValid cx (trackOf (channelIn b) x)) 32 ≡ rows-in && allStored b 0 160
   tracks-tested =
       let f : ℕ → Bool = λ k. leb (number (part b (0 + 4 * k) 4)) latest in
       all-ext _ _ 32 track-tested ∙ all-and (λ x. bankValid cx (bankIn (tagIn x))) (fives f) 32 ∙ ap (λ t. rows-in && t) (sym (planes-join f))
 
-  lasts-tested : lastsValid (channelIn b) ≡ allStored b 704 5
+  pub lasts-tested : lastsValid (channelIn b) ≡ allStored b 704 5
   unfolding channelIn lastsIn lastsValid allUpTo
   lasts-tested =
       rw (
@@ -263,95 +222,3 @@ module _ (s : Settings) (b : List ℕ) where
         tags-as 0 (λ x. bankValid cx (bankIn (tagIn x)) && notRefresh (stateOf (channelIn b) x))
         (λ x m. tag-planned cx (tagIn x) (tag-fits x m) ∙ ap (λ k. bankValid cx (bankIn (tagIn x)) && notRefresh k) (sym (state-at x m)))
         ∙ ap (λ t. t && apart cx (stateOf (channelIn b))) (all-and (λ x. bankValid cx (bankIn (tagIn x))) (λ x. notRefresh (stateOf (channelIn b) x)) 32)
-
-  -- ---- the buffer
-
-  -- a waiting write: its fields, and its bank
-  abbrev write-valid : Bool
-  write-valid = writeValid cx (writeIn b 736)
-
-  abbrev write-open : Bool
-  write-open = isOpen (stateOf (channelIn b) (getD b 736 0))
-
-  write-tested : writeRight s b ≡ zeroPart b 738 2 && (write-valid && write-open)
-  unfolding writeRight writeValid bankCount contextOf
-  write-tested = go (ltb (getD b 736 0) 32) refl
-    where
-      at : ℕ
-      at = number (part b 740 4)
-
-      go : (q : Bool) → ltb (getD b 736 0) 32 ≡ q → writeRight s b ≡ zeroPart b 738 2 && (write-valid && write-open)
-      go true e =
-          let tag : ℕ = tagIn (getD b 736 0) in
-          rw (e, instant-stored at, state-at (getD b 736 0) (ltb-true _ 32 e), tag-open tag)
-          (shuffle (ltb (getD b 737 0) (s .columns)) (zeroPart b 738 2) (not (eqb tag 0)) (not (eqb tag 0xFFFF)) (not (eqb at 0)) (leb at latest))
-        where
-          shuffle : (c z o r a l : Bool) → ((((c && z) && o) && r) && a) && l ≡ z && ((c && (a && l)) && (o && r))
-          shuffle c z o r a l = simp (and-assoc, and-comm, and-shift)
-      go false e = rw e (sym (and-false (zeroPart b 738 2)))
-
-  abbrev waits-valid : Bool
-  waits-valid = allWrites (writeValid cx) (waitingOf (bufferIn b))
-
-  abbrev waits-open : Bool
-  waits-open = allWrites (λ w. isOpen (stateOf (channelIn b) (w .bank))) (waitingOf (bufferIn b))
-
-  abbrev due-right : Bool
-  due-right = not (eqb (getD b 729 0) 1) || anyWrite (λ w. true) (waitingOf (bufferIn b))
-
-  -- by the number of writes that wait
-  waits-as : (q : Bool) → eqb (getD b 728 0) 0 ≡ q
-      → waits-valid && (waits-open && due-right) ≡ cond q (not (eqb (getD b 729 0) 1)) (write-valid && write-open)
-  unfolding bufferIn waitingOf
-  waits-as true e = rw e (or-false (not (eqb (getD b 729 0) 1)))
-  waits-as false e = rw (e, or-true (not (eqb (getD b 729 0) 1))) (simp and-true)
-
-  module _ (w : Bytes b) (l : 752 ≤ length b) where
-    -- where the count 257 may be, or not
-    held-tested : (may : Bool)
-        → (eqb (number (part b 728 8)) 0 && zeroPart b 736 8) || ((eqb (number (part b 728 8)) 1 || eqb (number (part b 728 8)) (1 + 256 * cond may 1 0)) && writeRight s b)
-        ≡ ((leb (getD b 728 0) 1 && (leb (getD b 729 0) 1 && zeroPart b 730 6)) && (cond (eqb (getD b 728 0) 0) (zeroPart b 736 8) (zeroPart b 738 2) && (waits-valid && (waits-open && due-right))))
-        && (may || not (eqb (getD b 729 0) 1))
-    held-tested may =
-        let n : ℕ = getD b 728 0 in
-        let d : ℕ = getD b 729 0 in
-        let z : ℕ = number (part b 730 6) in
-        let is : (m e : ℕ) → m < 2 → e < 2 → eqb (number (part b 728 8)) (m + 256 * e) ≡ eqb n m && (eqb d e && eqb z 0) =
-        λ m e lm le. rw (count-parts b l) (count-is n d z m e (w 728 (omega arith)) (omega arith) le (w 729 (omega arith))) in
-        rw (
-          is 0 0 (omega arith) (omega arith),
-          is 1 0 (omega arith) (omega arith),
-          is 1 (cond may 1 0) (omega arith) (may-below may),
-          may-is may d,
-          up-to-one n,
-          up-to-one d,
-          waits-as (eqb n 0) refl,
-          write-tested,
-        )
-        (by-counts (eqb n 0) (eqb n 1) (eqb d 0) (eqb d 1) may (eqb z 0) (zeroPart b 736 8) (zeroPart b 738 2) (write-valid && write-open) (not-two n) (not-two d))
-
--- ---- the channel
-
--- with what a planner asks besides, or a model
-all-parts : (P L R A N C W O D z u E F : Bool)
-    → ((P && L) && ((R && E) && A)) && ((((N && (C && (W && (O && D)))) && F) && z) && u)
-    ≡ ((z && (N && (C && u))) && (((R && P) && (L && W)) && (A && (O && D)))) && (E && F)
-all-parts P L R A N C W O D z u E F = simp (and-assoc, and-comm, and-shift)
-
-module _ (s : Settings) (b : List ℕ) where
-  valid-parts : channelValid (contextOf s) (channelIn b)
-      ≡ ((rows-in s b && allStored b 0 160) && (allStored b 704 5 && waits-valid s b)) && (apart (contextOf s) (stateOf (channelIn b)) && (waits-open s b && due-right s b))
-  unfolding channelValid bankCount channelIn
-  valid-parts =
-      let n : eqb (length (tracksIn b 32)) 32 ≡ true = eq-eqb _ 32 (length-tracks b 32) in
-      ap₂ (λ p q. p && (apart (contextOf s) (stateOf (channelIn b)) && q)) (ap₂ _&&_ n (ap₂ _&&_ (tracks-tested s b) (ap (λ q. q && waits-valid s b) (lasts-tested s b)))) refl
-
-  -- where the count 257 may be or not, and the test of tags asks more
-  pub channel-as : (may : Bool) (also : ℕ) (more : Bool) → Bytes b → 752 ≤ length b → tagsRight s also b ≡ (rows-in s b && more) && apart (contextOf s) (stateOf (channelIn b))
-      → channelTested s also (1 + 256 * cond may 1 0) b ≡ (channelSpare b && channelValid (contextOf s) (channelIn b)) && (more && (may || not (eqb (getD b 729 0) 1)))
-  unfolding channelTested bufferRight channelSpare
-  channel-as may also more w l h =
-      rw (h, held-tested s b w l may, valid-parts)
-      (all-parts (allStored b 0 160) (allStored b 704 5) (rows-in s b) (apart (contextOf s) (stateOf (channelIn b)))
-      (leb (getD b 728 0) 1 && (leb (getD b 729 0) 1 && zeroPart b 730 6)) (cond (eqb (getD b 728 0) 0) (zeroPart b 736 8) (zeroPart b 738 2))
-      (waits-valid s b) (waits-open s b) (due-right s b) (zeroPart b 724 4) (zeroPart b 744 8) more (may || not (eqb (getD b 729 0) 1)))

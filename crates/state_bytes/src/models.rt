@@ -16,11 +16,7 @@ pub fn model_right(s: Settings, b: &[u8]) -> bool
         return false;
     }
     let refr = num::u64_at(b, 752);
-    let fields = (refr < 65536)
-        & (refr < num::wide32(s.rows))
-        & (num::u64_at(b, 776) == 0)
-        & (num::u64_at(b, 784) == 0);
-    fields & channel_right(s, 65535, 257, b)
+    (refr < 65536) & (refr < num::wide32(s.rows)) & channel_right(s, 65535, 256, b)
 }
 
 // The model's REFR.
@@ -31,7 +27,7 @@ pub fn refr_at(b: &[u8]) -> u32
     num::u16_at(b, 752)
 }
 
-// The data of the waiting write.
+// The data of the older waiting write.
 pub fn data_at(b: &[u8]) -> Dualoct
     requires { ⌜ length (now b) ≡ 792 ⌝ }
     ensures { λ r. ⌜ r ≡ modelIn (now (b .entry)) .bytes ⌝ }
@@ -39,5 +35,16 @@ pub fn data_at(b: &[u8]) -> Dualoct
     Dualoct {
         dqa: num::u64_at(b, 760),
         dqb: num::u64_at(b, 768),
+    }
+}
+
+// The data of the newer one.
+pub fn second_at(b: &[u8]) -> Dualoct
+    requires { ⌜ length (now b) ≡ 792 ⌝ }
+    ensures { λ r. ⌜ r ≡ modelIn (now (b .entry)) .second ⌝ }
+{
+    Dualoct {
+        dqa: num::u64_at(b, 776),
+        dqb: num::u64_at(b, 784),
     }
 }

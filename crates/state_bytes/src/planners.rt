@@ -24,7 +24,7 @@ fn fields_right(b: &[u8]) -> bool
     ensures { λ r. ⌜ r ≡ plannerFields (now (b .entry)) ⌝ }
 {
     let now = num::u32_at(b, 752);
-    (now != 0) & (now <= LATEST) & (num::u32_at(b, 756) < 32) & (num::u64_at(b, 760) < 65536)
+    (now != 0) & (now <= LATEST) & (num::u32_at(b, 756) < 32) & (num::u32_at(b, 764) == 0)
 }
 
 // Whether refusal 1 has nothing against a planner's bytes.
@@ -34,7 +34,7 @@ pub fn planner_right(s: Settings, b: &[u8]) -> bool
     if b.len() != PLANNER_BYTES {
         return false;
     }
-    fields_right(b) & channel_right(s, 0, 1, b)
+    fields_right(b) & channel_right(s, 0, 0, b)
 }
 
 // The same of bytes whose stored instants are known to be in range.
@@ -43,7 +43,7 @@ pub fn planner_rest_right(s: Settings, b: &[u8]) -> bool
     requires { ⌜ allStored (now b) 0 160 && allStored (now b) 704 5 ≡ true ⌝ }
     ensures { λ r. ⌜ r ≡ plannerRight (contextOf s) (now (b .entry)) ⌝ }
 {
-    fields_right(b) & tags_right(s, 0, b) & buffer_right(s, 1, b)
+    fields_right(b) & tags_right(s, 0, b) & buffer_right(s, 0, b)
 }
 
 // The state that a planner's bytes say.
@@ -58,5 +58,6 @@ pub fn read_planner(b: &[u8]) -> PlannerState
         now: instant_at(b, 752),
         refresh: num::u16_at(b, 756),
         mask: num::u16_at(b, 760),
+        second: num::u16_at(b, 762),
     }
 }

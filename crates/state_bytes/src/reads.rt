@@ -68,15 +68,16 @@ pub fn lasts_at(b: &[u8]) -> LastInstants
     }
 }
 
-fn write_at(b: &[u8]) -> Write
-    requires { ⌜ 752 ≤ length (now b) ⌝ }
-    requires { ⌜ InRange (now b) ⌝ }
-    ensures { λ r. ⌜ r ≡ writeIn (now (b .entry)) 736 ⌝ }
+// The waiting write whose bytes are at a place.
+fn write_at(b: &[u8], p: usize) -> Write
+    requires { ⌜ p + 8 ≤ length (now b) ⌝ }
+    requires { ⌜ number (part (now b) (p + 4) 4) ≤ latest ⌝ }
+    ensures { λ r. ⌜ r ≡ writeIn (now (b .entry)) p ⌝ }
 {
     Write {
-        bank: num::wide(b[736]),
-        column: num::wide(b[737]),
-        at: instant_at(b, 740),
+        bank: num::wide(b[p]),
+        column: num::wide(b[p + 1]),
+        at: instant_at(b, p + 4),
     }
 }
 
@@ -89,7 +90,10 @@ pub fn buffer_at(b: &[u8]) -> Buffer
     if b[728] == 0 {
         return Buffer::Empty;
     }
-    Buffer::One(write_at(b))
+    if b[728] == 1 {
+        return Buffer::One(write_at(b, 736));
+    }
+    Buffer::Two(write_at(b, 736), write_at(b, 744))
 }
 
 // Whether the data of the newest write are due.

@@ -91,32 +91,39 @@ pub(crate) fn tags_right(s: Settings, also: u16, b: &[u8]) -> bool
     right
 }
 
-// Whether the fields of a waiting write are in range and its bank is open by ACT.
-fn write_right(s: Settings, b: &[u8]) -> bool
+// Whether the fields of the waiting write at a place are in range and its bank is open by ACT.
+fn write_right(s: Settings, b: &[u8], p: usize) -> bool
     requires { ⌜ 752 ≤ length (now b) ⌝ }
-    ensures { λ r. ⌜ r ≡ writeRight s (now (b .entry)) ⌝ }
+    requires { ⌜ p + 8 ≤ 752 ⌝ }
+    ensures { λ r. ⌜ r ≡ writeRight s (now (b .entry)) p ⌝ }
 {
-    let bank = num::wide(b[736]);
+    let bank = num::wide(b[p]);
     let tag = num::u16_at(b, 640 + 2 * slot_of(bank));
-    let at = num::u32_at(b, 740);
-    let fields = (bank < 32) & (num::wide(b[737]) < s.columns) & (num::u16_at(b, 738) == 0);
+    let at = num::u32_at(b, p + 4);
+    let fields = (bank < 32) & (num::wide(b[p + 1]) < s.columns) & (num::u16_at(b, p + 2) == 0);
     fields & (tag != 0) & (tag != 65535) & (at != 0) & (at <= LATEST)
 }
 
-// The buffer: no write waits, or one, with one of two counts; the bytes that no field uses are 0.
+// The buffer: no write waits, or one or two, with one of two counts; the bytes that no field uses are 0.
 pub(crate) fn buffer_right(s: Settings, due: u64, b: &[u8]) -> bool
     requires { ⌜ 752 ≤ length (now b) ⌝ }
+    requires { ⌜ due ≤ 256 ⌝ }
     ensures { λ r. ⌜ r ≡ bufferRight s due (now (b .entry)) ⌝ }
 {
     let count = num::u64_at(b, 728);
-    let none = (count == 0) & (num::u64_at(b, 736) == 0);
-    let one = ((count == 1) | (count == due)) & write_right(s, b);
-    (none | one) & (num::u32_at(b, 724) == 0) & (num::u64_at(b, 744) == 0)
+    let older = write_right(s, b, 736);
+    let newer = write_right(s, b, 744);
+    let unused = num::u64_at(b, 744) == 0;
+    let none = (count == 0) & (num::u64_at(b, 736) == 0) & unused;
+    let one = ((count == 1) | (count == 1 + due)) & older & unused;
+    let two = ((count == 2) | (count == 2 + due)) & older & newer;
+    (none | one | two) & (num::u32_at(b, 724) == 0)
 }
 
-// Whether the channel's bytes are not refused, where the tag `also` and the count `due` are allowed too.
+// Whether the channel's bytes are not refused, where the tag `also` is allowed too, and counts that are `due` more.
 pub(crate) fn channel_right(s: Settings, also: u16, due: u64, b: &[u8]) -> bool
     requires { ⌜ 752 ≤ length (now b) ⌝ }
+    requires { ⌜ due ≤ 256 ⌝ }
     ensures { λ r. ⌜ r ≡ channelTested s also due (now (b .entry)) ⌝ }
 {
     instants_right(b) & tags_right(s, also, b) & buffer_right(s, due, b)

@@ -2,7 +2,7 @@
 -- Assumes nothing.
 use Prim.Native.Nat.{ℕ, _-_, _^_, _<_}
 use mathlib.Core.Path.{_≡_}
-use mathlib.Core.Bool.{true, false, _||_}
+use mathlib.Core.Bool.{true, false, _&&_, _||_}
 use mathlib.Core.List.{List, _++_}
 use mathlib.Core.Logic.{⊎-elim}
 use native.Mathlib.Omega.{arith}
@@ -14,8 +14,9 @@ use Rattle.settings.specs.Settings.{valid}
 use Rattle.settings.proofs.SettingsLaws.{bounds}
 use Rattle.packet.specs.declared.RowPacket.the-variants.{Prer, Refp}
 use Rattle.record.specs.declared.Record.the-variants.{RowAt}
+use Rattle.spec_rules.specs.declared.Write.{Write}
 use Rattle.spec_rules.specs.declared.Buffer.{Buffer}
-use Rattle.spec_rules.specs.declared.Buffer.the-variants.{Empty, One}
+use Rattle.spec_rules.specs.declared.Buffer.the-variants.{Empty, One, Two}
 use Rattle.spec_rules.specs.declared.Channel.{Channel}
 use Rattle.spec_rules.specs.Neighbour.{bankCount, contextOf, near}
 use Rattle.spec_rules.specs.History.{allWrites}
@@ -25,7 +26,7 @@ use Rattle.spec_state.specs.Valid.{writeValid, channelValid}
 use Rattle.spec_state.specs.ChannelBytes.{bankTag, channelBytes}
 use Rattle.spec_state.specs.form.Stores.{prerStored}
 use Rattle.spec_state.proofs.NextValid.{Sound, valid-sound}
-use Rattle.spec_state.proofs.StoreLaws.{WriteIn}
+use Rattle.spec_state.proofs.StoreLaws.{ByBytes, WriteIn}
 use Rattle.spec_state.proofs.CloseLaws.{tag-fits, prer-all-stored, refp-all-stored}
 use Rattle.chan_view.specs.form.Beside.{lowOf, highOf}
 use Rattle.chan_view.proofs.NearLaws.{Beside, own, low, high, or-cases, or-left, or-right, near-beside, near-own, near-low, near-high}
@@ -52,17 +53,24 @@ module _ (s : Settings) (v : valid s ≡ true) (ch : Channel) (k : channelValid 
   sound = valid-sound (contextOf s) ch k
 
   -- a waiting write has its bank and column in a byte each
+  each : (w : Write) → writeValid (contextOf s) w ≡ true → ByBytes w
+  unfolding writeValid contextOf bankCount
+  each w p =
+      let bank = ltb-true (w .bank) 32 (and-left (ltb (w .bank) 32) _ p) in
+      let column = ltb-true (w .column) (s .columns) (and-left (ltb (w .column) (s .columns)) _ (and-right (ltb (w .bank) 32) _ p)) in
+      (omega arith, omega (arith, bounds s v .columns-most))
+
   pub write-in : WriteIn (ch .buffer)
-  unfolding contextOf bankCount waitingOf writeValid
+  unfolding contextOf bankCount waitingOf
   write-in = go (ch .buffer) (sound .write)
     where
       go : (b : Buffer) → allWrites (writeValid (contextOf s)) (waitingOf b) ≡ true → WriteIn b
       go Empty h = tt
-      go (One w) h =
-          let p = and-left (writeValid (contextOf s) w) true h in
-          let bank = ltb-true (w .bank) 32 (and-left (ltb (w .bank) 32) _ p) in
-          let column = ltb-true (w .column) (s .columns) (and-left (ltb (w .column) (s .columns)) _ (and-right (ltb (w .bank) 32) _ p)) in
-          (omega arith, omega (arith, bounds s v .columns-most))
+      go (One x) h = each x (and-left (writeValid (contextOf s) x) true h)
+      go (Two x y) h =
+          let p = writeValid (contextOf s) x in
+          let q = writeValid (contextOf s) y in
+          (each x (and-left p (q && true) h), each y (and-left q true (and-right p (q && true) h)))
 
   tags-in : (y : ℕ) → y < 32 → bankTag (stateOf ch y) < 256 ^ 2
   unfolding contextOf bankCount

@@ -2,8 +2,9 @@
 ghost use mathlib.Core.Path.{_≡_};
 ghost use Prim.Native.Nat.{_<_, _≤_, _^_};
 ghost use lib.ListN.{length};
-ghost use Rattle.num.specs.Bytes.{bytes, splice};
-ghost use Rattle.spec_state.specs.form.Stores.{colStored, rdStored, retireStored, emptyStored, writeStored};
+ghost use Rattle.spec_state.specs.form.Layout.{writeWord};
+ghost use Rattle.spec_state.specs.form.Stores.{colStored, rdStored, retireStored, emptyStored, shiftStored, writeStored, besideStored, behindStored, dataStored};
+use num::u64_at;
 use num::wide32;
 use puts::put_u32;
 use puts::put_u64;
@@ -37,7 +38,7 @@ pub fn store_retire(b: &mut [u8], h: usize, t: u64)
     put_u32(b, 512 + 4 * h, t);
 }
 
-// No write waits.
+// No write waits, where one did.
 pub fn store_empty(b: &mut [u8])
     requires { ⌜ 752 ≤ length (now b) ⌝ }
     ensures { λ _. ⌜ now (b .exit) ≡ emptyStored (now (b .entry)) ⌝ }
@@ -46,7 +47,28 @@ pub fn store_empty(b: &mut [u8])
     put_u64(b, 736, 0);
 }
 
-// A write waits: count is 1, or 257 where its data are due.
+// The second write, where one waits, becomes the first: count is how many then wait.
+pub fn store_shift(b: &mut [u8], count: u64)
+    requires { ⌜ 752 ≤ length (now b) ⌝ }
+    ensures { λ _. ⌜ now (b .exit) ≡ shiftStored (now (b .entry)) count ⌝ }
+{
+    let second = u64_at(b, 744);
+    put_u64(b, 728, count);
+    put_u64(b, 736, second);
+    put_u64(b, 744, 0);
+}
+
+// The eight bytes of a waiting write, as one number.
+fn word_of(x: u32, column: u32, t: u64) -> u64
+    requires { ⌜ x < 256 ⌝ }
+    requires { ⌜ column < 256 ⌝ }
+    requires { ⌜ t < 2 ^ 32 ⌝ }
+    ensures { λ word. ⌜ word ≡ writeWord x column t ⌝ }
+{
+    wide32(x) + 256 * wide32(column) + 4294967296 * t
+}
+
+// One write waits: count is 1, or 257 where its data are due.
 pub fn store_write(b: &mut [u8], count: u64, x: u32, column: u32, t: u64)
     requires { ⌜ 752 ≤ length (now b) ⌝ }
     requires { ⌜ x < 256 ⌝ }
@@ -54,15 +76,43 @@ pub fn store_write(b: &mut [u8], count: u64, x: u32, column: u32, t: u64)
     requires { ⌜ t < 2 ^ 32 ⌝ }
     ensures { λ _. ⌜ now (b .exit) ≡ writeStored (now (b .entry)) count x column t ⌝ }
 {
-    let word = wide32(x) + 256 * wide32(column) + 4294967296 * t;
+    let word = word_of(x, column, t);
     put_u64(b, 728, count);
     put_u64(b, 736, word);
 }
 
-// The data of the waiting write have come.
-pub fn store_data(b: &mut [u8])
+// A write waits beside another: count is 2, or 258 where its data are due.
+pub fn store_beside(b: &mut [u8], count: u64, x: u32, column: u32, t: u64)
     requires { ⌜ 752 ≤ length (now b) ⌝ }
-    ensures { λ _. ⌜ now (b .exit) ≡ splice (now (b .entry)) 728 (bytes 8 1) ⌝ }
+    requires { ⌜ x < 256 ⌝ }
+    requires { ⌜ column < 256 ⌝ }
+    requires { ⌜ t < 2 ^ 32 ⌝ }
+    ensures { λ _. ⌜ now (b .exit) ≡ besideStored (now (b .entry)) count x column t ⌝ }
 {
-    put_u64(b, 728, 1);
+    let word = word_of(x, column, t);
+    put_u64(b, 728, count);
+    put_u64(b, 744, word);
+}
+
+// The second write becomes the first, and another waits beside it.
+pub fn store_behind(b: &mut [u8], count: u64, x: u32, column: u32, t: u64)
+    requires { ⌜ 752 ≤ length (now b) ⌝ }
+    requires { ⌜ x < 256 ⌝ }
+    requires { ⌜ column < 256 ⌝ }
+    requires { ⌜ t < 2 ^ 32 ⌝ }
+    ensures { λ _. ⌜ now (b .exit) ≡ behindStored (now (b .entry)) count x column t ⌝ }
+{
+    let newer = word_of(x, column, t);
+    let older = u64_at(b, 744);
+    put_u64(b, 728, count);
+    put_u64(b, 736, older);
+    put_u64(b, 744, newer);
+}
+
+// The data of the newest write have come: `waiting` writes wait.
+pub fn store_data(b: &mut [u8], waiting: u64)
+    requires { ⌜ 752 ≤ length (now b) ⌝ }
+    ensures { λ _. ⌜ now (b .exit) ≡ dataStored (now (b .entry)) waiting ⌝ }
+{
+    put_u64(b, 728, waiting);
 }

@@ -11,8 +11,9 @@ use Rattle.num.proofs.ByteLaws.{length-bytes, bytes-append}
 use Rattle.num.proofs.SpliceLaws.{splice-more, splice-whole, length-splice}
 use Rattle.spec_rules.specs.declared.BankTrack.{BankTrack}
 use Rattle.spec_rules.specs.declared.LastInstants.{LastInstants}
+use Rattle.spec_rules.specs.declared.Write.{Write}
 use Rattle.spec_rules.specs.declared.Buffer.{Buffer}
-use Rattle.spec_rules.specs.declared.Buffer.the-variants.{Empty, One}
+use Rattle.spec_rules.specs.declared.Buffer.the-variants.{Empty, One, Two}
 use Rattle.spec_rules.specs.declared.Channel.{Channel}
 use Rattle.spec_rules.specs.Neighbour.{bankCount}
 use Rattle.spec_state.specs.ChannelBytes.{plane, banksBytes, lastsBytes, countBytes, writeBytes, bufferBytes, channelBytes}
@@ -24,7 +25,7 @@ use Rattle.spec_state.proofs.StoreLaws.{count-word, write-word, below}
 use Rattle.spec_plan.specs.declared.PlannerState.{PlannerState}
 use Rattle.spec_plan.specs.PlannerBytes.{plannerBytes}
 use Rattle.spec_plan.proofs.PlannerRoundTrip.{planner-length}
-use Rattle.state_whole.specs.form.Whole.{fivePlanes, tags, storedWrite}
+use Rattle.state_whole.specs.form.Whole.{fivePlanes, tags, storedWord, storedWrite, storedSecond}
 
 -- ---- numbers with zeros after them
 
@@ -46,6 +47,25 @@ low-bytes n x =
     let b : x / 256 % 256 ≡ x % 0x10000 / 256 % 256 = rw e (shifted (x / 0x10000) (x % 0x10000 / 256)) in
     bytes-append 2 n (x % 0x10000) ∙ rw (z, bytes-zero n, a, ← b)
 
+-- two numbers by their two low bytes each, and four zeros
+low-two : (x y : ℕ) → bytes 2 (x + 0x10000 * y) ≡ bytes 2 x
+unfolding bytes
+low-two x y =
+    let a : (x + 0x10000 * y) % 256 ≡ x % 256 = omega arith in
+    let e : (x + 0x10000 * y) / 256 ≡ 256 * y + x / 256 = omega arith in
+    rw (a, e, shifted y (x / 256))
+
+low-own : (x : ℕ) → bytes 2 (x % 0x10000) ≡ bytes 2 x
+low-own x =
+    let e : x % 0x10000 + 0x10000 * (x / 0x10000) ≡ x = omega arith in
+    sym (low-two (x % 0x10000) (x / 0x10000)) ∙ ap (λ (n : ℕ). bytes 2 n) e
+
+pub pair-bytes : (x y : ℕ) → bytes 8 (x % 0x10000 + 0x10000 * (y % 0x10000)) ≡ bytes 2 x ++ (bytes 2 y ++ zeros 4)
+pair-bytes x y =
+    let n : ℕ = x % 0x10000 + 0x10000 * (y % 0x10000) in
+    let h : n / 256 ^ 2 ≡ y % 0x10000 = omega arith in
+    bytes-append 2 6 n ∙ rw (h, low-two (x % 0x10000) (y % 0x10000), low-own x, low-bytes 4 y)
+
 low-byte : (x : ℕ) → bytes 1 (x % 256) ≡ bytes 1 x
 unfolding bytes
 low-byte x = let a : x % 256 % 256 ≡ x % 256 = omega arith in rw a
@@ -58,18 +78,22 @@ put-three l at i j a b c ea eb h ex ey ez =
     let s = length-splice l at a (omega arith) in
     ez ∙ rw (ey, ex) (splice-more (splice l at a) (at + i) b c j eb (omega arith) ∙ splice-more l at a (b ++ c) i ea (omega arith))
 
-buffer-words : (buffer : Buffer) (due : Bool) → bytes 8 (countNumber buffer due) ++ (bytes 8 (storedWrite buffer) ++ bytes 8 0) ≡ bufferBytes buffer due
-unfolding bufferBytes countBytes writeBytes countNumber storedWrite
+stored-word : (w : Write) → bytes 8 (storedWord w) ≡ writeBytes w
+unfolding writeBytes
+stored-word w =
+    rw (write-word (w .bank % 256) (w .column % 256) (w .at .0 - 3) (omega arith) (omega arith), low-byte (w .bank), low-byte (w .column))
+
+buffer-words : (buffer : Buffer) (due : Bool) → bytes 8 (countNumber buffer due) ++ (bytes 8 (storedWrite buffer) ++ bytes 8 (storedSecond buffer)) ≡ bufferBytes buffer due
+unfolding bufferBytes countBytes countNumber storedWrite storedSecond
 buffer-words Empty due = rw (count-word 0 (cond due 1 0) (omega arith) (below due), bytes-zero 8) (simp append-assoc)
-buffer-words (One w) due =
-    rw (count-word 1 (cond due 1 0) (omega arith) (below due), write-word (w .bank % 256) (w .column % 256) (w .at .0 - 3) (omega arith) (omega arith), low-byte (w .bank), low-byte (w .column), bytes-zero 8)
-    (simp append-assoc)
+buffer-words (One x) due = rw (count-word 1 (cond due 1 0) (omega arith) (below due), stored-word x, bytes-zero 8) (simp append-assoc)
+buffer-words (Two x y) due = rw (count-word 2 (cond due 1 0) (omega arith) (below due), stored-word x, stored-word y) (simp append-assoc)
 
 pub buffer-put : (l : List ℕ) (buffer : Buffer) (due : Bool) → 752 ≤ length l → {x y z : List ℕ}
-    → x ≡ splice l 728 (bytes 8 (countNumber buffer due)) → y ≡ splice x 736 (bytes 8 (storedWrite buffer)) → z ≡ splice y 744 (bytes 8 0)
+    → x ≡ splice l 728 (bytes 8 (countNumber buffer due)) → y ≡ splice x 736 (bytes 8 (storedWrite buffer)) → z ≡ splice y 744 (bytes 8 (storedSecond buffer))
     → z ≡ splice l 728 (bufferBytes buffer due)
 buffer-put l buffer due h ex ey ez =
-    put-three l 728 8 8 (bytes 8 (countNumber buffer due)) (bytes 8 (storedWrite buffer)) (bytes 8 0) (length-bytes 8 (countNumber buffer due)) (length-bytes 8 (storedWrite buffer)) (omega arith) ex ey ez
+    put-three l 728 8 8 (bytes 8 (countNumber buffer due)) (bytes 8 (storedWrite buffer)) (bytes 8 (storedSecond buffer)) (length-bytes 8 (countNumber buffer due)) (length-bytes 8 (storedWrite buffer)) (omega arith) ex ey ez
     ∙ ap (λ (xs : List ℕ). splice l 728 xs) (buffer-words buffer due)
 
 pub lasts-put : (b : List ℕ) (l : LastInstants) → 752 ≤ length b → l .rd .0 - 3 < 2 ^ 32 → {x y z u v : List ℕ}
@@ -107,10 +131,10 @@ channel-put l ch h ex ey ez eu =
 
 pub planner-put : (l : List ℕ) (p : PlannerState) → length l ≡ 768 → {x y z u : List ℕ}
     → x ≡ splice l 0 (channelBytes (p .channel)) → y ≡ splice x 752 (bytes 4 (p .now .0 - 3)) → z ≡ splice y 756 (bytes 4 (p .refresh % 0x10000))
-    → u ≡ splice z 760 (bytes 8 (p .mask % 0x10000)) → u ≡ plannerBytes p
+    → u ≡ splice z 760 (bytes 8 (p .mask % 0x10000 + 0x10000 * (p .second % 0x10000))) → u ≡ plannerBytes p
 unfolding plannerBytes
 planner-put l p h ex ey ez eu =
-    put-four l 0 752 4 4 (channelBytes (p .channel)) (bytes 4 (p .now .0 - 3)) (bytes 4 (p .refresh % 0x10000)) (bytes 8 (p .mask % 0x10000))
+    put-four l 0 752 4 4 (channelBytes (p .channel)) (bytes 4 (p .now .0 - 3)) (bytes 4 (p .refresh % 0x10000)) (bytes 8 (p .mask % 0x10000 + 0x10000 * (p .second % 0x10000)))
     (channel-length (p .channel)) (length-bytes 4 (p .now .0 - 3)) (length-bytes 4 (p .refresh % 0x10000)) (omega arith) ex ey ez eu
-    ∙ ap (λ (xs : List ℕ). splice l 0 (channelBytes (p .channel) ++ (bytes 4 (p .now .0 - 3) ++ xs))) (rw (low-bytes 2 (p .refresh), low-bytes 6 (p .mask)) (simp append-assoc))
+    ∙ ap (λ (xs : List ℕ). splice l 0 (channelBytes (p .channel) ++ (bytes 4 (p .now .0 - 3) ++ xs))) (rw (low-bytes 2 (p .refresh), pair-bytes (p .mask) (p .second)) (simp append-assoc))
     ∙ splice-whole l (plannerBytes p) (planner-length p ∙ sym h)

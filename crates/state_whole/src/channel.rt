@@ -6,13 +6,14 @@ ghost use lib.ListN.{length};
 ghost use Rattle.num.specs.Bytes.{splice};
 ghost use Rattle.spec_state.specs.ChannelBytes.{bankTag, plane, lastsBytes, bufferBytes, channelBytes};
 ghost use Rattle.spec_state.specs.form.Layout.{figureOf, countNumber};
-ghost use Rattle.state_whole.specs.form.Whole.{figures, fivePlanes, tags, storedWrite};
+ghost use Rattle.state_whole.specs.form.Whole.{figures, fivePlanes, tags, storedWord, storedWrite, storedSecond};
 use chan_view::bounds::minus;
 use spec_rules::Bank;
 use spec_rules::BankTrack;
 use spec_rules::Buffer;
 use spec_rules::Channel;
 use spec_rules::LastInstants;
+use spec_rules::Write;
 
 // An instant as it is stored.
 pub(crate) fn stored(t: u32) -> u64
@@ -115,20 +116,37 @@ fn count_word(buffer: Buffer, due: bool) -> u64
     match buffer {
         Buffer::Empty => d,
         Buffer::One(_) => 1 + d,
+        Buffer::Two(_, _) => 2 + d,
     }
 }
 
-// The waiting write.
-fn write_word(buffer: Buffer) -> u64
+// A waiting write.
+fn word_of(w: Write) -> u64
+    ensures { λ r. ⌜ r ≡ storedWord w ⌝ }
+{
+    let bank = num::wide32(w.bank % 256);
+    let column = num::wide32(w.column % 256);
+    bank + 256 * column + 4294967296 * stored(w.at.0)
+}
+
+// The older waiting write, then the newer.
+fn older_word(buffer: Buffer) -> u64
     ensures { λ r. ⌜ r ≡ storedWrite buffer ⌝ }
 {
     match buffer {
         Buffer::Empty => 0,
-        Buffer::One(w) => {
-            let bank = num::wide32(w.bank % 256);
-            let column = num::wide32(w.column % 256);
-            bank + 256 * column + 4294967296 * stored(w.at.0)
-        }
+        Buffer::One(x) => word_of(x),
+        Buffer::Two(x, _) => word_of(x),
+    }
+}
+
+fn newer_word(buffer: Buffer) -> u64
+    ensures { λ r. ⌜ r ≡ storedSecond buffer ⌝ }
+{
+    match buffer {
+        Buffer::Empty => 0,
+        Buffer::One(_) => 0,
+        Buffer::Two(_, y) => word_of(y),
     }
 }
 
@@ -137,8 +155,8 @@ fn put_buffer(b: &mut [u8], buffer: Buffer, due: bool)
     ensures { λ _. ⌜ now (b .exit) ≡ splice (now (b .entry)) 728 (bufferBytes buffer due) ⌝ }
 {
     puts::put_u64(b, 728, count_word(buffer, due));
-    puts::put_u64(b, 736, write_word(buffer));
-    puts::put_u64(b, 744, 0);
+    puts::put_u64(b, 736, older_word(buffer));
+    puts::put_u64(b, 744, newer_word(buffer));
 }
 
 // The state of the channel, in the first 752 bytes of a slice.

@@ -34,19 +34,23 @@ tagsRight s also b = allUpTo (λ x. tagRight s (mostTag (s .rows)) also x (numbe
 
 -- ---- the buffer
 
--- a waiting write and the tag of its bank
-unfoldable pub writeRight : Settings → List ℕ → Bool
-writeRight s b =
-    let tag : ℕ = number (part b (640 + 2 * slotOf (getD b 736 0)) 2) in
-    let at : ℕ = number (part b 740 4) in
-    (((((ltb (getD b 736 0) 32 && ltb (getD b 737 0) (s .columns)) && zeroPart b 738 2) && not (eqb tag 0)) && not (eqb tag 0xFFFF)) && not (eqb at 0))
+-- the waiting write whose bytes are at a place, and the tag of its bank
+unfoldable pub writeRight : Settings → List ℕ → ℕ → Bool
+writeRight s b p =
+    let tag : ℕ = number (part b (640 + 2 * slotOf (getD b p 0)) 2) in
+    let at : ℕ = number (part b (p + 4) 4) in
+    (((((ltb (getD b p 0) 32 && ltb (getD b (p + 1) 0) (s .columns)) && zeroPart b (p + 2) 2) && not (eqb tag 0)) && not (eqb tag 0xFFFF)) && not (eqb at 0))
     && leb at latest
 
--- in eight bytes: no write waits, or one, whose data are not due (1) or may be due (257; a planner allows 1 alone)
+-- in eight bytes: no write waits, or one or two do, whose data are not due (1, 2) or may be due (as much more: 256 of a model, 0 of a
+-- planner)
 unfoldable pub bufferRight : Settings → ℕ → List ℕ → Bool
 bufferRight s due b =
     let count : ℕ = number (part b 728 8) in
-    (((eqb count 0 && zeroPart b 736 8) || ((eqb count 1 || eqb count due) && writeRight s b)) && zeroPart b 724 4) && zeroPart b 744 8
+    ((((eqb count 0 && zeroPart b 736 8) && zeroPart b 744 8)
+    || (((eqb count 1 || eqb count (1 + due)) && writeRight s b 736) && zeroPart b 744 8))
+    || (((eqb count 2 || eqb count (2 + due)) && writeRight s b 736) && writeRight s b 744))
+    && zeroPart b 724 4
 
 -- ---- the channel
 
@@ -57,7 +61,7 @@ channelTested s also due b = ((allStored b 0 160 && allStored b 704 5) && tagsRi
 
 abbrev pub plannerFields : List ℕ → Bool
 plannerFields b =
-    ((not (eqb (number (part b 752 4)) 0) && leb (number (part b 752 4)) latest) && ltb (number (part b 756 4)) 32) && ltb (number (part b 760 8)) 0x10000
+    ((not (eqb (number (part b 752 4)) 0) && leb (number (part b 752 4)) latest) && ltb (number (part b 756 4)) 32) && zeroPart b 764 4
 
 abbrev pub modelFields : Settings → List ℕ → Bool
-modelFields s b = ((ltb (number (part b 752 8)) 0x10000 && ltb (number (part b 752 8)) (s .rows)) && zeroPart b 776 8) && zeroPart b 784 8
+modelFields s b = ltb (number (part b 752 8)) 0x10000 && ltb (number (part b 752 8)) (s .rows)

@@ -11,10 +11,10 @@ returns c = let a = c .before .before .args in sym (model-length-wrong (a .s) (a
 
 returns-2 : tie.Need-returns-2
 returns-2 c =
-    let k = c .before .before .before .before .before in
+    let k = c .before .before .before in
     let a = k .before .before .args in
-    rw (c .channel-right .ensures, c .before .u64-at3 .ensures, c .before .before .u64-at2 .ensures, c .before .before .before .wide32 .ensures .0, c .before .before .before .before .u64-at .ensures)
+    rw (c .channel-right .ensures, c .before .wide32 .ensures .0, c .before .before .u64-at .ensures)
     (model-tested (a .s) (a .b .now) (λ i l. omega (arith, k .before .shared-slice-known .given i)) (k .if1 .left))
 
 pub model-right-spec : {M : Type 1} → statement M
-model-right-spec = tie.close (tie.spec returns (λ c κs. search needs) (λ c κs. search needs) (λ c κs. search needs) (λ c κs. search needs) (λ c κs. search needs) returns-2)
+model-right-spec = tie.close (tie.spec returns (λ c κs. search needs) (λ c κs. search needs) (λ c κs. search needs) returns-2)

@@ -4,7 +4,7 @@ use Rattle.state_bytes.proofs.planners.fields_right.Statement.{statemen
 use Rattle.state_bytes.proofs.planners.fields_right.Tie as tie
 
 returns : tie.Need-returns
-returns c = rw (c .u64-at .ensures, c .before .u32-at2 .ensures, c .before .before .u32-at .ensures)
+returns c = rw (c .u32-at3 .ensures, c .before .u32-at2 .ensures, c .before .before .u32-at .ensures)
 
 pub fields-right-spec : {M : Type 1} → statement M
 fields-right-spec = tie.close (tie.spec (λ c κs. search needs) (λ c κs. search needs) (λ c κs. search needs) returns)

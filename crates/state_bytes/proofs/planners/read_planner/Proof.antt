@@ -6,7 +6,7 @@ use Rattle.state_bytes.proofs.planners.read_planner.Tie as tie
 
 returns : tie.Need-returns
 unfolding plannerIn
-returns c = rw (c .u16-at2 .ensures .0, c .before .u16-at .ensures .0, c .before .before .instant-at .ensures, c .before .before .before .read-channel .ensures)
+returns c = rw (c .u16-at3 .ensures .0, c .before .u16-at2 .ensures .0, c .before .before .u16-at .ensures .0, c .before .before .before .instant-at .ensures, c .before .before .before .before .read-channel .ensures)
 
 pub read-planner-spec : {M : Type 1} → statement M
-read-planner-spec = tie.close (tie.spec (λ c κs. search needs) (λ c κs. search needs) (λ c κs. search needs) (λ c κs. search needs) returns)
+read-planner-spec = tie.close (tie.spec (λ c κs. search needs) (λ c κs. search needs) (λ c κs. search needs) (λ c κs. search needs) (λ c κs. search needs) returns)

@@ -8,12 +8,13 @@ returns : tie.Need-returns
 unfolding bufferRight
 returns c =
     rw (
-      c .u64-at3 .ensures,
-      c .before .u32-at .ensures,
-      c .before .before .write-right .ensures,
-      c .before .before .before .u64-at2 .ensures,
-      c .before .before .before .before .u64-at .ensures,
+      c .u32-at .ensures,
+      c .before .u64-at3 .ensures,
+      c .before .before .u64-at2 .ensures,
+      c .before .before .before .write-right2 .ensures,
+      c .before .before .before .before .write-right .ensures,
+      c .before .before .before .before .before .u64-at .ensures,
     )
 
 pub buffer-right-spec : {M : Type 1} → statement M
-buffer-right-spec = tie.close (tie.spec (λ c κs. search needs) (λ c κs. search needs) (λ c κs. search needs) (λ c κs. search needs) (λ c κs. search needs) returns)
+buffer-right-spec = tie.close (tie.spec (λ c κs. search needs) (λ c κs. search needs) (λ c κs. search needs) (λ c κs. search needs) (λ c κs. search needs) (λ c. search needs) (λ c. search needs) (λ c κs. search needs) returns)

@@ -6,7 +6,7 @@ use Rattle.state_stores.proofs.cols.store_write.Tie as tie
 
 returns : tie.Need-returns
 unfolding writeStored
-returns c = rw (c .before .before .put-u642 .ensures, c .before .before .before .before .before .before .put-u64 .ensures, c .before .before .before .before .before .before .before .before .wide322 .ensures .0, c .before .before .before .before .before .before .before .before .before .wide32 .ensures .0)
+returns c = rw (c .before .before .put-u642 .ensures, c .before .before .before .before .before .before .put-u64 .ensures, c .before .before .before .before .before .before .before .before .word-of .ensures)
 
 pub store-write-spec : {M : Type 1} → statement M
-store-write-spec = tie.close (tie.spec (λ c κs. search needs) (λ c κs. search needs) (λ c. search needs) (λ c. search needs) (λ c. search needs) (λ c. search needs) (λ c κs. search needs) (λ c κs. search needs) (λ c. search needs) returns)
+store-write-spec = tie.close (tie.spec (λ c κs. search needs) (λ c κs. search needs) (λ c κs. search needs) (λ c. search needs) returns)

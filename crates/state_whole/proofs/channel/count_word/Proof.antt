@@ -13,5 +13,9 @@ returns-2 : tie.Need-returns-2
 unfolding countNumber
 returns-2 c = rw (c .enum-told2 .given .1, c .before .before .due-flag .ensures .0)
 
+returns-3 : tie.Need-returns-3
+unfolding countNumber
+returns-3 c = rw (c .enum-told3 .given .1, c .before .before .due-flag .ensures .0)
+
 pub count-word-spec : {M : Type 1} → statement M
-count-word-spec = tie.close (tie.spec (λ c κs. search needs) (λ c. search needs) (λ c. search needs) (λ c. search needs) returns returns-2)
+count-word-spec = tie.close (tie.spec (λ c κs. search needs) (λ c. search needs) (λ c. search needs) (λ c. search needs) (λ c. search needs) (λ c. search needs) returns returns-2 returns-3)
