@@ -41,22 +41,15 @@ pub(crate) fn view_of(r: Record) -> View
     }
 }
 
-// The tracks of five banks.
-pub(crate) fn tracks_of(
-    own: BankTrack,
-    low: BankTrack,
-    high: BankTrack,
-    held: BankTrack,
-    next: BankTrack,
-) -> Tracks
-    ensures { λ k. ⌜ k ≡ tracksWith own low high held next ⌝ }
+// The tracks of four banks.
+pub(crate) fn tracks_of(own: BankTrack, low: BankTrack, high: BankTrack, held: BankTrack) -> Tracks
+    ensures { λ k. ⌜ k ≡ tracksWith own low high held ⌝ }
 {
     Tracks {
         own: own,
         low: low,
         high: high,
         held: held,
-        next: next,
     }
 }
 
