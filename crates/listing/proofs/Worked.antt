@@ -83,7 +83,7 @@ runs =
     ∷ (rowWord 0 (Act 0 0) ∷ colWord 0 (Rd 0 1 0xFFFF) ∷ [])
     ∷ []
 
--- what document 01 prints for them
+-- what document 01 prints for them; document 02 a: "In the two-writes run the second WR moves to 9, with M = 0."
 pub results : List (List ℕ)
 results =
     lines ("4 ACT 0 0 -" ∷ "13 RD 0 1 -" ∷ "19 WR 0 1 -" ∷ "25 D 0 1 -" ∷ "27 NOCOP 0 0 0003" ∷ "31 RD 0 1 -" ∷ "35 PRER 0 0 -" ∷ "43 ACT 1 0 -" ∷ "52 RD 1 0 -" ∷ "63 PRER 1 0 -" ∷ "records 10" ∷ [])
@@ -91,7 +91,7 @@ results =
     ∷ lines ("4 ACT 14 0 -" ∷ "13 RD 14 0 -" ∷ "24 PRER 14 0 -" ∷ "32 ACT 15 0 -" ∷ "41 RD 15 0 -" ∷ "records 5" ∷ [])
     ∷ lines ("4 ACT 0 0 -" ∷ "5 WR 0 0 -" ∷ "11 D 0 0 -" ∷ "13 NOCOP 0 0 -" ∷ "24 PRER 0 0 -" ∷ "32 ACT 0 1 -" ∷ "41 RD 0 0 -" ∷ "records 7" ∷ [])
     ∷ lines ("4 REFA 0 0 -" ∷ "24 REFP 0 0 -" ∷ "32 REFA 1 0 -" ∷ "52 REFP 1 0 -" ∷ "records 4" ∷ [])
-    ∷ lines ("4 ACT 0 0 -" ∷ "5 WR 0 0 -" ∷ "11 D 0 0 -" ∷ "13 WR 0 0 0003" ∷ "19 D 0 0 -" ∷ "records 5" ∷ [])
+    ∷ lines ("4 ACT 0 0 -" ∷ "5 WR 0 0 -" ∷ "11 D 0 0 -" ∷ "9 WR 0 0 -" ∷ "15 D 0 0 -" ∷ "records 5" ∷ [])
     ∷ (11 ∷ 10 ∷ 1 ∷ [])
     ∷ (0x401000 ∷ 0x8000260000 ∷ [])
     ∷ []

@@ -10,8 +10,8 @@ use entries::requests::put_requests;
 use text::put_records;
 use text::put_refused;
 
-// Room for the longest listing: 2,730 requests of at most 17 lines and the last line, each of at most 64 bytes.
-pub const ROOM: usize = 2_970_304;
+// Room for the longest listing: 2,730 requests of at most 18 lines and the last line, each of at most 64 bytes.
+pub const ROOM: usize = 3_145_024;
 
 // The longest input that is listed: 2,730 requests.
 const LONGEST: usize = 65_520;
@@ -51,7 +51,7 @@ fn print(text: &[u8], n: usize)
 }
 
 // Puts the listing of the first n bytes and prints it. The array's length is in its type, so nothing need be shown of
-// 2,970,304 zeros.
+// 3,145,024 zeros.
 fn print_listing(input: &[u8], n: usize, out: &mut [u8; ROOM]) -> usize
     requires { ⌜ n ≤ length (now input) ⌝ }
     ensures { λ r. ⌜ Put (now (out .entry)) 0 (listing (take n (now (input .entry)))) (now (out .exit)) r ⌝ }

@@ -52,7 +52,7 @@ module _ (s : Settings) (p : PlannerState) where
       pub count-is : d .count ≡ length (planned (contextOf s) q p .records)
       count-is = draws-count s d (planned (contextOf s) q p) k (most s p v q) l
 
-      pub count-most : d .count ≤ 17
+      pub count-most : d .count ≤ 18
       count-most = omega (arith, count-is, most s p v q)
 
       pub full-is : room / 32 < d .count → outcomeBy (contextOf s) p (Accepted q) room ≡ Refused Full

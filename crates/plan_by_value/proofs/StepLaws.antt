@@ -21,14 +21,14 @@ use Rattle.record.specs.declared.Record.the-variants.{DataOf}
 use Rattle.spec_rules.specs.declared.Write.{Write}
 use Rattle.spec_rules.specs.Neighbour.{bankCount, Context, contextOf, near}
 use Rattle.spec_rules.specs.Packets.{instant}
-use Rattle.spec_rules.specs.History.{isClosed, anyWrite}
+use Rattle.spec_rules.specs.History.{isClosed, anyWrite, two}
 use Rattle.spec_rules.specs.Rules.{dataDelay}
 use Rattle.spec_rules.specs.Channel.{stateOf, waitingOf, leavingOf, after}
 use Rattle.spec_rules.specs.Earliest.{placedAt, earliest, leastFrom}
 use Rattle.spec_rules.proofs.Bools.{not-both, not-fails, and-left, neither}
 use Rattle.spec_rules.proofs.EarliestLaws.{moved-instant, moved-delay, picked-late}
 use Rattle.spec_plan.specs.declared.PlannerState.{PlannerState}
-use Rattle.spec_plan.specs.Plan.{Draft, rowPacket, colPacket, when, waiting, stateIn, openOn, carried, slot, leaver, placedIn, sent, flushed, flushedWhile, closed, closedUpTo, reached, loaded, turned, plannedWait}
+use Rattle.spec_plan.specs.Plan.{Draft, rowPacket, colPacket, when, waiting, stateIn, openOn, carried, shifted, slot, leaver, placedIn, sent, flushed, flushedWhile, closed, closedUpTo, reached, loaded, turned, plannedWait}
 use Rattle.spec_plan.specs.Call.{inTime, timely}
 use Rattle.plan_by_value.specs.declared.Command.{Command}
 use Rattle.plan_by_value.specs.declared.Command.the-variants.{Row, Col}
@@ -85,7 +85,7 @@ module _ (s : Settings) where
 
   slot-low : (p : PlannerState) (r : Record) → p .now .0 ≤ slot cx p r
   unfolding slot leastFrom
-  slot-low p r = omega (arith, picked-late cx (p .channel) r (max (p .now .0) (earliest cx (p .channel) r)) (leavingOf cx (p .channel) r))
+  slot-low p r = omega (arith, picked-late cx (p .channel) r (max (p .now .0) (earliest cx (p .channel) r)) (waitingOf (p .channel .buffer)))
 
   sent-timely : (r : Record) (e : Draft) → timely cx (sent cx r e) ≡ timely cx e && leb (slot cx (e .planner) r + dataDelay cx r) horizon
   unfolding timely sent
@@ -100,9 +100,16 @@ module _ (s : Settings) where
 
   -- a planner after a packet that takes instant t
   abbrev pub packetAt : PlannerState → ℕ → Record → PlannerState
-  packetAt p t r = record { channel = after cx (p .channel) (placedBy s p t r); now = record { 0 = t }; refresh = p .refresh; mask = p .mask }
+  packetAt p t r =
+      record {
+        channel = after cx (p .channel) (placedBy s p t r);
+        now = record { 0 = t };
+        refresh = p .refresh;
+        mask = shifted (leavingOf cx (p .channel) (placedAt t r)) (p .mask) (p .second);
+        second = p .second;
+      }
 
-  pub draws-sent : (d : Drawn) (e : Draft) (r : Record) → length (d .list) ≡ 17 → Draws s d e
+  pub draws-sent : (d : Drawn) (e : Draft) (r : Record) → length (d .list) ≡ 18 → Draws s d e
       → let t : ℕ = slot cx (d .planner) r in
       Draws s (addedTo d (packetAt (d .planner) (clip t) r) (placedBy s (d .planner) (clip t) r) (not (leb (t + dataDelay cx r) horizon))) (sent cx r e)
   unfolding sent
@@ -121,15 +128,16 @@ module _ (s : Settings) where
   unfolding flushed
   flushed-grows e h = sent-grows (colPacket (Nocop 0xFFFF)) e h
 
-  -- NOCOP where a write that passes a test waits
-  pub draws-while : (d z : Drawn) (e : Draft) (which : Write → Bool) → Draws s d e → (b : Bool) → b ≡ anyWrite which (waitingOf (d .planner .channel .buffer))
-      → Draws s z (when b (flushed cx) e) → Draws s z (flushedWhile cx (anyWrite which) e)
-  unfolding flushedWhile
-  draws-while d z e which k b h j = draws-when s d z e (λ p. anyWrite which (waitingOf (p .channel .buffer))) (flushed cx) (flushed-grows e) k b h j
+  -- NOCOP where the waiting writes pass a test
+  pub draws-flushed : (d z : Drawn) (e : Draft) (test : List Write → Bool) → Draws s d e → (b : Bool) → b ≡ test (waitingOf (d .planner .channel .buffer))
+      → Draws s z (when b (flushed cx) e) → Draws s z (when (test (waiting e)) (flushed cx) e)
+  draws-flushed d z e test k b h j = draws-when s d z e (λ p. test (waitingOf (p .channel .buffer))) (flushed cx) (flushed-grows e) k b h j
 
   while-grows : (test : List Write → Bool) (e : Draft) → Grows s e (flushedWhile cx test e)
   unfolding flushedWhile
-  while-grows test e h = when-grows s (flushed cx) e (flushed-grows e) (test (waiting e)) h
+  while-grows test e h =
+      let z : Draft = when (test (waiting e)) (flushed cx) e in
+      when-grows s (flushed cx) e (flushed-grows e) (test (waiting e)) (when-grows s (flushed cx) z (flushed-grows z) (test (waiting z)) h)
 
   closed-grows : (x : ℕ) (e : Draft) → Grows s e (closed cx x e)
   unfolding closed
@@ -208,8 +216,19 @@ module _ (s : Settings) where
       go true f = late-after s d e (loaded cx mask bytes e) k (loaded-grows mask bytes e) f
       go false f = loaded-timely mask bytes e ∙ rw (in-time s d e k f, ← k .planner f) (past (leb (d .planner .now .0 + s .cwd) horizon) a)
 
-  pub draws-loaded : (d : Drawn) (e : Draft) (mask : ℕ) (bytes : Dualoct) (t : DataAt) → length (d .list) ≡ 17 → Draws s d e → arrival (d .planner .now) (s .cwd) ≡ At t
-      → Draws s (addedTo d (record { channel = after cx (d .planner .channel) (DataOf t bytes); now = d .planner .now; refresh = d .planner .refresh; mask = mask }) (DataOf t bytes) false) (loaded cx mask bytes e)
+  -- the planner once the data of its newest write have come, at instant t
+  abbrev pub loadedAt : PlannerState → ℕ → Record → PlannerState
+  loadedAt p mask q =
+      record {
+        channel = after cx (p .channel) q;
+        now = p .now;
+        refresh = p .refresh;
+        mask = cond (two (waitingOf (p .channel .buffer))) (p .mask) mask;
+        second = cond (two (waitingOf (p .channel .buffer))) mask (p .second);
+      }
+
+  pub draws-loaded : (d : Drawn) (e : Draft) (mask : ℕ) (bytes : Dualoct) (t : DataAt) → length (d .list) ≡ 18 → Draws s d e → arrival (d .planner .now) (s .cwd) ≡ At t
+      → Draws s (addedTo d (loadedAt (d .planner) mask (DataOf t bytes)) (DataOf t bytes) false) (loaded cx mask bytes e)
   unfolding loaded arrival contextOf
   draws-loaded d e mask bytes t size k a = draws-added s d e (loaded cx mask bytes e) _ _ _ size k (loaded-grows mask bytes e) (λ f. (timed f, λ g. same (k .planner f)))
     where
@@ -225,7 +244,7 @@ module _ (s : Settings) where
       timed f = loaded-timely mask bytes e ∙ rw (in-time s d e k f, ← k .planner f) (here .0)
 
       same : d .planner ≡ e .planner
-          → ((record { channel = after cx (d .planner .channel) (DataOf t bytes); now = d .planner .now; refresh = d .planner .refresh; mask = mask }) ≡ loaded cx mask bytes e .planner)
+          → (loadedAt (d .planner) mask (DataOf t bytes) ≡ loaded cx mask bytes e .planner)
           × (loaded cx mask bytes e .records ≡ e .records ++ (DataOf t bytes ∷ []))
       same q = rw (here .1, q) (refl, refl)
 
@@ -233,7 +252,7 @@ module _ (s : Settings) where
   turn-mod a = omega arith
 
   pub draws-turned : (d : Drawn) (e : Draft) → Draws s d e
-      → Draws s (movedTo d (record { channel = d .planner .channel; now = d .planner .now; refresh = (d .planner .refresh % 32 + 1) % 32; mask = d .planner .mask }) false) (turned cx e)
+      → Draws s (movedTo d (record { channel = d .planner .channel; now = d .planner .now; refresh = (d .planner .refresh % 32 + 1) % 32; mask = d .planner .mask; second = d .planner .second }) false) (turned cx e)
   unfolding turned bankCount timely
   draws-turned d e k = rw (or-false (d .late)) (record { late = k .late; planner = λ f. rw (k .planner f, turn-mod (e .planner .refresh)); records = λ f n. k .records f n })
 
@@ -247,7 +266,7 @@ module _ (s : Settings) where
 
   pub draws-waited : (d : Drawn) (e : Draft) (cycles : ℕ) → Draws s d e
       → let t : ℕ = d .planner .now .0 + cycles in
-      Draws s (movedTo d (record { channel = d .planner .channel; now = record { 0 = clip t }; refresh = d .planner .refresh; mask = d .planner .mask }) (not (leb t horizon))) (plannedWait cx cycles e)
+      Draws s (movedTo d (record { channel = d .planner .channel; now = record { 0 = clip t }; refresh = d .planner .refresh; mask = d .planner .mask; second = d .planner .second }) (not (leb t horizon))) (plannedWait cx cycles e)
   unfolding plannedWait timely
   draws-waited d e cycles k =
       record {
@@ -261,5 +280,5 @@ module _ (s : Settings) where
       go false l = rw (l, k .planner l, and-left (inTime cx (e .records)) _ (in-time s d e k l))
 
       same : d .planner ≡ e .planner → leb (d .planner .now .0 + cycles) horizon ≡ true
-          → (record { channel = d .planner .channel; now = record { 0 = clip (d .planner .now .0 + cycles) }; refresh = d .planner .refresh; mask = d .planner .mask }) ≡ plannedWait cx cycles e .planner
+          → (record { channel = d .planner .channel; now = record { 0 = clip (d .planner .now .0 + cycles) }; refresh = d .planner .refresh; mask = d .planner .mask; second = d .planner .second }) ≡ plannedWait cx cycles e .planner
       same q h = rw (h, q)

@@ -2,12 +2,12 @@
 ghost use mathlib.Core.Path.{_≡_};
 ghost use mathlib.Core.Bool.{not, _&&_};
 ghost use Rattle.spec_rules.specs.Neighbour.{contextOf};
-ghost use Rattle.spec_rules.specs.History.{isClosed, anyWrite};
+ghost use Rattle.spec_rules.specs.History.{isClosed, two};
 ghost use Rattle.spec_rules.specs.Channel.{trackOf, stateOf, waitingOf, leavingOf};
-ghost use Rattle.spec_plan.specs.Plan.{carried, openOn};
-ghost use Rattle.plan_by_value.specs.form.Drawn.{writeOf, bankIn};
+ghost use Rattle.spec_plan.specs.Plan.{carried, shifted, openOn};
+ghost use Rattle.plan_by_value.specs.form.Drawn.{concerns, reads, holdsUp, bankIn};
 use crate::Banks;
-use crate::Which;
+use crate::Before;
 use chan_step::retires;
 use chan_view::banks::is_closed;
 use chan_view::banks::slot_of;
@@ -23,26 +23,51 @@ use spec_rules::BankTrack;
 use spec_rules::Buffer;
 use spec_rules::Write;
 
-fn picks(s: Settings, which: Which, w: Write) -> bool
-    ensures { λ r. ⌜ r ≡ writeOf s which w ⌝ }
+// Whether a waiting write concerns what is sent next.
+fn concerns(s: Settings, next: Before, w: Write) -> bool
+    ensures { λ r. ⌜ r ≡ concerns s next w ⌝ }
 {
-    match which {
-        Which::Beside(x) => is_near(s, x, w.bank),
-        Which::Of(bank, column) => (w.bank == bank) & (w.column == column),
-        Which::Any => true,
+    match next {
+        Before::Prer(x) => is_near(s, x, w.bank),
+        Before::Rd(bank, column) => (w.bank == bank) & (w.column == column),
+        Before::Drain => true,
     }
 }
 
-// Whether such a write waits.
-pub(crate) fn waits(s: Settings, which: Which, p: PlannerState) -> bool
-    ensures { λ r. ⌜ r ≡ anyWrite (writeOf s which) (waitingOf (p .channel .buffer)) ⌝ }
+fn reads(next: Before) -> bool
+    ensures { λ r. ⌜ r ≡ reads next ⌝ }
+{
+    match next {
+        Before::Prer(_) => false,
+        Before::Rd(_, _) => true,
+        Before::Drain => false,
+    }
+}
+
+// Whether the writes that wait ask for a NOCOP first.
+pub(crate) fn holds_up(s: Settings, next: Before, p: PlannerState) -> bool
+    ensures { λ r. ⌜ r ≡ holdsUp s next (waitingOf (p .channel .buffer)) ⌝ }
 {
     let ch = p.channel;
     let b = ch.buffer;
-    let Buffer::One(w) = b else {
-        return false;
-    };
-    picks(s, which, w)
+    match b {
+        Buffer::Empty => false,
+        Buffer::One(w) => concerns(s, next, w),
+        Buffer::Two(x, y) => reads(next) | (concerns(s, next, x) | concerns(s, next, y)),
+    }
+}
+
+// Whether two writes wait.
+pub(crate) fn two_wait(p: PlannerState) -> bool
+    ensures { λ r. ⌜ r ≡ two (waitingOf (p .channel .buffer)) ⌝ }
+{
+    let ch = p.channel;
+    let b = ch.buffer;
+    match b {
+        Buffer::Empty => false,
+        Buffer::One(_) => false,
+        Buffer::Two(_, _) => true,
+    }
 }
 
 // The mask that a packet in its place carries: that of the write which it retires there, if it does.
@@ -55,6 +80,18 @@ pub(crate) fn carried(s: Settings, p: PlannerState, q: Record) -> u32
         return p.mask;
     }
     FULL
+}
+
+// The older write's mask once a packet is in its place: where it retires the older write, the newer one moves up.
+pub(crate) fn shifted(s: Settings, p: PlannerState, q: Record) -> u32
+    ensures { λ r. ⌜ r ≡ shifted (leavingOf (contextOf s) (p .channel) q) (p .mask) (p .second) ⌝ }
+{
+    let ch = p.channel;
+    let b = ch.buffer;
+    if retires(s, held_of(b, ch.due), q) {
+        return p.second;
+    }
+    p.mask
 }
 
 fn track_in(p: PlannerState, x: u32) -> BankTrack

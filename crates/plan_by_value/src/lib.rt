@@ -26,11 +26,12 @@ pub(crate) enum Command {
     Col(ColPacket),
 }
 
-// Which waiting writes a NOCOP is sent for: those near a bank, those of a bank and column, or any.
-pub(crate) enum Which {
-    Beside(u32),
-    Of(u32, u32),
-    Any,
+// What NOCOPs are sent before: a PRER to a bank, which writes near it concern; an RD of a bank and column, which a write of these
+// concerns, and two writes of any; or a drain, which every write concerns.
+pub(crate) enum Before {
+    Prer(u32),
+    Rd(u32, u32),
+    Drain,
 }
 
 // Which banks are closed: those near a bank, or all.
@@ -48,7 +49,7 @@ pub(crate) struct Entry {
 // or of its data, or now, passed the last one; then the rest says nothing.
 pub(crate) struct Draft {
     pub planner: PlannerState,
-    pub list: [Entry; 17],
+    pub list: [Entry; 18],
     pub count: usize,
     pub late: bool,
 }
@@ -74,6 +75,7 @@ impl Planner {
             now: PacketAt(4),
             refresh: 0,
             mask: 0,
+            second: 0,
         };
         Planner { state }
     }

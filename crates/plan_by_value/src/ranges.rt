@@ -88,6 +88,7 @@ fn writes_valid(s: Settings, b: Buffer) -> bool
     match b {
         Buffer::Empty => true,
         Buffer::One(w) => write_valid(s, w),
+        Buffer::Two(x, y) => write_valid(s, x) & write_valid(s, y),
     }
 }
 
@@ -117,15 +118,22 @@ fn apart(s: Settings, ch: Channel) -> bool
 }
 
 // Whether the bank of a waiting write is open by ACT.
+fn write_open(ch: Channel, w: Write) -> bool
+    ensures { λ r. ⌜ r ≡ isOpen (stateOf ch (w .bank)) ⌝ }
+{
+    let i = slot_of(w.bank);
+    is_open(track_of(w.bank, ch.banks[i]))
+}
+
 fn writes_open(ch: Channel) -> bool
     ensures { λ r. ⌜ r ≡ allWrites (λ w. isOpen (stateOf ch (w .bank))) (waitingOf (ch .buffer)) ⌝ }
 {
     let b = ch.buffer;
-    let Buffer::One(w) = b else {
-        return true;
-    };
-    let i = slot_of(w.bank);
-    is_open(track_of(w.bank, ch.banks[i]))
+    match b {
+        Buffer::Empty => true,
+        Buffer::One(w) => write_open(ch, w),
+        Buffer::Two(x, y) => write_open(ch, x) & write_open(ch, y),
+    }
 }
 
 fn waits(b: Buffer) -> bool
@@ -134,6 +142,7 @@ fn waits(b: Buffer) -> bool
     match b {
         Buffer::Empty => false,
         Buffer::One(_) => true,
+        Buffer::Two(_, _) => true,
     }
 }
 
@@ -175,7 +184,7 @@ pub(crate) fn planner_valid(s: Settings, p: PlannerState) -> bool
     ensures { λ r. ⌜ r ≡ plannerValid (contextOf s) p ⌝ }
 {
     let ch = p.channel;
-    let fields = is_instant(p.now) & ((p.refresh < 32) & (p.mask < 65536));
+    let fields = is_instant(p.now) & ((p.refresh < 32) & ((p.mask < 65536) & (p.second < 65536)));
     let between = none_refreshed(ch) & (!ch.due & fields);
     channel_valid(s, ch) & between
 }

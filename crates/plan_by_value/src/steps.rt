@@ -1,19 +1,20 @@
 // The steps of the plan's definition (spec_plan/specs/Plan.antt).
 ghost use mathlib.Core.Path.{_≡_};
-ghost use mathlib.Core.Bool.{true};
+ghost use mathlib.Core.Bool.{true, cond};
 ghost use lib.Dec.{leb};
 ghost use Rattle.settings.specs.Instants.{horizon};
 ghost use Rattle.spec_rules.specs.Neighbour.{bankCount, contextOf};
-ghost use Rattle.spec_rules.specs.History.{anyWrite};
-ghost use Rattle.spec_plan.specs.Plan.{Draft as DraftOf, sent, flushed, flushedWhile, closed, closedUpTo, reached, plannedRead, loaded, written, plannedWrite, plannedRefresh, plannedDrain, planned};
-ghost use Rattle.plan_by_value.specs.form.Drawn.{packetOf, writeOf, bankIn, Draws};
+ghost use Rattle.spec_plan.specs.Plan.{Draft as DraftOf, when, waiting, sent, flushed, flushedWhile, closed, closedUpTo, reached, plannedRead, loaded, written, plannedWrite, plannedRefresh, plannedDrain, planned};
+ghost use Rattle.plan_by_value.specs.form.Drawn.{packetOf, holdsUp, bankIn, Draws};
 use crate::Banks;
+use crate::Before;
 use crate::Command;
 use crate::Draft;
-use crate::Which;
+use crate::asks::holds_up;
 use crate::asks::open_on;
+use crate::asks::shifted;
 use crate::asks::to_close;
-use crate::asks::waits;
+use crate::asks::two_wait;
 use crate::drafts::added;
 use crate::drafts::moved;
 use crate::drafts::start;
@@ -51,34 +52,42 @@ fn sent(s: Settings, c: Command, d: Draft) -> Draft
     let planner = PlannerState {
         channel: next,
         now: at,
+        mask: shifted(s, p, record_at(at, c)),
         ..p
     };
     added(d, planner, q, is_late(slot, data_delay(s, c)))
 }
 
-// NOCOP, which retires the waiting write.
+// NOCOP, which retires the older write.
 fn flushed(s: Settings, d: Draft) -> Draft
     ensures { λ z. ⌜ ((e : DraftOf) → Draws s d e → Draws s z (flushed (contextOf s) e)) ⌝ }
 {
     sent(s, Command::Col(ColPacket::Nocop { mask: FULL }), d)
 }
 
-// NOCOP while such a write waits; there is one at most.
-fn flushed_while(s: Settings, which: Which, d: Draft) -> Draft
-    ensures { λ z. ⌜ ((e : DraftOf) → Draws s d e → Draws s z (flushedWhile (contextOf s) (anyWrite (writeOf s which)) e)) ⌝ }
+// NOCOP where the waiting writes ask for one.
+fn flushed_if(s: Settings, next: Before, d: Draft) -> Draft
+    ensures { λ z. ⌜ ((e : DraftOf) → Draws s d e → Draws s z (when (holdsUp s next (waiting e)) (flushed (contextOf s)) e)) ⌝ }
 {
     let p = d.planner;
-    if waits(s, which, p) {
+    if holds_up(s, next, p) {
         return flushed(s, d);
     }
     d
 }
 
-// PRER; before one that would lose a buffered write, NOCOP.
+// NOCOP while the waiting writes ask for one; two wait at most.
+fn flushed_while(s: Settings, next: Before, d: Draft) -> Draft
+    ensures { λ z. ⌜ ((e : DraftOf) → Draws s d e → Draws s z (flushedWhile (contextOf s) (holdsUp s next) e)) ⌝ }
+{
+    flushed_if(s, next, flushed_if(s, next, d))
+}
+
+// PRER; first NOCOP until no write waits in a bank that it closes.
 fn closed(s: Settings, x: u32, d: Draft) -> Draft
     ensures { λ z. ⌜ ((e : DraftOf) → Draws s d e → Draws s z (closed (contextOf s) x e)) ⌝ }
 {
-    let z = flushed_while(s, Which::Beside(x), d);
+    let z = flushed_while(s, Before::Prer(x), d);
     sent(s, Command::Row(RowPacket::Prer { bank: x }), z)
 }
 
@@ -110,12 +119,12 @@ fn reached(s: Settings, bank: u32, row: u32, d: Draft) -> Draft
     sent(s, Command::Row(RowPacket::Act { bank, row }), z)
 }
 
-// RD; NOCOP first if the buffered write has that bank and column.
+// RD; first NOCOP while two writes wait or one has that bank and column.
 fn planned_read(s: Settings, at: Place, d: Draft) -> Draft
     ensures { λ z. ⌜ ((e : DraftOf) → Draws s d e → Draws s z (plannedRead (contextOf s) at e)) ⌝ }
 {
     let y = reached(s, at.bank, at.row, d);
-    let z = flushed_while(s, Which::Of(at.bank, at.column), y);
+    let z = flushed_while(s, Before::Rd(at.bank, at.column), y);
     let rd = ColPacket::Rd {
         bank: at.bank,
         column: at.column,
@@ -124,7 +133,13 @@ fn planned_read(s: Settings, at: Place, d: Draft) -> Draft
     sent(s, Command::Col(rd), z)
 }
 
-// D after a WR, which now waits with its own mask.
+fn pick(test: bool, yes: u32, no: u32) -> u32
+    ensures { λ r. ⌜ r ≡ cond test yes no ⌝ }
+{
+    if test { yes } else { no }
+}
+
+// D after a WR, which now waits with its own mask, beside an older write or alone.
 fn loaded(s: Settings, mask: u32, bytes: Dualoct, d: Draft) -> Draft
     ensures { λ z. ⌜ ((e : DraftOf) → Draws s d e → Draws s z (loaded (contextOf s) mask bytes e)) ⌝ }
 {
@@ -134,9 +149,11 @@ fn loaded(s: Settings, mask: u32, bytes: Dualoct, d: Draft) -> Draft
     };
     let q = Record::DataOf(t, bytes);
     let ch = p.channel;
+    let beside = two_wait(p);
     let planner = PlannerState {
         channel: after(s, ch, q),
-        mask: mask,
+        mask: pick(beside, p.mask, mask),
+        second: pick(beside, mask, p.second),
         ..p
     };
     added(d, planner, q, false)
@@ -170,11 +187,11 @@ fn planned_refresh(s: Settings, d: Draft) -> Draft
     turned(sent(s, Command::Row(RowPacket::Refp { bank }), z))
 }
 
-// NOCOP if a write is buffered, then PRER to each open bank in rising order.
+// NOCOP until no write waits, then PRER to each open bank in rising order.
 fn planned_drain(s: Settings, d: Draft) -> Draft
     ensures { λ z. ⌜ ((e : DraftOf) → Draws s d e → Draws s z (plannedDrain (contextOf s) e)) ⌝ }
 {
-    closed_up_to(s, Banks::All, flushed_while(s, Which::Any, d))
+    closed_up_to(s, Banks::All, flushed_while(s, Before::Drain, d))
 }
 
 // What a request makes of a planner, with its records.

@@ -87,9 +87,9 @@ recordLine bank column (DataOf t d) = line (t .0) (codes "D") bank column dash
 
 -- ---- the lines of a request, of a refusal and of the count
 
--- "No request makes more than 17 records."
+-- "A request may make 18 records."
 abbrev pub mostRecords : ℕ
-mostRecords = 17
+mostRecords = 18
 
 -- room for the lines of a request
 abbrev pub requestRoom : ℕ

@@ -2,7 +2,7 @@
 -- Assumes nothing.
 use Prim.Native.Nat.{ℕ, zero, suc, _+_, _≤_}
 use mathlib.Core.Path.{_≡_}
-use mathlib.Core.Bool.{Bool, true, false, not, cond, _||_}
+use mathlib.Core.Bool.{Bool, true, false, not, cond, _&&_, _||_}
 use mathlib.Core.List.{List, [], _∷_, _++_}
 use lib.Dec.{leb, ltb}
 use lib.ListN.{getD, set, length}
@@ -13,6 +13,7 @@ use Rattle.record.specs.declared.Record.{Record}
 use Rattle.record.specs.declared.Record.the-variants.{RowAt}
 use Rattle.spec_rules.specs.declared.Write.{Write}
 use Rattle.spec_rules.specs.Neighbour.{contextOf, near}
+use Rattle.spec_rules.specs.History.{anyWrite, two}
 use Rattle.spec_rules.specs.Channel.{never, leavingOf}
 use Rattle.spec_rules.specs.Earliest.{placedAt, under}
 use Rattle.spec_plan.specs.declared.PlannerState.{PlannerState}
@@ -20,8 +21,8 @@ use Rattle.spec_plan.specs.Plan.{Draft, rowPacket, colPacket, carried, hits}
 use Rattle.spec_plan.specs.Call.{timely}
 use Rattle.plan_by_value.specs.declared.Command.{Command}
 use Rattle.plan_by_value.specs.declared.Command.the-variants.{Row, Col}
-use Rattle.plan_by_value.specs.declared.Which.{Which}
-use Rattle.plan_by_value.specs.declared.Which.the-variants.{Beside, Of, Any}
+use Rattle.plan_by_value.specs.declared.Before.{Before}
+use Rattle.plan_by_value.specs.declared.Before.the-variants.{Prer, Rd, Drain}
 use Rattle.plan_by_value.specs.declared.Banks.{Banks}
 use Rattle.plan_by_value.specs.declared.Banks.the-variants.{Near, All}
 use Rattle.plan_by_value.specs.declared.Entry.{Entry}
@@ -33,10 +34,19 @@ abbrev pub packetOf : Command → Record
 packetOf (Row p) = rowPacket p
 packetOf (Col p) = colPacket p
 
-abbrev pub writeOf : Settings → Which → Write → Bool
-writeOf s (Beside x) = λ w. near (contextOf s) x (w .bank)
-writeOf s (Of bank column) = hits bank column
-writeOf s Any = λ w. true
+abbrev pub concerns : Settings → Before → Write → Bool
+concerns s (Prer x) = λ w. near (contextOf s) x (w .bank)
+concerns s (Rd bank column) = hits bank column
+concerns s Drain = λ w. true
+
+abbrev pub reads : Before → Bool
+reads (Prer x) = false
+reads (Rd bank column) = true
+reads Drain = false
+
+-- the waiting writes ask for a NOCOP: two before an RD, or one that concerns what is sent next
+abbrev pub holdsUp : Settings → Before → List Write → Bool
+holdsUp s next ws = (reads next && two ws) || anyWrite (concerns s next) ws
 
 abbrev pub bankIn : Settings → Banks → ℕ → Bool
 bankIn s (Near b) = near (contextOf s) b
@@ -63,19 +73,19 @@ unfoldable pub recordsOf : List Entry → ℕ → List Record
 recordsOf l zero = []
 recordsOf l (suc n) = recordsOf l n ++ (getD l n blank .made ∷ [])
 
--- late where an instant passes the last one; otherwise the same planner, and the same records while they are at most 17
+-- late where an instant passes the last one; otherwise the same planner, and the same records while they are at most 18
 pub record Draws (s : Settings) (d : Drawn) (e : Draft) : Type 0 where
   pub late : d .late ≡ not (timely (contextOf s) e)
   pub planner : d .late ≡ false → d .planner ≡ e .planner
-  pub records : d .late ≡ false → length (e .records) ≤ 17 → recordsOf (d .list) (d .count) ≡ e .records
+  pub records : d .late ≡ false → length (e .records) ≤ 18 → recordsOf (d .list) (d .count) ≡ e .records
 
 -- a draft with one record more, while there is a place for it
 unfoldable pub addedTo : Drawn → PlannerState → Record → Bool → Drawn
 addedTo d p q late =
     record {
       planner = p;
-      list = cond (ltb (d .count) 17) (set (d .list) (d .count) (record { made = q })) (d .list);
-      count = cond (ltb (d .count) 17) (d .count + 1) (d .count);
+      list = cond (ltb (d .count) 18) (set (d .list) (d .count) (record { made = q })) (d .list);
+      count = cond (ltb (d .count) 18) (d .count + 1) (d .count);
       late = d .late || late;
     }
 

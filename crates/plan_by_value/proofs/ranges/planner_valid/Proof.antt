@@ -11,7 +11,7 @@ returns c =
     rw (
       c .channel-valid .ensures,
       c .before .before .none-refreshed .ensures,
-      c .before .before .before .before .before .is-instant .ensures,
+      c .before .before .before .before .before .before .is-instant .ensures,
     )
 
 pub planner-valid-spec : {M : Type 1} → statement M

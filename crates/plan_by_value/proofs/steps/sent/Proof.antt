@@ -9,7 +9,7 @@ use borrow.Author.Needs.{needs}
 use Rattle.plan_by_value.proofs.steps.sent.Statement.{statement}
 use Rattle.plan_by_value.proofs.steps.sent.Tie as tie
 
-long : (c : tie.Start) → length (c .args .d .list) ≡ 17
+long : (c : tie.Start) → length (c .args .d .list) ≡ 18
 long c = search (length-of-map, c .good .1 .1 .0)
 
 returns : tie.Need-returns
@@ -19,14 +19,16 @@ returns c e k =
       c .added .ensures,
       c .before .is-late .ensures,
       c .before .before .data-delay .ensures,
-      c .before .before .before .after .ensures,
-      c .before .before .before .before .placed-in .ensures,
-      c .before .before .before .before .before .clipped .ensures,
-      c .before .before .before .before .before .before .least-from .ensures,
-      c .before .before .before .before .before .before .before .record-at .ensures,
-      unplaced (c .before .before .before .before .before .before .before .before .before .before .args .c),
+      c .before .before .before .shifted .ensures,
+      c .before .before .before .before .record-at2 .ensures,
+      c .before .before .before .before .before .after .ensures,
+      c .before .before .before .before .before .before .placed-in .ensures,
+      c .before .before .before .before .before .before .before .clipped .ensures,
+      c .before .before .before .before .before .before .before .before .least-from .ensures,
+      c .before .before .before .before .before .before .before .before .before .record-at .ensures,
+      unplaced (c .before .before .before .before .before .before .before .before .before .before .before .before .args .c),
     )
-    (let z = c .before .before .before .before .before .before .before .before .before .before in draws-sent (z .args .s) (z .args .d) e (packetOf (z .args .c)) (long z) k)
+    (let z = c .before .before .before .before .before .before .before .before .before .before .before .before in draws-sent (z .args .s) (z .args .d) e (packetOf (z .args .c)) (long z) k)
 
 pub sent-spec : {M : Type 1} → statement M
-sent-spec = tie.close (tie.spec (λ c κs. search needs) (λ c κs. search needs) (λ c κs. search needs) (λ c κs. search needs) (λ c κs. search needs) (λ c κs. search needs) (λ c κs. search needs) (λ c κs. search needs) returns)
+sent-spec = tie.close (tie.spec (λ c κs. search needs) (λ c κs. search needs) (λ c κs. search needs) (λ c κs. search needs) (λ c κs. search needs) (λ c κs. search needs) (λ c κs. search needs) (λ c κs. search needs) (λ c κs. search needs) (λ c κs. search needs) returns)
