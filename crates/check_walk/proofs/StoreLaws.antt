@@ -21,10 +21,11 @@ use Rattle.record.specs.Record.{recordFits}
 use Rattle.spec_rules.specs.declared.BankTrack.{BankTrack}
 use Rattle.spec_rules.specs.declared.Write.{Write}
 use Rattle.spec_rules.specs.declared.Buffer.{Buffer}
-use Rattle.spec_rules.specs.declared.Buffer.the-variants.{Empty, One}
+use Rattle.spec_rules.specs.declared.Buffer.the-variants.{Empty, One, Two}
 use Rattle.spec_rules.specs.Channel.{idle, waitingOf, bufferOf}
 use Rattle.spec_rules.proofs.Bools.{not-both, and-left}
 use Rattle.chan_view.specs.declared.View.{View}
+use Rattle.chan_view.specs.declared.Held.{Held}
 use Rattle.chan_view.specs.form.Beside.{lowOf, highOf, firstNear, lastNear, slotOf}
 use Rattle.chan_view.specs.form.View.{rowView, colView, seenOf, heldOf}
 use Rattle.chan_step.specs.form.Banks.{actTrack, refaTrack, prerTrack, sideTrack, readTrack, retiredTrack, changed, closedBanks, rowBanks, colBanks, retiredBanks, banksNext}
@@ -45,18 +46,22 @@ fits-bank s (ColAt t (Wr b c m)) p = ltb-true b 32 (and-left (ltb b 32) _ p)
 fits-bank s (ColAt t (Rd b c m)) p = ltb-true b 32 (and-left (ltb b 32) _ p)
 fits-bank s (DataOf t d) p = omega arith
 
--- a waiting write has one too
-abbrev pub Within : Buffer → Type 0
-Within b = heldOf b false .waits ≡ true → heldOf b false .bank < 32
+-- the waiting writes have one too
+abbrev pub HeldWithin : Held → Type 0
+HeldWithin h = (h .waits ≡ true → h .bank < 32) × (h .two ≡ true → h .next < 32)
 
-pub held-within : (b : Buffer) (due : Bool) → Within b → heldOf b due .waits ≡ true → heldOf b due .bank < 32
+abbrev pub Within : Buffer → Type 0
+Within b = HeldWithin (heldOf b false)
+
+pub held-within : (b : Buffer) (due : Bool) → Within b → HeldWithin (heldOf b due)
 unfolding heldOf
-held-within Empty due f p = f p
-held-within (One w) due f p = f p
+held-within Empty due f = f
+held-within (One x) due f = f
+held-within (Two x y) due f = f
 
 pub within-none : Within Empty
 unfolding heldOf
-within-none p = not-both false p refl
+within-none = (λ p. not-both false p refl, λ p. not-both false p refl)
 
 left-within : (out : Bool) (b : Buffer) → Within b → Within (leftBuffer out b)
 unfolding leftBuffer bufferOf waitingOf heldOf
@@ -65,13 +70,16 @@ left-within out Empty f = go out
     go : (out : Bool) → Within (leftBuffer out Empty)
     go true = f
     go false = f
-left-within true (One w) f = λ p. not-both false p refl
-left-within false (One w) f = f
+left-within true (One x) f = (λ p. not-both false p refl, λ p. not-both false p refl)
+left-within false (One x) f = f
+left-within true (Two x y) f = (λ p. f .1 refl, λ p. not-both false p refl)
+left-within false (Two x y) f = f
 
 joined-within : (b : Buffer) (w : Write) → w .bank < 32 → Within b → Within (joinedBuffer b w)
 unfolding joinedBuffer bufferOf waitingOf heldOf
-joined-within Empty w i f = λ p. i
-joined-within (One u) w i f = f
+joined-within Empty w i f = (λ p. i, λ p. not-both false p refl)
+joined-within (One x) w i f = (f .0, λ p. i)
+joined-within (Two x y) w i f = (f .0, λ p. i)
 
 pub within-next : (r : Record) (out : Bool) (b : Buffer) → viewIn (seenOf r) .bank < 32 → Within b → Within (bufferNext r out b)
 unfolding bufferNext colBuffer viewIn seenOf colView
@@ -164,7 +172,7 @@ withRd t k = record { bank = k .bank; opened = k .opened; act = k .act; pre = k 
 abbrev pub withRetire : ℕ → BankTrack → BankTrack
 withRetire t k = record { bank = k .bank; opened = k .opened; act = k .act; pre = k .pre; rd = k .rd; retire = record { 0 = t } }
 
--- of every record, at the bank of the waiting write
+-- of every record, at the bank of the older write
 abbrev pub retireStore : Bool → ℕ → PacketAt → List BankTrack → List BankTrack
 retireStore out w t l = set l w (withRetire (cond out (t .0) (getD l w idle .retire .0)) (getD l w idle))
 

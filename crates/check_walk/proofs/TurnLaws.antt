@@ -84,7 +84,7 @@ data-same s (DataOf t p) d q banks l out b = (refl, refl, refl)
 
 -- ---- the state before a turn, and the values that it finds
 
-pub record Turn (s : Settings) (r : Record) (banks : List BankTrack) (lasts : LastInstants) (newest : ℕ) (buffer : Buffer) (due : Bool) (v : View) (h : Held) (x y z w : ℕ) : Type 0 where
+pub record Turn (s : Settings) (r : Record) (banks : List BankTrack) (lasts : LastInstants) (newest : ℕ) (buffer : Buffer) (due : Bool) (v : View) (h : Held) (x y z w o : ℕ) : Type 0 where
   pub size : length banks ≡ 32
   pub top : Opened newest banks
   pub within : Within buffer
@@ -95,13 +95,14 @@ pub record Turn (s : Settings) (r : Record) (banks : List BankTrack) (lasts : La
   pub low : y ≡ firstNear s x
   pub high : z ≡ lastNear s x
   pub waiting : w ≡ slotOf (h .bank)
+  pub second : o ≡ slotOf (h .next)
 
-module _ {s : Settings} {r : Record} {banks : List BankTrack} {lasts : LastInstants} {newest : ℕ} {buffer : Buffer} {due : Bool} {v : View} {h : Held} {x y z w : ℕ} (t : Turn s r banks lasts newest buffer due v h x y z w) where
+module _ {s : Settings} {r : Record} {banks : List BankTrack} {lasts : LastInstants} {newest : ℕ} {buffer : Buffer} {due : Bool} {v : View} {h : Held} {x y z w o : ℕ} (t : Turn s r banks lasts newest buffer due v h x y z w o) where
   abbrev state : Channel
   state = channelOf banks lasts buffer due
 
   -- the quick test
-  pub quick-here : (k : Tracks) (ok : Bool) → k ≡ tracksWith (getD banks x idle) (getD banks y idle) (getD banks z idle) (getD banks w idle)
+  pub quick-here : (k : Tracks) (ok : Bool) → k ≡ tracksWith (getD banks x idle) (getD banks y idle) (getD banks z idle) (getD banks w idle) (getD banks o idle)
       → ok ≡ recordWell s r h k lasts (actBy s k (record { 0 = newest })) → ok ≡ true → judged (contextOf s) state r ≡ 0
   unfolding viewIn
   quick-here k ok kq p q = go (seenOf r) refl
@@ -116,14 +117,16 @@ module _ {s : Settings} {r : Record} {banks : List BankTrack} {lasts : LastInsta
       met u e =
           let b : v .bank ≡ u .bank = ap (λ (v : View). v .bank) (t .view ∙ ap viewIn e) in
           let i : u .bank < 32 = rw e at (t .inside) in
-          let o : x ≡ u .bank = t .own ∙ ap slotOf b ∙ slot-in (u .bank) i in
+          let q : x ≡ u .bank = t .own ∙ ap slotOf b ∙ slot-in (u .bank) i in
           record {
             size = t .size;
-            at-own = ap (λ (k : Tracks). k .own) kq ∙ at x (u .bank) o;
-            at-low = ap (λ (k : Tracks). k .low) kq ∙ at y (firstNear s (u .bank)) (t .low ∙ ap (firstNear s) o);
-            at-high = ap (λ (k : Tracks). k .high) kq ∙ at z (lastNear s (u .bank)) (t .high ∙ ap (lastNear s) o);
+            at-own = ap (λ (k : Tracks). k .own) kq ∙ at x (u .bank) q;
+            at-low = ap (λ (k : Tracks). k .low) kq ∙ at y (firstNear s (u .bank)) (t .low ∙ ap (firstNear s) q);
+            at-high = ap (λ (k : Tracks). k .high) kq ∙ at z (lastNear s (u .bank)) (t .high ∙ ap (lastNear s) q);
             at-held = λ m. ap (λ (k : Tracks). k .held) kq
-                ∙ at w (heldOf buffer due .bank) (t .waiting ∙ ap (λ (h : Held). slotOf (h .bank)) (t .held) ∙ slot-in (heldOf buffer due .bank) (held-within buffer due (t .within) m));
+                ∙ at w (heldOf buffer due .bank) (t .waiting ∙ ap (λ (h : Held). slotOf (h .bank)) (t .held) ∙ slot-in (heldOf buffer due .bank) (held-within buffer due (t .within) .0 m));
+            at-next = λ m. ap (λ (k : Tracks). k .next) kq
+                ∙ at o (heldOf buffer due .next) (t .second ∙ ap (λ (h : Held). slotOf (h .next)) (t .held) ∙ slot-in (heldOf buffer due .next) (held-within buffer due (t .within) .1 m));
           }
 
       go : (u : Seen) → seenOf r ≡ u → judged (contextOf s) state r ≡ 0
@@ -155,7 +158,7 @@ module _ {s : Settings} {r : Record} {banks : List BankTrack} {lasts : LastInsta
   stores-here =
       rw (t .low, t .high, t .own, t .waiting, t .view)
       (turn-stored s r (leaves s h (viewIn (seenOf r))) (h .bank) banks (t .size)
-      (λ m. rw (t .held) (held-within buffer due (t .within) (rw (t .held) at (and-left (h .waits) _ m)))) (t .inside))
+      (λ m. rw (t .held) (held-within buffer due (t .within) .0 (rw (t .held) at (and-left (h .waits) _ m)))) (t .inside))
 
   pub banks-here : (out : Bool) (retire : ℕ) (m n : List BankTrack) → out ≡ leaves s h v → retire ≡ cond out (v .at .0) (getD banks w idle .retire .0)
       → m ≡ set banks w (withRetire retire (getD banks w idle)) → n ≡ ownStores v x y z m → n ≡ next

@@ -71,7 +71,8 @@ pub fn walk(s: Settings, b: &[u8], n: usize, blocks: bool) -> Stop
         let y = first_near(s, x);
         let z = last_near(s, x);
         let w = slot_of(h.bank);
-        let k = tracks_of(banks[x], banks[y], banks[z], banks[w]);
+        let o = slot_of(h.next);
+        let k = tracks_of(banks[x], banks[y], banks[z], banks[w], banks[o]);
         if !passes(s, r, h, k, l, PacketAt(newest)) {
             let rule = judge(s, channel_of(banks, l, buffer, due), r);
             if rule != 0 {

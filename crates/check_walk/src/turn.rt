@@ -41,15 +41,22 @@ pub(crate) fn view_of(r: Record) -> View
     }
 }
 
-// The tracks of four banks.
-pub(crate) fn tracks_of(own: BankTrack, low: BankTrack, high: BankTrack, held: BankTrack) -> Tracks
-    ensures { λ k. ⌜ k ≡ tracksWith own low high held ⌝ }
+// The tracks of five banks.
+pub(crate) fn tracks_of(
+    own: BankTrack,
+    low: BankTrack,
+    high: BankTrack,
+    held: BankTrack,
+    next: BankTrack,
+) -> Tracks
+    ensures { λ k. ⌜ k ≡ tracksWith own low high held next ⌝ }
 {
     Tracks {
         own: own,
         low: low,
         high: high,
         held: held,
+        next: next,
     }
 }
 

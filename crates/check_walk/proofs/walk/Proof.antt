@@ -52,84 +52,84 @@ returns c =
 
 returns-2 : tie.Need-returns-2 Inv-loop μ-loop
 returns-2 c =
-    let a = c .before .before .before .before .before .before .before .before .before .before .before .before .before .before .before .before .before .before .before .before .before .before .before .before .before .before .args in
-    let k = c .before .before .before .before .before .before .before .before .before .before .before .before .before .before .before .before .before .before .before .before .before .before .loop in
-    let lt = c .before .before .before .before .before .before .before .before .before .before .before .before .before .before .before .before .before .before .before .before .before .loop-test .taken in
-    let r = c .before .before .before .before .before .before .before .before .before .before .before .before .before .before .before .before .before .r .given .0 .0 in
-    let q = rw (c .before .before .before .before .before .before .before .before .before .before .before .before .before .before .before .before .before .before .before .before .place-of .ensures) at (c .before .before .before .before .before .before .before .before .before .before .before .before .before .before .before .before .before .before .before .read-record .ensures) in
-    let e = sym q ∙ c .before .before .before .before .before .before .before .before .before .before .before .before .before .before .before .before .before .r .given .1 in
+    let a = c .before .before .before .before .before .before .before .before .before .before .before .before .before .before .before .before .before .before .before .before .before .before .before .before .before .before .before .before .args in
+    let k = c .before .before .before .before .before .before .before .before .before .before .before .before .before .before .before .before .before .before .before .before .before .before .before .before .loop in
+    let lt = c .before .before .before .before .before .before .before .before .before .before .before .before .before .before .before .before .before .before .before .before .before .before .before .loop-test .taken in
+    let r = c .before .before .before .before .before .before .before .before .before .before .before .before .before .before .before .before .before .before .before .r .given .0 .0 in
+    let q = rw (c .before .before .before .before .before .before .before .before .before .before .before .before .before .before .before .before .before .before .before .before .before .before .place-of .ensures) at (c .before .before .before .before .before .before .before .before .before .before .before .before .before .before .before .before .before .before .before .before .before .read-record .ensures) in
+    let e = sym q ∙ c .before .before .before .before .before .before .before .before .before .before .before .before .before .before .before .before .before .before .before .r .given .1 in
     let m = c .before .judge .ensures ∙ ap (λ (x : Channel). judged (contextOf (a .s)) x r) (c .before .before .channel-of .ensures) in
     stop-broken (contextOf (a .s)) (a .blocks) (a .b .now) (a .n) (k .i) _ (k .inv .5) lt (formed-here (a .s) (a .blocks) (a .b .now) (a .n) (k .i) lt r e)
     (found-here (a .s) (a .blocks) (a .b .now) (a .n) (k .i) lt r e (channelOf (k .banks) (k .l) (k .buffer) (k .due)) (k .inv .1) ∙ sym m) (c .if2 .taken)
 
 mul-opened-track : tie.Need-mul-opened-track Inv-loop μ-loop
-mul-opened-track c = let e = c .before .before .before .before .before .before .before .before .before .before .before .before .before .before .slot-of .ensures .1 in omega arith
+mul-opened-track c = let e = c .before .before .before .before .before .before .before .before .before .before .before .before .before .before .before .before .slot-of .ensures .1 in omega arith
 
 array-copy-out-opened-track : tie.Need-array-copy-out-opened-track Inv-loop μ-loop
-array-copy-out-opened-track c = let e = c .before .before .before .before .before .before .before .before .before .before .before .before .before .before .slot-of .ensures .1 in omega arith
+array-copy-out-opened-track c = let e = c .before .before .before .before .before .before .before .before .before .before .before .before .before .before .before .before .slot-of .ensures .1 in omega arith
 
 mul-banks-2 : tie.Need-mul-banks-2 Inv-loop μ-loop
-mul-banks-2 c = let e = c .before .before .before .before .before .before .before .before .before .before .before .before .before .before .before .before .slot-of .ensures .1 in omega arith
+mul-banks-2 c = let e = c .before .before .before .before .before .before .before .before .before .before .before .before .before .before .before .before .before .before .slot-of .ensures .1 in omega arith
 
 array-set-from-banks : tie.Need-array-set-from-banks Inv-loop μ-loop
-array-set-from-banks c = let e = c .before .before .before .before .before .before .before .before .before .before .before .before .before .before .before .before .slot-of .ensures .1 in omega arith
+array-set-from-banks c = let e = c .before .before .before .before .before .before .before .before .before .before .before .before .before .before .before .before .before .before .slot-of .ensures .1 in omega arith
 
 mul-closed-track : tie.Need-mul-closed-track Inv-loop μ-loop
-mul-closed-track c = let e = c .before .before .before .before .before .before .before .before .before .before .before .before .before .before .before .slot-of .ensures .1 in omega arith
+mul-closed-track c = let e = c .before .before .before .before .before .before .before .before .before .before .before .before .before .before .before .before .before .slot-of .ensures .1 in omega arith
 
 array-copy-out-closed-track : tie.Need-array-copy-out-closed-track Inv-loop μ-loop
-array-copy-out-closed-track c = let e = c .before .before .before .before .before .before .before .before .before .before .before .before .before .before .before .slot-of .ensures .1 in omega arith
+array-copy-out-closed-track c = let e = c .before .before .before .before .before .before .before .before .before .before .before .before .before .before .before .before .before .slot-of .ensures .1 in omega arith
 
 mul-banks-3 : tie.Need-mul-banks-3 Inv-loop μ-loop
-mul-banks-3 c = let e = c .before .before .before .before .before .before .before .before .before .before .before .before .before .before .before .before .before .slot-of .ensures .1 in omega arith
+mul-banks-3 c = let e = c .before .before .before .before .before .before .before .before .before .before .before .before .before .before .before .before .before .before .before .slot-of .ensures .1 in omega arith
 
 array-set-from-banks-2 : tie.Need-array-set-from-banks-2 Inv-loop μ-loop
-array-set-from-banks-2 c = let e = c .before .before .before .before .before .before .before .before .before .before .before .before .before .before .before .before .before .slot-of .ensures .1 in omega arith
+array-set-from-banks-2 c = let e = c .before .before .before .before .before .before .before .before .before .before .before .before .before .before .before .before .before .before .before .slot-of .ensures .1 in omega arith
 
 mul-side-track : tie.Need-mul-side-track Inv-loop μ-loop
-mul-side-track c = let e = c .before .before .before .before .before .before .before .before .before .before .before .before .before .before .before .before .first-near .ensures .1 in omega arith
+mul-side-track c = let e = c .before .before .before .before .before .before .before .before .before .before .before .before .before .before .before .before .before .before .first-near .ensures .1 in omega arith
 
 array-copy-out-side-track : tie.Need-array-copy-out-side-track Inv-loop μ-loop
-array-copy-out-side-track c = let e = c .before .before .before .before .before .before .before .before .before .before .before .before .before .before .before .before .first-near .ensures .1 in omega arith
+array-copy-out-side-track c = let e = c .before .before .before .before .before .before .before .before .before .before .before .before .before .before .before .before .before .before .first-near .ensures .1 in omega arith
 
 mul-banks-4 : tie.Need-mul-banks-4 Inv-loop μ-loop
-mul-banks-4 c = let e = c .before .before .before .before .before .before .before .before .before .before .before .before .before .before .before .before .before .before .first-near .ensures .1 in omega arith
+mul-banks-4 c = let e = c .before .before .before .before .before .before .before .before .before .before .before .before .before .before .before .before .before .before .before .before .first-near .ensures .1 in omega arith
 
 array-set-from-banks-3 : tie.Need-array-set-from-banks-3 Inv-loop μ-loop
-array-set-from-banks-3 c = let e = c .before .before .before .before .before .before .before .before .before .before .before .before .before .before .before .before .before .before .first-near .ensures .1 in omega arith
+array-set-from-banks-3 c = let e = c .before .before .before .before .before .before .before .before .before .before .before .before .before .before .before .before .before .before .before .before .first-near .ensures .1 in omega arith
 
 mul-side-track-2 : tie.Need-mul-side-track-2 Inv-loop μ-loop
-mul-side-track-2 c = let e = c .before .before .before .before .before .before .before .before .before .before .before .before .before .before .before .before .before .last-near .ensures .1 in omega arith
+mul-side-track-2 c = let e = c .before .before .before .before .before .before .before .before .before .before .before .before .before .before .before .before .before .before .before .last-near .ensures .1 in omega arith
 
 array-copy-out-side-track-2 : tie.Need-array-copy-out-side-track-2 Inv-loop μ-loop
-array-copy-out-side-track-2 c = let e = c .before .before .before .before .before .before .before .before .before .before .before .before .before .before .before .before .before .last-near .ensures .1 in omega arith
+array-copy-out-side-track-2 c = let e = c .before .before .before .before .before .before .before .before .before .before .before .before .before .before .before .before .before .before .before .last-near .ensures .1 in omega arith
 
 mul-banks-5 : tie.Need-mul-banks-5 Inv-loop μ-loop
-mul-banks-5 c = let e = c .before .before .before .before .before .before .before .before .before .before .before .before .before .before .before .before .before .before .before .last-near .ensures .1 in omega arith
+mul-banks-5 c = let e = c .before .before .before .before .before .before .before .before .before .before .before .before .before .before .before .before .before .before .before .before .before .last-near .ensures .1 in omega arith
 
 array-set-from-banks-4 : tie.Need-array-set-from-banks-4 Inv-loop μ-loop
-array-set-from-banks-4 c = let e = c .before .before .before .before .before .before .before .before .before .before .before .before .before .before .before .before .before .before .before .last-near .ensures .1 in omega arith
+array-set-from-banks-4 c = let e = c .before .before .before .before .before .before .before .before .before .before .before .before .before .before .before .before .before .before .before .before .before .last-near .ensures .1 in omega arith
 
 mul-banks-6 : tie.Need-mul-banks-6 Inv-loop μ-loop
-mul-banks-6 c = let e = c .before .before .before .before .before .before .before .before .before .before .before .before .before .before .before .before .slot-of .ensures .1 in omega arith
+mul-banks-6 c = let e = c .before .before .before .before .before .before .before .before .before .before .before .before .before .before .before .before .before .before .slot-of .ensures .1 in omega arith
 
 way-write-given-banks-2 : tie.Need-way-write-given-banks-2 Inv-loop μ-loop
-way-write-given-banks-2 c = let e = c .before .before .before .before .before .before .before .before .before .before .before .before .before .before .before .before .slot-of .ensures .1 in omega arith
+way-write-given-banks-2 c = let e = c .before .before .before .before .before .before .before .before .before .before .before .before .before .before .before .before .before .before .slot-of .ensures .1 in omega arith
 
 add-i : tie.Need-add-i Inv-loop μ-loop
 add-i c =
-    let l = c .before .before .before .before .before .before .before .before .before .before .before .before .before .before .before .before .before .before .before .before .before .before .before .before .loop-test .taken in
-    let p = c .before .before .before .before .before .before .before .before .before .before .before .before .before .before .before .before .before .before .before .before .before .before .before .before .before .before .before .before .before .pre .0 in
+    let l = c .before .before .before .before .before .before .before .before .before .before .before .before .before .before .before .before .before .before .before .before .before .before .before .before .before .before .loop-test .taken in
+    let p = c .before .before .before .before .before .before .before .before .before .before .before .before .before .before .before .before .before .before .before .before .before .before .before .before .before .before .before .before .before .before .before .pre .0 in
     omega arith
 
 loop-less : tie.Need-loop-less Inv-loop μ-loop
 loop-less c =
-    let l = c .before .before .before .before .before .before .before .before .before .before .before .before .before .before .before .before .before .before .before .before .before .before .before .before .loop-test .taken in
+    let l = c .before .before .before .before .before .before .before .before .before .before .before .before .before .before .before .before .before .before .before .before .before .before .before .before .before .before .loop-test .taken in
     omega arith
 
 loop-again : tie.Need-loop-again Inv-loop μ-loop
 loop-again c =
-    let g = c .before .before .before .before .before .before .before .before .before .before .before .before .before in
+    let g = c .before .before .before .before .before .before .before .before .before .before .before .before .before .before .before in
     let a = g .before .before .before .before .before .before .before .before .before .before .before .before .before .before .before .before .args in
     let k = g .before .before .before .before .before .before .before .before .before .before .before .before .loop in
     let lt = g .before .before .before .before .before .before .before .before .before .before .before .loop-test .taken in
@@ -138,7 +138,7 @@ loop-again c =
     let ch : Channel = channelOf (k .banks) (k .l) (k .buffer) (k .due) in
     let v = g .before .before .before .before .before .view-of .result in
     let w = g .slot-of2 .result in
-    let t : Turn (a .s) r (k .banks) (k .l) (k .newest) (k .buffer) (k .due) v (g .before .before .before .before .held-of .result) (g .before .before .before .slot-of .result) (g .before .before .first-near .result) (g .before .last-near .result) w =
+    let t : Turn (a .s) r (k .banks) (k .l) (k .newest) (k .buffer) (k .due) v (g .before .before .before .before .held-of .result) (g .before .before .before .slot-of .result) (g .before .before .first-near .result) (g .before .last-near .result) w (c .before .before .before .before .before .before .before .before .before .before .before .before .before .before .slot-of3 .result) =
     record {
       size = k .inv .2;
       top = k .inv .3;
@@ -150,6 +150,7 @@ loop-again c =
       low = g .before .before .first-near .ensures .0;
       high = g .before .last-near .ensures .0;
       waiting = g .slot-of2 .ensures .0;
+      second = c .before .before .before .before .before .before .before .before .before .before .before .before .before .before .slot-of3 .ensures .0;
     } in
     let zero : judged (contextOf (a .s)) ch r ≡ 0 =
     ⊎-elim (λ o. sym (o .2 .ensures ∙ ap (λ (n : Channel). judged (contextOf (a .s)) n r) (o .1 .ensures)) ∙ o .3 .left) (λ o. quick-here t _ _ (c .before .before .before .before .before .before .before .before .tracks-of .ensures) (c .before .before .before .before .before .before .before .passes .ensures) (not-false _ (o .left))) (c .before .before .before .before .before .before .if1 .came)
@@ -200,6 +201,9 @@ walk-spec =
     (λ c κs. search needs)
     (λ c κs. search needs)
     (λ c κs. search needs)
+    (λ c κs. search needs)
+    (λ c. search needs)
+    (λ c. search needs)
     (λ c. search needs)
     (λ c. search needs)
     (λ c. search needs)

@@ -19,8 +19,8 @@ unfoldable pub viewIn : Seen → View
 viewIn (Packet v) = v
 viewIn (Data t) = plain never
 
-abbrev pub tracksWith : BankTrack → BankTrack → BankTrack → BankTrack → Tracks
-tracksWith own low high held = record { own = own; low = low; high = high; held = held }
+abbrev pub tracksWith : BankTrack → BankTrack → BankTrack → BankTrack → BankTrack → Tracks
+tracksWith own low high held next = record { own = own; low = low; high = high; held = held; next = next }
 
 -- a bank after an ACT or REFA
 abbrev pub openedTrack : View → BankTrack → BankTrack
