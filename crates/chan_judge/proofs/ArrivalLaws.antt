@@ -35,11 +35,11 @@ arrives-at t p delay r = go (leb (p .0 + delay) horizon) refl
         rw (e, ne-eqb (t .0) (p .0 + delay) (λ q. omega arith))
 
 -- so rule 15 may ask for the arrival
-pub data-rule-is : (s : Settings) (h : Held) (t : DataAt) → cond (isInstant (t .0)) (cond (h .due && comesAt t (arrival (h .at) (s .cwd))) 0 15) 1 ≡ dataRule s h t
+pub data-rule-is : (s : Settings) (h : Held) (t : DataAt) → cond (isInstant (t .0)) (cond (h .due && comesAt t (arrival (h .newest) (s .cwd))) 0 15) 1 ≡ dataRule s h t
 unfolding dataRule
 data-rule-is s h t = go (isInstant (t .0)) refl
   where
     go : (c : Bool) → isInstant (t .0) ≡ c
-        → _≡_ {A = ℕ} (cond c (cond (h .due && comesAt t (arrival (h .at) (s .cwd))) 0 15) 1) (cond c (cond (h .due && eqb (t .0) (h .at .0 + s .cwd)) 0 15) 1)
-    go true e = rw (arrives-at t (h .at) (s .cwd) e)
+        → _≡_ {A = ℕ} (cond c (cond (h .due && comesAt t (arrival (h .newest) (s .cwd))) 0 15) 1) (cond c (cond (h .due && eqb (t .0) (h .newest .0 + s .cwd)) 0 15) 1)
+    go true e = rw (arrives-at t (h .newest) (s .cwd) e)
     go false e = refl

@@ -9,7 +9,7 @@ use native.Mathlib.Nat.{add-zero}
 use native.Mathlib.Omega.{arith}
 use borrow.Author.Tests.{eqb-true}
 use lib.Dec.{eqb, leb}
-use lib.ListN.{length, getD}
+use lib.ListN.{length}
 use Rattle.num.specs.Search.{allUpTo}
 use Rattle.settings.specs.declared.Settings.{Settings}
 use Rattle.settings.specs.declared.DataAt.{DataAt}
@@ -20,14 +20,15 @@ use Rattle.record.specs.declared.Dualoct.{Dualoct}
 use Rattle.spec_rules.specs.declared.Bank.{Bank}
 use Rattle.spec_rules.specs.declared.BankTrack.{BankTrack}
 use Rattle.spec_rules.specs.declared.LastInstants.{LastInstants}
+use Rattle.spec_rules.specs.declared.Write.{Write}
 use Rattle.spec_rules.specs.declared.Channel.{Channel}
 use Rattle.spec_rules.specs.Neighbour.{bankCount, contextOf, near}
 use Rattle.spec_rules.specs.Packets.{Traits, traits, instant, isPacket}
 use Rattle.spec_rules.specs.History.{isClosed, isOpen, leaving, bankOf, only, anyWrite, deeds, reaches, closes, has}
 use Rattle.spec_rules.specs.Distances.{ROW, COL, ACT, onlyACT, PRER, RD, retire, bankAs, distances}
-use Rattle.spec_rules.specs.Rules.{freeFor, openFor, dataDelay, waited, dataInPlace}
+use Rattle.spec_rules.specs.Rules.{freeFor, openFor, dataDelay, stays, dataInPlace}
 use Rattle.spec_rules.specs.Broken.{lowest}
-use Rattle.spec_rules.specs.Channel.{idle, stateOf, waitingOf, dueOf, leavingOf}
+use Rattle.spec_rules.specs.Channel.{trackOf, stateOf, waitingOf, dueOf, leavingOf}
 use Rattle.spec_rules.specs.Checks.{since, boundOf, checkOf, checks, judged}
 use Rattle.spec_rules.proofs.TrackLaws.{packet-pins}
 use Rattle.spec_rules.proofs.ByRule.{actBound, check1, check2, check3, check5, check6, check7, check8, check10, check11, check13}
@@ -35,14 +36,14 @@ use Rattle.chan_view.specs.declared.View.{View}
 use Rattle.chan_view.specs.declared.Held.{Held}
 use Rattle.chan_view.specs.declared.Tracks.{Tracks}
 use Rattle.chan_view.specs.declared.Seen.the-variants.{Packet, Data}
-use Rattle.chan_view.specs.form.Beside.{lowOf, highOf, slotOf, tracksOf, aroundOf}
+use Rattle.chan_view.specs.form.Beside.{tracksOf}
 use Rattle.chan_view.specs.form.Bounds.{boundIf}
-use Rattle.chan_view.specs.form.View.{seenOf, heldOf, leaves, delayOf}
+use Rattle.chan_view.specs.form.View.{seenOf, heldOf, leaves, staysBy, delayOf}
 use Rattle.chan_view.proofs.NearLaws.{near-all}
-use Rattle.chan_view.proofs.PlaceLaws.{past, around-is}
+use Rattle.chan_view.proofs.PlaceLaws.{past, readAround, around-is}
 use Rattle.chan_view.proofs.BoundLaws.{near-bound, own-bound}
-use Rattle.chan_view.proofs.ViewLaws.{Shows, seen-shows, leaving-bank, leaving-waited, held-due, held-any}
-use Rattle.chan_judge.specs.form.Tests.{actOver, dataInTime, kept, test1, test4, test6, test7, test9, test10, test11, test12, test13, test14, pinTests, rowTests, colTests, bufferTests, packetRule, dataRule}
+use Rattle.chan_view.proofs.ViewLaws.{Shows, seen-shows, leaving-bank, stays-is, held-due, held-any}
+use Rattle.chan_judge.specs.form.Tests.{actOver, dataInTime, kept, test1, test4, test6, test7, test9, test10, test11, test12, test13, spared, test14, pinTests, rowTests, colTests, bufferTests, packetRule, dataRule}
 
 -- ---- tests and instants
 
@@ -114,7 +115,7 @@ module _ (s : Settings) (ch : Channel) (r : Record) (v : View) (w : Shows r v) (
   held = heldOf (ch .buffer) (ch .due)
 
   abbrev around : Tracks
-  around = tracksOf s (ch .banks) (v .bank) (held .bank)
+  around = tracksOf s (ch .banks) (v .bank) held
 
   abbrev out : Bool
   out = leaves s held v
@@ -195,8 +196,8 @@ module _ (s : Settings) (ch : Channel) (r : Record) (v : View) (w : Shows r v) (
   unfolding contextOf
   is11 = check11 (contextOf s) ch r ∙ kept-of (v .writes) (v .bank) writes-of _ _ refl
 
-  is12 : waited (contextOf s) (leavingOf (contextOf s) ch r) (instant r) ≡ test12 s v out held
-  is12 = leaving-waited s (ch .buffer) (ch .due) r v w (instant r) ∙ rw (w .instant-of)
+  is12 : (has (bankOf (leavingOf (contextOf s) ch r)) || stays (waitingOf (ch .buffer)) (traits r)) ≡ test12 v out held
+  is12 = ap₂ _||_ (ap has out-of ∙ has-only out (held .bank)) (stays-is s (ch .buffer) (ch .due) r v w)
 
   is13 : checkOf (contextOf s) ch r 13 ≡ test13 s v around
   unfolding contextOf
@@ -208,13 +209,22 @@ module _ (s : Settings) (ch : Channel) (r : Record) (v : View) (w : Shows r v) (
   is14 : not (anyWrite (λ x. closes (contextOf s) (stateOf ch) r (x .bank)) (waitingOf (ch .buffer))) ≡ test14 s v held around
   is14 =
       ap not (held-any (ch .buffer) (ch .due) (closes (contextOf s) (stateOf ch) r))
-      ∙ ap (λ (o : Option ℕ). not (held .waits && (reaches (contextOf s) o (held .bank) && not (isClosed (stateOf ch (held .bank)))))) precharges-of
-      ∙ safe-only s (held .waits) (v .precharges) (v .bank) (held .bank) (isClosed (stateOf ch (held .bank)))
+      ∙ neither-of (held .waits && closes (contextOf s) (stateOf ch) r (held .bank)) (held .two && closes (contextOf s) (stateOf ch) r (held .next))
+      ∙ ap₂ _&&_ (spared-of (held .waits) (held .bank)) (spared-of (held .two) (held .next))
+    where
+      neither-of : (a b : Bool) → not (a || b) ≡ (not a && not b)
+      neither-of true b = refl
+      neither-of false b = refl
+
+      spared-of : (waits : Bool) (x : ℕ) → not (waits && closes (contextOf s) (stateOf ch) r x) ≡ spared s v waits x (trackOf ch x)
+      spared-of waits x =
+          ap (λ (o : Option ℕ). not (waits && (reaches (contextOf s) o x && not (isClosed (stateOf ch x))))) precharges-of
+          ∙ safe-only s waits (v .precharges) (v .bank) x (isClosed (stateOf ch x))
 
   is15 : dataInPlace (dueOf (contextOf s) ch) r ≡ not (held .due)
   is15 = rw (held-due s ch) (go (held .due))
     where
-      go : (c : Bool) → dataInPlace (only c (some (held .at .0 + s .cwd))) r ≡ not c
+      go : (c : Bool) → dataInPlace (only c (some (held .newest .0 + s .cwd))) r ≡ not c
       go true = rw (w .packet-of)
       go false = w .packet-of
 
@@ -236,23 +246,17 @@ act-unused s v h k l a b e = rw e
 -- ---- a packet, by the tracks that were read at indices
 
 module _ (s : Settings) (v : View) (h : Held) (l : List BankTrack) (e : length l ≡ 32) (lasts : LastInstants) where
-  abbrev read : ℕ → BankTrack
-  read x = getD l (slotOf x) idle
-
-  abbrev readAround : Tracks
-  readAround = aroundOf s (v .bank) (h .bank) (read (v .bank)) (read (lowOf s (v .bank))) (read (highOf s (v .bank))) (read (h .bank))
-
   abbrev ruleBy : Tracks → ℕ → ℕ
   ruleBy k act = packetRule s v h k act lasts
 
-  pub rule-read : ruleBy readAround (actOver s l (v .bank)) ≡ ruleBy (tracksOf s l (v .bank) (h .bank)) (actOver s l (v .bank))
-  rule-read = ap (λ (k : Tracks). ruleBy k (actOver s l (v .bank))) (around-is l e s (v .bank) (h .bank))
+  pub rule-read : ruleBy (readAround l e s (v .bank) h) (actOver s l (v .bank)) ≡ ruleBy (tracksOf s l (v .bank) h) (actOver s l (v .bank))
+  rule-read = ap (λ (k : Tracks). ruleBy k (actOver s l (v .bank))) (around-is l e s (v .bank) h)
 
-  pub rule-unopened : v .opens ≡ false → ruleBy readAround 0 ≡ ruleBy (tracksOf s l (v .bank) (h .bank)) (actOver s l (v .bank))
+  pub rule-unopened : v .opens ≡ false → ruleBy (readAround l e s (v .bank) h) 0 ≡ ruleBy (tracksOf s l (v .bank) h) (actOver s l (v .bank))
   rule-unopened q = unused ∙ rule-read
     where
-      unused : ruleBy readAround 0 ≡ ruleBy readAround (actOver s l (v .bank))
-      unused = act-unused s v h readAround lasts 0 (actOver s l (v .bank)) q
+      unused : ruleBy (readAround l e s (v .bank) h) 0 ≡ ruleBy (readAround l e s (v .bank) h) (actOver s l (v .bank))
+      unused = act-unused s v h (readAround l e s (v .bank) h) lasts 0 (actOver s l (v .bank)) q
 
 -- ---- data
 
@@ -263,19 +267,31 @@ module _ (s : Settings) (ch : Channel) (t : DataAt) (d : Dualoct) where
 
   safe-of : not (anyWrite (λ x. closes (contextOf s) (stateOf ch) (DataOf t d) (x .bank)) (waitingOf (ch .buffer))) ≡ true
   unfolding traits
-  safe-of = ap not (held-any (ch .buffer) (ch .due) (closes (contextOf s) (stateOf ch) (DataOf t d)) ∙ and-false (heldOf (ch .buffer) (ch .due) .waits))
+  safe-of = ap not (held-any (ch .buffer) (ch .due) (closes (contextOf s) (stateOf ch) (DataOf t d)) ∙ none (heldOf (ch .buffer) (ch .due) .waits) (heldOf (ch .buffer) (ch .due) .two))
+    where
+      none : (a b : Bool) → (a && false) || (b && false) ≡ false
+      none a b = rw (and-false a, and-false b)
 
-  due-of : dataInPlace (dueOf (contextOf s) ch) (DataOf t d) ≡ (heldOf (ch .buffer) (ch .due) .due && eqb (t .0) (heldOf (ch .buffer) (ch .due) .at .0 + s .cwd))
+  stays-of : stays (waitingOf (ch .buffer)) (traits (DataOf t d)) ≡ true
+  unfolding traits
+  stays-of = go (waitingOf (ch .buffer))
+    where
+      go : (ws : List Write) → stays ws (traits (DataOf t d)) ≡ true
+      go [] = refl
+      go (x ∷ []) = refl
+      go (x ∷ y ∷ ws) = refl
+
+  due-of : dataInPlace (dueOf (contextOf s) ch) (DataOf t d) ≡ (heldOf (ch .buffer) (ch .due) .due && eqb (t .0) (heldOf (ch .buffer) (ch .due) .newest .0 + s .cwd))
   unfolding isPacket instant
   due-of = rw (held-due s ch) (go (heldOf (ch .buffer) (ch .due) .due))
     where
-      go : (c : Bool) → dataInPlace (only c (some (heldOf (ch .buffer) (ch .due) .at .0 + s .cwd))) (DataOf t d) ≡ (c && eqb (t .0) (heldOf (ch .buffer) (ch .due) .at .0 + s .cwd))
+      go : (c : Bool) → dataInPlace (only c (some (heldOf (ch .buffer) (ch .due) .newest .0 + s .cwd))) (DataOf t d) ≡ (c && eqb (t .0) (heldOf (ch .buffer) (ch .due) .newest .0 + s .cwd))
       go true = refl
       go false = refl
 
   data-judged : judged (contextOf s) ch (DataOf t d) ≡ dataRule s (heldOf (ch .buffer) (ch .due)) t
   unfolding judged checks lowest dataRule checkOf deeds distances traits leaving
-  data-judged = rw (range-of, safe-of, due-of)
+  data-judged = rw (range-of, stays-of, safe-of, due-of)
 
 -- ---- a record, by what it is seen as
 
@@ -284,7 +300,7 @@ module _ (s : Settings) (ch : Channel) (r : Record) where
   buffered = heldOf (ch .buffer) (ch .due)
 
   pub judged-packet : length (ch .banks) ≡ 32 → (v : View) → seenOf r ≡ Packet v
-      → packetRule s v buffered (tracksOf s (ch .banks) (v .bank) (buffered .bank)) (actOver s (ch .banks) (v .bank)) (ch .lasts) ≡ judged (contextOf s) ch r
+      → packetRule s v buffered (tracksOf s (ch .banks) (v .bank) buffered) (actOver s (ch .banks) (v .bank)) (ch .lasts) ≡ judged (contextOf s) ch r
   judged-packet e v q = sym (packet-judged s ch r v (seen-shows r v q) e)
 
   pub judged-data : (t : DataAt) → seenOf r ≡ Data t → dataRule s buffered t ≡ judged (contextOf s) ch r

@@ -20,6 +20,7 @@ use chan_view::neighbours::low_of;
 use chan_view::views::held_of;
 use chan_view::views::leaving;
 use chan_view::views::seen_of;
+use chan_view::views::stays;
 use instants::write_arrival;
 use record::Record;
 use settings::DataAt;
@@ -54,12 +55,12 @@ fn row_rules(s: Settings, v: View, k: Tracks, act: u64, l: LastInstants, rest: u
     unless(tests::finds_closed(v, k), 4, n5)
 }
 
-// Rules 9 to 13; out says whether the waiting write is retired.
+// Rules 9 to 13; out says whether the older write is retired.
 fn col_rules(s: Settings, v: View, h: Held, out: bool, k: Tracks, l: LastInstants, rest: u32) -> u32
     ensures { λ n. ⌜ n ≡ lowestOr rest 9 (colTests s v h out k l) ⌝ }
 {
     let n13 = unless(tests::columns_done(s, v, k), 13, rest);
-    let n12 = unless(tests::retire_late(s, v, h, out), 12, n13);
+    let n12 = unless(out | stays(h, v), 12, n13);
     let n11 = unless(tests::turned(s, v, l.rd), 11, n12);
     let n10 = unless(tests::row_ready(s, v, out, k), 10, n11);
     unless(tests::finds_open(v, out, k), 9, n10)
@@ -90,13 +91,13 @@ pub fn packet_rule(s: Settings, v: View, h: Held, k: Tracks, act: u64, l: LastIn
 pub fn data_rule(s: Settings, h: Held, t: DataAt) -> u32
     ensures { λ n. ⌜ n ≡ dataRule s h t ⌝ }
 {
-    let right = h.due & tests::comes_at(t, write_arrival(s, h.at));
+    let right = h.due & tests::comes_at(t, write_arrival(s, h.newest));
     unless(tests::in_range(t.0), 1, unless(right, 15, 0))
 }
 
 // The lowest rule that a packet breaks in a state, or 0, where h is the write buffer of that state.
 fn packet_in(s: Settings, ch: Channel, h: Held, v: View) -> u32
-    ensures { λ n. ⌜ n ≡ packetRule s v h (tracksOf s (ch .banks) (v .bank) (h .bank)) (actOver s (ch .banks) (v .bank)) (ch .lasts) ⌝ }
+    ensures { λ n. ⌜ n ≡ packetRule s v h (tracksOf s (ch .banks) (v .bank) h) (actOver s (ch .banks) (v .bank)) (ch .lasts) ⌝ }
 {
     let i = slot_of(v.bank);
     let own = ch.banks[i];
@@ -106,7 +107,9 @@ fn packet_in(s: Settings, ch: Channel, h: Held, v: View) -> u32
     let high = ch.banks[n];
     let m = slot_of(h.bank);
     let held = ch.banks[m];
-    let k = around(s, v.bank, h.bank, own, low, high, held);
+    let o = slot_of(h.next);
+    let next = ch.banks[o];
+    let k = around(s, v.bank, h, own, low, high, held, next);
     if v.opens {
         let banks = ch.banks;
         return packet_rule(s, v, h, k, acts::act_bound(s, banks, v.bank), ch.lasts);

@@ -4,7 +4,7 @@ ghost use lib.Dec.{leb};
 ghost use Rattle.settings.specs.Instants.{isInstant};
 ghost use Rattle.spec_rules.specs.Checks.{since};
 ghost use Rattle.chan_view.specs.form.Bounds.{boundIf};
-ghost use Rattle.chan_judge.specs.form.Tests.{inTime, comesAt, dataInTime, test1, test4, test6, test7, test9, test10, test11, test12, test13, test14};
+ghost use Rattle.chan_judge.specs.form.Tests.{inTime, comesAt, dataInTime, test1, test4, test6, test7, test9, test10, test11, test13, spared, test14};
 use chan_view::Held;
 use chan_view::Tracks;
 use chan_view::View;
@@ -23,6 +23,7 @@ use settings::DataAt;
 use settings::HORIZON;
 use settings::PacketAt;
 use settings::Settings;
+use spec_rules::BankTrack;
 
 // Whether a number is an instant.
 pub fn in_range(t: u32) -> bool
@@ -132,13 +133,6 @@ pub(crate) fn turned(s: Settings, v: View, rd: PacketAt) -> bool
     keeps(v.writes, since_wide(rd, gap), v.at)
 }
 
-// Rule 12: WR to its retire.
-pub(crate) fn retire_late(s: Settings, v: View, h: Held, out: bool) -> bool
-    ensures { λ r. ⌜ r ≡ test12 s v out h ⌝ }
-{
-    !out | (num::wide32(h.at.0) + num::wide32(s.rtr) <= num::wide32(v.at.0))
-}
-
 // Rule 13: RD and retire to PRER.
 pub(crate) fn columns_done(s: Settings, v: View, k: Tracks) -> bool
     ensures { λ r. ⌜ r ≡ test13 s v k ⌝ }
@@ -148,10 +142,17 @@ pub(crate) fn columns_done(s: Settings, v: View, k: Tracks) -> bool
     keeps(v.precharges, read, v.at) & keeps(v.precharges, retire, v.at)
 }
 
-// Rule 14: a PRER does not close the bank of a waiting write.
+// Whether a PRER spares the bank x of a write, where one waits.
+fn spared(s: Settings, v: View, waits: bool, x: u32, k: BankTrack) -> bool
+    ensures { λ r. ⌜ r ≡ spared s v waits x k ⌝ }
+{
+    let reaches = v.precharges & is_near(s, v.bank, x);
+    !(waits & reaches) | is_closed(k)
+}
+
+// Rule 14: a PRER closes the bank of no waiting write.
 pub(crate) fn write_safe(s: Settings, v: View, h: Held, k: Tracks) -> bool
     ensures { λ r. ⌜ r ≡ test14 s v h k ⌝ }
 {
-    let reaches = v.precharges & is_near(s, v.bank, h.bank);
-    !(h.waits & reaches) | is_closed(k.held)
+    spared(s, v, h.waits, h.bank, k.held) & spared(s, v, h.two, h.next, k.next)
 }

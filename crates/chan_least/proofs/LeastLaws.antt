@@ -2,12 +2,11 @@
 -- Assumes nothing.
 use Prim.Native.Nat.{ℕ, _+_, _-_, max}
 use mathlib.Core.Path.{_≡_, refl, ap, ap₂, _∙_, sym}
-use mathlib.Core.Bool.{Bool, true, false, not, cond}
-use mathlib.Core.Option.{some}
+use mathlib.Core.Bool.{Bool, true, false, not, _&&_, _||_, cond}
 use native.Mathlib.Nat.{add-zero}
 use native.Mathlib.Omega.{arith}
 use borrow.Author.Tests.{eqb-true}
-use lib.Dec.{eqb}
+use lib.Dec.{eqb, leb}
 use lib.ListN.{length}
 use Rattle.settings.specs.declared.Settings.{Settings}
 use Rattle.settings.specs.declared.PacketAt.{PacketAt}
@@ -20,11 +19,11 @@ use Rattle.record.specs.declared.Record.{Record}
 use Rattle.record.specs.declared.Record.the-variants.{RowAt, ColAt, DataOf}
 use Rattle.spec_rules.specs.declared.Write.{Write}
 use Rattle.spec_rules.specs.declared.Buffer.{Buffer}
-use Rattle.spec_rules.specs.declared.Buffer.the-variants.{Empty, One}
+use Rattle.spec_rules.specs.declared.Buffer.the-variants.{Empty, One, Two}
 use Rattle.spec_rules.specs.declared.Channel.{Channel}
 use Rattle.spec_rules.specs.Neighbour.{bankCount, contextOf, near}
-use Rattle.spec_rules.specs.Packets.{traits, rowTraits, colTraits, retireTraits}
-use Rattle.spec_rules.specs.History.{first, onlyWrite, leaving}
+use Rattle.spec_rules.specs.Packets.{Traits, traits, rowTraits, colTraits, retireTraits}
+use Rattle.spec_rules.specs.Rules.{stays}
 use Rattle.spec_rules.specs.Distances.{Kind, ACT, onlyACT, PRER, RD, retire, distances}
 use Rattle.spec_rules.specs.Channel.{trackOf, waitingOf}
 use Rattle.spec_rules.specs.Checks.{since, lastAt, boundBanks, bounds}
@@ -36,11 +35,11 @@ use Rattle.chan_view.specs.declared.Seen.the-variants.{Packet, Data}
 use Rattle.chan_view.specs.declared.Held.{Held}
 use Rattle.chan_view.specs.form.Beside.{lowOf, highOf, tracksOf}
 use Rattle.chan_view.specs.form.Bounds.{boundIf, three}
-use Rattle.chan_view.specs.form.View.{rowView, colView, seenOf, heldOf, leaves}
+use Rattle.chan_view.specs.form.View.{rowView, colView, seenOf, heldOf, staysBy}
 use Rattle.chan_view.proofs.BoundLaws.{near-bound, own-bound, since-max}
-use Rattle.chan_view.proofs.ViewLaws.{seen-shows, leaving-is}
+use Rattle.chan_view.proofs.ViewLaws.{Shows, seen-shows, stays-is}
 use Rattle.chan_judge.specs.form.Tests.{actOver}
-use Rattle.chan_least.specs.form.Least.{onRow, onCol, openBound, closeBound, readBound, writeBound, nocopBound, retireBound, packetBound, leastBy}
+use Rattle.chan_least.specs.form.Least.{onRow, onCol, openBound, closeBound, readBound, writeBound, nocopBound, retireBound, packetBound, leavesFrom, leastBy}
 
 -- no distance asks the earlier instant itself
 since-zero : (n : ℕ) → since n 0 ≡ n
@@ -63,7 +62,7 @@ module _ (s : Settings) (ch : Channel) (e : length (ch .banks) ≡ 32) where
       ≡ since (max (max (lastAt (trackOf ch b) a) (lastAt (trackOf ch (lowOf s b)) a)) (lastAt (trackOf ch (highOf s b)) a)) gap
   near-latest a gap b = near-bound s ch e a gap b ∙ three-since (lastAt (trackOf ch b) a) (lastAt (trackOf ch (lowOf s b)) a) (lastAt (trackOf ch (highOf s b)) a) gap
 
-  abbrev boundsBy : View → ℕ → ℕ
+  abbrev boundsBy : View → Held → ℕ
   boundsBy v w = packetBound s v (tracksOf s (ch .banks) (v .bank) w) (actOver s (ch .banks) (v .bank)) (ch .lasts)
 
   -- rules 5 and 7
@@ -94,21 +93,21 @@ module _ (s : Settings) (ch : Channel) (e : length (ch .banks) ≡ 32) where
   on-col : {x y : ℕ} → x ≡ y → max (since (ch .lasts .packet .0) 0) (max (since (ch .lasts .col .0) (s .cc)) x) ≡ onCol s (ch .lasts) y
   on-col q = ap₂ (λ (n m : ℕ). max n (max (since (ch .lasts .col .0) (s .cc)) m)) (since-zero (ch .lasts .packet .0)) q
 
-  row-bounds : (t : PacketAt) (p : RowPacket) (w : ℕ) → bounds (contextOf s) ch (rowTraits p) ≡ boundsBy (rowView t p) w
+  row-bounds : (t : PacketAt) (p : RowPacket) (w : Held) → bounds (contextOf s) ch (rowTraits p) ≡ boundsBy (rowView t p) w
   unfolding packetBound openBound closeBound rowView contextOf rowTraits
   row-bounds t (Act b row) w = act-bounds (contextOf s) ch b row ∙ on-row (open-asks b)
   row-bounds t (Prer b) w = prer-bounds (contextOf s) ch b ∙ on-row (close-asks b)
   row-bounds t (Refa b) w = refa-bounds (contextOf s) ch b ∙ on-row (open-asks b)
   row-bounds t (Refp b) w = prer-bounds (contextOf s) ch b ∙ on-row (close-asks b)
 
-  col-bounds : (t : PacketAt) (p : ColPacket) (w : ℕ) → bounds (contextOf s) ch (colTraits p) ≡ boundsBy (colView t p) w
+  col-bounds : (t : PacketAt) (p : ColPacket) (w : Held) → bounds (contextOf s) ch (colTraits p) ≡ boundsBy (colView t p) w
   unfolding packetBound readBound writeBound nocopBound colView contextOf
   col-bounds t (Nocop m) w = nocop-bounds (contextOf s) ch m ∙ on-col refl
   col-bounds t (Wr b c m) w = wr-bounds (contextOf s) ch b c m ∙ on-col (write-asks b)
   col-bounds t (Rd b c m) w = rd-bounds (contextOf s) ch b c m ∙ on-col (own-bound s ch e onlyACT (s .rcd) b)
 
   -- what the table asks of a packet
-  pub packet-bounds : (r : Record) (v : View) → seenOf r ≡ Packet v → (w : ℕ) → bounds (contextOf s) ch (traits r) ≡ boundsBy v w
+  pub packet-bounds : (r : Record) (v : View) → seenOf r ≡ Packet v → (w : Held) → bounds (contextOf s) ch (traits r) ≡ boundsBy v w
   unfolding seenOf traits
   packet-bounds (RowAt t p) v q w = let z : rowView t p ≡ v = cc in rw z at (row-bounds t p w)
   packet-bounds (ColAt t p) v q w = let z : colView t p ≡ v = cc in rw z at (col-bounds t p w)
@@ -124,20 +123,23 @@ module _ (s : Settings) (ch : Channel) (e : length (ch .banks) ≡ 32) where
   abbrev held : Held
   held = heldOf (ch .buffer) (ch .due)
 
-  slot-is : (r : Record) (v : View) (free : ℕ) (b : Buffer) → let h = heldOf b (ch .due) in
-      slotFrom (contextOf s) ch r free (onlyWrite (leaves s h v) (first (waitingOf b))) ≡ cond (leaves s h v) (max free (retireBound s (h .at) (trackOf ch (h .bank) .act))) free
-  unfolding heldOf waitingOf contextOf
-  slot-is r v free Empty = refl
-  slot-is r v free (One w) = go (v .other)
-    where
-      go : (u : Bool) → slotFrom (contextOf s) ch r free (onlyWrite u (some w)) ≡ cond u (max free (retireBound s (w .at) (trackOf ch (w .bank) .act))) free
-      go true = ap (max free) (retire-asks w)
-      go false = refl
+  module _ (r : Record) (v : View) (shows : Shows r v) (free : ℕ) where
+    -- whether the older write leaves, at n after its WR
+    leaves-is : (b : Buffer) (n : ℕ)
+        → (traits r .notRead && (not (stays (waitingOf b) (traits r)) || leb n free)) ≡ (v .other && (not (staysBy (heldOf b (ch .due)) v) || leb n free))
+    leaves-is b n = ap₂ (λ (x y : Bool). x && (not y || leb n free)) (ap (λ (k : Traits). k .notRead) (shows .traits-of)) (stays-is s b (ch .due) r v shows)
+
+    slot-is : (b : Buffer) → let h = heldOf b (ch .due) in
+        slotFrom (contextOf s) ch r free (waitingOf b) ≡ cond (leavesFrom s h v free) (max free (retireBound s (h .at) (trackOf ch (h .bank) .act))) free
+    unfolding heldOf waitingOf contextOf
+    slot-is Empty = refl
+    slot-is (One x) = ap₂ (λ (c : Bool) (n : ℕ). cond c (max free n) free) (leaves-is (One x) (x .at .0 + s .rtr)) (retire-asks x)
+    slot-is (Two x y) = ap₂ (λ (c : Bool) (n : ℕ). cond c (max free n) free) (leaves-is (Two x y) (x .at .0 + s .rtr)) (retire-asks x)
 
   -- ---- the least instant
 
   -- rule 5's bound is not asked of a packet that opens no bank
-  act-unused : (v : View) (w a : ℕ) → let k = tracksOf s (ch .banks) (v .bank) w in packetBound s v k (boundIf (v .opens) a) (ch .lasts) ≡ packetBound s v k a (ch .lasts)
+  act-unused : (v : View) (w : Held) (a : ℕ) → let k = tracksOf s (ch .banks) (v .bank) w in packetBound s v k (boundIf (v .opens) a) (ch .lasts) ≡ packetBound s v k a (ch .lasts)
   unfolding packetBound
   act-unused v w a = go (v .opens) refl
     where
@@ -147,15 +149,20 @@ module _ (s : Settings) (ch : Channel) (e : length (ch .banks) ≡ 32) where
       go false q = rw q
 
   pub least-packet : (r : Record) (v : View) → seenOf r ≡ Packet v → (now : ℕ)
-      → leastBy s v held (tracksOf s (ch .banks) (v .bank) (held .bank)) (boundIf (v .opens) (actOver s (ch .banks) (v .bank))) (ch .lasts) now ≡ leastFrom (contextOf s) ch r now
+      → leastBy s v held (tracksOf s (ch .banks) (v .bank) held) (boundIf (v .opens) (actOver s (ch .banks) (v .bank))) (ch .lasts) now ≡ leastFrom (contextOf s) ch r now
   unfolding leastBy leastFrom earliest
   least-packet r v q now =
       let a : ℕ = actOver s (ch .banks) (v .bank) in
-      rw (act-unused v (held .bank) a, ← packet-bounds r v q (held .bank), leaving-is s (ch .buffer) (ch .due) r v (seen-shows r v q))
-      (sym (slot-is r v (max now (max 4 (bounds (contextOf s) ch (traits r)))) (ch .buffer)))
+      rw (act-unused v held a, ← packet-bounds r v q held)
+      (sym (slot-is r v (seen-shows r v q) (max now (max 4 (bounds (contextOf s) ch (traits r)))) (ch .buffer)))
 
   pub least-data : (r : Record) (t : DataAt) → seenOf r ≡ Data t → (now : ℕ) → max now 4 ≡ leastFrom (contextOf s) ch r now
-  unfolding leastFrom earliest seenOf bounds traits distances leaving
+  unfolding leastFrom earliest seenOf bounds traits distances waitingOf
   least-data (RowAt u p) t q now = absurd (let z : _≡_ {A = ℕ} 0 1 = cc in omega arith)
   least-data (ColAt u p) t q now = absurd (let z : _≡_ {A = ℕ} 0 1 = cc in omega arith)
-  least-data (DataOf u d) t q now = refl
+  least-data (DataOf u d) t q now = go (ch .buffer) (max now 4)
+    where
+      go : (b : Buffer) (free : ℕ) → free ≡ slotFrom (contextOf s) ch (DataOf u d) free (waitingOf b)
+      go Empty free = refl
+      go (One x) free = refl
+      go (Two x y) free = refl

@@ -2,7 +2,7 @@
 -- where it passes, a record breaks no rule, and just there where tRR is not above tRC.
 -- Assumes nothing.
 use Prim.Native.Nat.{ℕ, zero, suc, _+_, _≤_, _<_, max}
-use mathlib.Core.Path.{_≡_, refl, ap, _∙_, sym}
+use mathlib.Core.Path.{_≡_, refl, ap, ap₂, _∙_, sym}
 use mathlib.Core.Bool.{Bool, true, false, not, _&&_, cond}
 use native.Mathlib.Nat.{le-antisymm}
 use native.Mathlib.Omega.{arith}
@@ -41,7 +41,7 @@ use Rattle.chan_step.specs.form.Lasts.{retiresBy}
 use Rattle.chan_judge.specs.form.Tests.{actTerm, actOver}
 use Rattle.chan_judge.proofs.JudgeLaws.{judged-data}
 use Rattle.chan_least.specs.form.Least.{openBound, openedNear, preNear, rdNear, retireNear}
-use Rattle.chan_least.specs.form.Quick.{actBy, closedNear, loses, opensWell, closesWell, readsWell, writesWell, leavesWell, rowWell, colWell, recordWell}
+use Rattle.chan_least.specs.form.Quick.{actBy, closedNear, loses, losesNone, opensWell, closesWell, readsWell, writesWell, leavesWell, rowWell, colWell, recordWell}
 use Rattle.chan_least.proofs.LeastLaws.{near-latest}
 use Rattle.chan_least.proofs.QuickLaws.{packet-well}
 
@@ -50,6 +50,7 @@ use Rattle.chan_least.proofs.QuickLaws.{packet-well}
 pub record Alike (h : Held) (k j : Tracks) : Type 0 where
   pub same-own : k .own ≡ j .own
   pub same-held : h .waits ≡ true → k .held ≡ j .held
+  pub same-next : h .two ≡ true → k .next ≡ j .next
   pub closed : closedNear k ≡ closedNear j
   pub opened : openedNear k ≡ openedNear j
   pub pre : preNear k ≡ preNear j
@@ -57,18 +58,18 @@ pub record Alike (h : Held) (k j : Tracks) : Type 0 where
   pub retire : retireNear k ≡ retireNear j
 
 module _ (s : Settings) (h : Held) (k j : Tracks) (a : Alike h k j) where
-  loses-same : (b : ℕ) → loses s b h k ≡ loses s b h j
-  loses-same b = go (h .waits) refl
+  loses-same : (b : ℕ) → losesNone s b h k ≡ losesNone s b h j
+  loses-same b = ap₂ (λ (x y : Bool). not x && not y) (go (h .waits) (h .bank) (k .held) (j .held) (a .same-held)) (go (h .two) (h .next) (k .next) (j .next) (a .same-next))
     where
-      go : (u : Bool) → h .waits ≡ u → u && (near (contextOf s) b (h .bank) && not (isClosed (k .held .bank))) ≡ u && (near (contextOf s) b (h .bank) && not (isClosed (j .held .bank)))
-      go true q = rw (a .same-held q)
-      go false q = refl
+      go : (u : Bool) (x : ℕ) (i n : BankTrack) → (u ≡ true → i ≡ n) → loses s b u x i ≡ loses s b u x n
+      go true x i n q = rw (q refl)
+      go false x i n q = refl
 
-  leaves-same : (t : PacketAt) (m : ℕ) (other : Bool) → leavesWell s t k h m (h .waits && other) ≡ leavesWell s t j h m (h .waits && other)
+  leaves-same : (t : PacketAt) (stays : Bool) (m : ℕ) (passed : Bool) → leavesWell s t k stays m (h .waits && passed) ≡ leavesWell s t j stays m (h .waits && passed)
   unfolding leavesWell
-  leaves-same t m other = go (h .waits) refl
+  leaves-same t stays m passed = go (h .waits) refl
     where
-      go : (u : Bool) → h .waits ≡ u → leavesWell s t k h m (u && other) ≡ leavesWell s t j h m (u && other)
+      go : (u : Bool) → h .waits ≡ u → leavesWell s t k stays m (u && passed) ≡ leavesWell s t j stays m (u && passed)
       go true q = rw (a .same-held q)
       go false q = refl
 
@@ -78,12 +79,12 @@ module _ (s : Settings) (h : Held) (k j : Tracks) (a : Alike h k j) where
   well-alike (RowAt t (Prer b)) l act = rw (loses-same b, a .opened, a .rd, a .retire)
   well-alike (RowAt t (Refa b)) l act = rw (a .closed, a .pre)
   well-alike (RowAt t (Refp b)) l act = rw (loses-same b, a .opened, a .rd, a .retire)
-  well-alike (ColAt t (Nocop m)) l act = rw (leaves-same t m true)
-  well-alike (ColAt t (Wr b c m)) l act = rw (leaves-same t m true, a .same-own)
+  well-alike (ColAt t (Nocop m)) l act = rw (leaves-same t (not (h .waits)) m (leb (h .at .0 + s .rtr) (t .0)))
+  well-alike (ColAt t (Wr b c m)) l act = rw (leaves-same t (not (h .two)) m (leb (h .at .0 + s .rtr) (t .0)), a .same-own)
   well-alike (ColAt t (Rd b c m)) l act = rw (a .same-own)
   well-alike (DataOf t d) l act = refl
 
--- ---- the tracks at the indices of a bank, of the first and the last near it, and of the waiting write's bank
+-- ---- the tracks at the indices of a bank, of the first and the last near it, and of the waiting writes' banks
 
 pub record Met (s : Settings) (ch : Channel) (b : ℕ) (k : Tracks) : Type 0 where
   pub size : length (ch .banks) ≡ 32
@@ -91,6 +92,7 @@ pub record Met (s : Settings) (ch : Channel) (b : ℕ) (k : Tracks) : Type 0 whe
   pub at-low : k .low ≡ trackOf ch (firstNear s b)
   pub at-high : k .high ≡ trackOf ch (lastNear s b)
   pub at-held : heldOf (ch .buffer) (ch .due) .waits ≡ true → k .held ≡ trackOf ch (heldOf (ch .buffer) (ch .due) .bank)
+  pub at-next : heldOf (ch .buffer) (ch .due) .two ≡ true → k .next ≡ trackOf ch (heldOf (ch .buffer) (ch .due) .next)
 
 -- a bank that is asked twice
 twice-low : (x y : Bool) → x && (x && y) ≡ x && (true && y)
@@ -106,7 +108,7 @@ module _ (s : Settings) (ch : Channel) (b : ℕ) (k : Tracks) (m : Met s ch b k)
   held = heldOf (ch .buffer) (ch .due)
 
   abbrev around : Tracks
-  around = tracksOf s (ch .banks) b (held .bank)
+  around = tracksOf s (ch .banks) b held
 
   abbrev shut : ℕ → Bool
   shut x = isClosed (trackOf ch x .bank)
@@ -135,6 +137,7 @@ module _ (s : Settings) (ch : Channel) (b : ℕ) (k : Tracks) (m : Met s ch b k)
       record {
         same-own = m .at-own;
         same-held = m .at-held;
+        same-next = m .at-next;
         closed = rw (m .at-own, m .at-low, m .at-high) near-closed;
         opened = latest-same (λ x. x .opened) refl;
         pre = latest-same (λ x. x .pre) refl;

@@ -21,6 +21,8 @@ use Rattle.record.specs.declared.Record.the-variants.{RowAt, ColAt, DataOf}
 use Rattle.spec_rules.specs.declared.Bank.{Bank}
 use Rattle.spec_rules.specs.declared.LastInstants.{LastInstants}
 use Rattle.spec_rules.specs.declared.Bank.the-variants.{Closed, Open, Refresh}
+use Rattle.spec_rules.specs.declared.Buffer.{Buffer}
+use Rattle.spec_rules.specs.declared.Buffer.the-variants.{Empty, One, Two}
 use Rattle.spec_rules.specs.declared.Channel.{Channel}
 use Rattle.spec_rules.specs.Neighbour.{contextOf}
 use Rattle.spec_rules.specs.History.{isOpen}
@@ -37,8 +39,8 @@ use Rattle.chan_step.specs.form.Lasts.{retiresBy}
 use Rattle.chan_judge.specs.form.Tests.{actOver, inTime, pinTests, rowTests, colTests, bufferTests, packetRule}
 use Rattle.chan_judge.proofs.ArrivalLaws.{arrives-in-time}
 use Rattle.chan_judge.proofs.JudgeLaws.{judged-packet}
-use Rattle.chan_least.specs.form.Least.{openBound, closeBound, readBound, writeBound, nocopBound, retireBound, openedNear, preNear, rdNear, retireNear}
-use Rattle.chan_least.specs.form.Quick.{closedNear, loses, opensWell, closesWell, readsWell, writesWell, leavesWell, rowWell, colWell, recordWell}
+use Rattle.chan_least.specs.form.Least.{openBound, closeBound, readBound, writeBound, nocopBound, openedNear, preNear, rdNear, retireNear}
+use Rattle.chan_least.specs.form.Quick.{closedNear, losesNone, opensWell, closesWell, readsWell, writesWell, leavesWell, rowWell, colWell, recordWell}
 use Rattle.chan_least.proofs.LeastLaws.{three-since}
 
 -- ---- data that come in time, and late
@@ -70,6 +72,19 @@ kept-write true false c = refl
 kept-write true true true = refl
 kept-write true true false = refl
 
+-- rule 12: who may leave the waiting writes
+stays-free : (two waits : Bool) → cond two true (not waits || true) ≡ true
+stays-free true waits = refl
+stays-free false waits = or-true (not waits)
+
+stays-one : (two waits : Bool) → cond two false (not waits || true) ≡ not two
+stays-one true waits = refl
+stays-one false waits = or-true (not waits)
+
+stays-none : (two waits : Bool) → (two ≡ true → waits ≡ true) → cond two false (not waits || false) ≡ not waits
+stays-none true waits e = rw (e refl)
+stays-none false waits e = or-false (not waits)
+
 -- i, d: in range, no data due; p, r: what the pins ask; the others in the order of their rules
 open-shuffle : (i p r c a q d : Bool) → (i && p) && (r && (c && (a && (q && (d && true))))) ≡ (i && d) && (c && (p && (r && (a && q))))
 open-shuffle i p r c a q d = simp (and-true, and-assoc, and-comm, and-left-comm)
@@ -77,8 +92,8 @@ open-shuffle i p r c a q d = simp (and-true, and-assoc, and-comm, and-left-comm)
 close-shuffle : (i p r o e x y z d : Bool) → (i && p) && (r && (o && (e && ((x && y) && (z && (d && true)))))) ≡ (i && d) && (z && (p && (r && (o && (e && (x && y))))))
 close-shuffle i p r o e x y z d = simp (and-true, and-assoc, and-comm, and-left-comm)
 
-read-shuffle : (i y p r o a d m : Bool) → (i && (y && p)) && (r && (o && (a && (d && m)))) ≡ (i && d) && (y && (m && (o && (p && (r && a)))))
-read-shuffle i y p r o a d m = simp (and-assoc, and-comm, and-left-comm)
+read-shuffle : (i y p r o a w d m : Bool) → (i && (y && p)) && (r && (o && (a && (w && (d && m))))) ≡ (i && d) && (w && (y && (m && (o && (p && (r && a))))))
+read-shuffle i y p r o a w d m = simp (and-assoc, and-comm, and-left-comm)
 
 nocop-shuffle : (i p r o a w d m : Bool) → (i && p) && (r && (o && (a && (w && (d && m))))) ≡ (i && d) && ((o && (a && (w && m))) && (p && r))
 nocop-shuffle i p r o a w d m = simp (and-assoc, and-comm, and-left-comm)
@@ -87,11 +102,10 @@ write-shuffle : (i y p r b o a c e w d m : Bool)
     → (i && (y && p)) && (r && ((b && o) && ((a && c) && (e && (w && (d && m)))))) ≡ (i && d) && ((o && (a && (w && m))) && (y && (b && (p && (r && (c && e))))))
 write-shuffle i y p r b o a c e w d m = simp (and-assoc, and-comm, and-left-comm)
 
--- rules 9, 10, 12 and 16 of what leaves: out = it does, o = its bank is open, m = M is 0
-leaves-part : (out o m : Bool) (act at n : ℕ)
-    → (not out || o) && (leb (cond out act 0) n && ((not out || leb at n) && (m || out))) ≡ cond out (o && (leb at n && leb act n)) m
-leaves-part true o m act at n = rw (or-true m, and-true (leb at n)) (ap (λ (b : Bool). o && b) (and-comm (leb act n) (leb at n)))
-leaves-part false o m act at n = rw (leb·zero n) (or-false m)
+-- rules 9, 10, 12 and 16 of what leaves: out = it does, o = its bank is open, w = it need not, m = M is 0
+leaves-part : (out o w m : Bool) (act n : ℕ) → (not out || o) && (leb (cond out act 0) n && ((out || w) && (m || out))) ≡ cond out (o && leb act n) (w && m)
+leaves-part true o w m act n = rw (or-true m, and-true (leb act n))
+leaves-part false o w m act n = rw (leb·zero n, or-false m)
 
 module _ (s : Settings) (t : PacketAt) (h : Held) (k : Tracks) (act : ℕ) (l : LastInstants) where
   -- no rule is found
@@ -112,56 +126,71 @@ module _ (s : Settings) (t : PacketAt) (h : Held) (k : Tracks) (act : ℕ) (l : 
   unfolding packetRule pinTests rowTests colTests bufferTests opensWell openBound
   open-well b state acts =
       lowest-every 0 _
-      ∙ simp (leb·zero, and-false, three-since, leb-max)
+      ∙ simp (leb·zero, and-false, three-since, leb-max, stays-free)
       (open-shuffle (isInstant (t .0)) (kept (l .packet .0)) (kept (since (l .row .0) 4)) (closedNear k) (kept act) (kept (since (preNear k .0) (s .rp))) (not (h .due)))
 
   close-well : (b : ℕ) → none-found (rowTo t b Closed false false true) ≡ comes-well && closesWell s t k l b h
   unfolding packetRule pinTests rowTests colTests bufferTests closesWell closeBound
   close-well b =
       lowest-every 0 _
-      ∙ simp (leb·zero, and-false, three-since, leb-max, kept-write)
+      ∙ simp (leb·zero, and-false, three-since, leb-max, kept-write, stays-free)
       (close-shuffle (isInstant (t .0)) (kept (l .packet .0)) (kept (since (l .row .0) 4)) (kept (since (openedNear k .0) (s .ras))) (kept (since (l .pre .0) (s .pp)))
-      (kept (since (rdNear k .0) (s .rdp))) (kept (since (retireNear k .0) (s .rtp))) (not (loses s b h k)) (not (h .due)))
+      (kept (since (rdNear k .0) (s .rdp))) (kept (since (retireNear k .0) (s .rtp))) (losesNone s b h k) (not (h .due)))
 
-  read-well : (b c m : ℕ) → none-found (colTo t b c true false false m) ≡ comes-well && readsWell s t k l m
+  read-well : (b c m : ℕ) → none-found (colTo t b c true false false m) ≡ comes-well && (not (h .two) && readsWell s t k l m)
   unfolding packetRule pinTests rowTests colTests bufferTests readsWell readBound
   read-well b c m =
       lowest-every 0 _
-      ∙ simp (leb·zero, and-false, leb-max, or-false, not-not, and-true)
-      (read-shuffle (isInstant (t .0)) (kept-data (s .cac)) (kept (l .packet .0)) (kept (since (l .col .0) (s .cc))) (isOpen (k .own .bank)) (kept (since (k .own .act .0) (s .rcd))) (not (h .due)) (eqb m 0xFFFF))
+      ∙ simp (leb·zero, and-false, leb-max, stays-one, or-false, not-not, and-true)
+      (read-shuffle (isInstant (t .0)) (kept-data (s .cac)) (kept (l .packet .0)) (kept (since (l .col .0) (s .cc))) (isOpen (k .own .bank)) (kept (since (k .own .act .0) (s .rcd))) (not (h .two)) (not (h .due)) (eqb m 0xFFFF))
 
   -- what leaves, as tests and as one
   abbrev out : Bool
-  out = h .waits
+  out = h .waits && kept (h .at .0 + s .rtr)
 
-  abbrev leaves-tests : ℕ → Bool
-  leaves-tests m = (not out || isOpen (k .held .bank)) && (kept (cond out (since (k .held .act .0) (s .rcd)) 0) && ((not out || kept (h .at .0 + s .rtr)) && (eqb m 0xFFFF || out)))
+  abbrev leaves-tests : Bool → ℕ → Bool
+  leaves-tests w m = (not out || isOpen (k .held .bank)) && (kept (cond out (since (k .held .act .0) (s .rcd)) 0) && ((out || w) && (eqb m 0xFFFF || out)))
 
-  leaves-are : (m : ℕ) → leaves-tests m ≡ leavesWell s t k h m out
-  unfolding leavesWell retireBound
-  leaves-are m = leaves-part out (isOpen (k .held .bank)) (eqb m 0xFFFF) (since (k .held .act .0) (s .rcd)) (h .at .0 + s .rtr) (t .0) ∙ simp leb-max
+  leaves-are : (w u : Bool) → w ≡ u → (m : ℕ) → leaves-tests w m ≡ leavesWell s t k u m out
+  unfolding leavesWell
+  leaves-are w u e m = leaves-part out (isOpen (k .held .bank)) w (eqb m 0xFFFF) (since (k .held .act .0) (s .rcd)) (t .0) ∙ rw e
 
-  nocop-well : (m : ℕ) → none-found (colTo t 0 0 false false true m) ≡ comes-well && (leavesWell s t k h m out && leb (nocopBound s l) (t .0))
+  -- what rule 12 has of a NOCOP and of a WR
+  abbrev nocop-stays : Bool
+  nocop-stays = cond (h .two) false (not (h .waits) || false)
+
+  abbrev write-stays : Bool
+  write-stays = cond (h .two) false (not (h .waits) || true)
+
+  nocop-well : (h .two ≡ true → h .waits ≡ true) → (m : ℕ)
+      → none-found (colTo t 0 0 false false true m) ≡ comes-well && (leavesWell s t k (not (h .waits)) m out && leb (nocopBound s l) (t .0))
   unfolding packetRule pinTests rowTests colTests bufferTests nocopBound
-  nocop-well m =
+  nocop-well e m =
       lowest-every 0 _
       ∙ simp (leb·zero, and-false, leb-max, and-true, not-not)
       (nocop-shuffle (isInstant (t .0)) (kept (l .packet .0)) (kept (since (l .col .0) (s .cc))) (not out || isOpen (k .held .bank)) (kept (cond out (since (k .held .act .0) (s .rcd)) 0))
-      (not out || kept (h .at .0 + s .rtr)) (not (h .due)) (eqb m 0xFFFF || out)
-      ∙ ap (λ (b : Bool). comes-well && (b && (kept (l .packet .0) && kept (since (l .col .0) (s .cc))))) (leaves-are m))
+      (out || nocop-stays) (not (h .due)) (eqb m 0xFFFF || out)
+      ∙ ap (λ (b : Bool). comes-well && (b && (kept (l .packet .0) && kept (since (l .col .0) (s .cc))))) (leaves-are nocop-stays (not (h .waits)) (stays-none (h .two) (h .waits) e) m))
 
-  write-well : (b c m : ℕ) → none-found (colTo t b c false true true m) ≡ comes-well && (leavesWell s t k h m out && writesWell s t k l)
+  write-well : (b c m : ℕ) → none-found (colTo t b c false true true m) ≡ comes-well && (leavesWell s t k (not (h .two)) m out && writesWell s t k l)
   unfolding packetRule pinTests rowTests colTests bufferTests writesWell writeBound
   write-well b c m =
       lowest-every 0 _
       ∙ simp (leb·zero, and-false, leb-max, and-true, not-not)
       (write-shuffle (isInstant (t .0)) (kept-data (s .cwd)) (kept (l .packet .0)) (kept (since (l .col .0) (s .cc))) (isOpen (k .own .bank)) (not out || isOpen (k .held .bank))
       (kept (cond out (since (k .held .act .0) (s .rcd)) 0)) (kept (since (k .own .act .0) (s .rcd - s .rtr))) (kept (since (l .rd .0) (s .cc + s .cac - s .cwd)))
-      (not out || kept (h .at .0 + s .rtr)) (not (h .due)) (eqb m 0xFFFF || out)
+      (out || write-stays) (not (h .due)) (eqb m 0xFFFF || out)
       ∙ ap (λ (b : Bool). comes-well && (b && (kept-data (s .cwd) && (isOpen (k .own .bank) && (kept (l .packet .0)
-      && (kept (since (l .col .0) (s .cc)) && (kept (since (k .own .act .0) (s .rcd - s .rtr)) && kept (since (l .rd .0) (s .cc + s .cac - s .cwd))))))))) (leaves-are m))
+      && (kept (since (l .col .0) (s .cc)) && (kept (since (k .own .act .0) (s .rcd - s .rtr)) && kept (since (l .rd .0) (s .cc + s .cac - s .cwd))))))))) (leaves-are write-stays (not (h .two)) (stays-one (h .two) (h .waits)) m))
 
 -- ---- a record, in a state
+
+-- where two writes wait, one does
+two-wait : (b : Buffer) (due : Bool) → heldOf b due .two ≡ true → heldOf b due .waits ≡ true
+unfolding heldOf
+two-wait Empty due e = e
+two-wait (One x) due e = refl
+two-wait (Two x y) due e = refl
 
 module _ (s : Settings) (ch : Channel) (e : length (ch .banks) ≡ 32) where
   abbrev buffered : Held
@@ -169,10 +198,10 @@ module _ (s : Settings) (ch : Channel) (e : length (ch .banks) ≡ 32) where
 
   -- by the tracks of a bank and its neighbours, and what rule 5 asks
   abbrev wellAt : Record → ℕ → Bool
-  wellAt r b = recordWell s r buffered (tracksOf s (ch .banks) b (buffered .bank)) (ch .lasts) (actOver s (ch .banks) b)
+  wellAt r b = recordWell s r buffered (tracksOf s (ch .banks) b buffered) (ch .lasts) (actOver s (ch .banks) b)
 
   judged-none : (r : Record) (v : View) → seenOf r ≡ Packet v
-      → eqb (judged (contextOf s) ch r) 0 ≡ eqb (packetRule s v buffered (tracksOf s (ch .banks) (v .bank) (buffered .bank)) (actOver s (ch .banks) (v .bank)) (ch .lasts)) 0
+      → eqb (judged (contextOf s) ch r) 0 ≡ eqb (packetRule s v buffered (tracksOf s (ch .banks) (v .bank) buffered) (actOver s (ch .banks) (v .bank)) (ch .lasts)) 0
   judged-none r v q = ap (λ (n : ℕ). eqb n 0) (sym (judged-packet s ch r e v q))
 
   row-well : (t : PacketAt) (p : RowPacket) → eqb (judged (contextOf s) ch (RowAt t p)) 0 ≡ wellAt (RowAt t p) (rowView t p .bank)
@@ -184,8 +213,8 @@ module _ (s : Settings) (ch : Channel) (e : length (ch .banks) ≡ 32) where
 
   col-well : (t : PacketAt) (p : ColPacket) → eqb (judged (contextOf s) ch (ColAt t p)) 0 ≡ wellAt (ColAt t p) (colView t p .bank)
   unfolding seenOf colView recordWell colWell retiresBy
-  col-well t (Nocop m) = rw (and-true (buffered .waits)) (judged-none (ColAt t (Nocop m)) _ refl ∙ nocop-well s t buffered _ _ (ch .lasts) m)
-  col-well t (Wr b c m) = rw (and-true (buffered .waits)) (judged-none (ColAt t (Wr b c m)) _ refl ∙ write-well s t buffered _ _ (ch .lasts) b c m)
+  col-well t (Nocop m) = judged-none (ColAt t (Nocop m)) _ refl ∙ nocop-well s t buffered _ _ (ch .lasts) (two-wait (ch .buffer) (ch .due)) m
+  col-well t (Wr b c m) = judged-none (ColAt t (Wr b c m)) _ refl ∙ write-well s t buffered _ _ (ch .lasts) b c m
   col-well t (Rd b c m) = judged-none (ColAt t (Rd b c m)) _ refl ∙ read-well s t buffered _ _ (ch .lasts) b c m
 
   -- exactly where a record breaks no rule

@@ -8,7 +8,7 @@ ghost use Rattle.spec_rules.specs.Earliest.{leastFrom};
 ghost use Rattle.chan_view.specs.form.Beside.{tracksOf};
 ghost use Rattle.chan_view.specs.form.Bounds.{boundIf};
 ghost use Rattle.chan_judge.specs.form.Tests.{actOver};
-ghost use Rattle.chan_least.specs.form.Least.{packetBound, leastBy};
+ghost use Rattle.chan_least.specs.form.Least.{packetBound, leavesFrom, leastBy};
 use crate::bounds::close_bound;
 use crate::bounds::latest_of;
 use crate::bounds::nocop_bound;
@@ -27,8 +27,8 @@ use chan_view::bounds::later;
 use chan_view::neighbours::high_of;
 use chan_view::neighbours::low_of;
 use chan_view::views::held_of;
-use chan_view::views::leaving;
 use chan_view::views::seen_of;
+use chan_view::views::stays;
 use record::Record;
 use settings::PacketAt;
 use settings::Settings;
@@ -58,6 +58,14 @@ fn packet_bound(s: Settings, v: View, k: Tracks, act: u64, l: LastInstants) -> u
     nocop_bound(s, l)
 }
 
+// Whether a packet that is free to come from an instant on retires the older write: tRTR has passed there, or it may not leave it.
+fn leaves_from(s: Settings, h: Held, v: View, free: u64) -> bool
+    ensures { λ r. ⌜ r ≡ leavesFrom s h v free ⌝ }
+{
+    let passed = num::wide32(h.at.0) + num::wide32(s.rtr) <= free;
+    h.waits & (v.other & (!stays(h, v) | passed))
+}
+
 // The least instant of a packet from now on, from the tracks of the banks that it concerns.
 fn least_by(
     s: Settings,
@@ -71,7 +79,7 @@ fn least_by(
     ensures { λ t. ⌜ t ≡ leastBy s v h k act l (now .0) ⌝ }
 {
     let free = later(num::wide32(now.0), later(4, packet_bound(s, v, k, act, l)));
-    if leaving(s, h, v) {
+    if leaves_from(s, h, v, free) {
         return later(free, retire_bound(s, h.at, k.held.act));
     }
     free
@@ -87,15 +95,16 @@ fn act_in(s: Settings, opens: bool, banks: [BankTrack; 32], b: u32) -> u64
     0
 }
 
-// The tracks of a bank, of its neighbours and of the waiting write's bank.
-fn tracks_in(s: Settings, banks: [BankTrack; 32], b: u32, w: u32) -> Tracks
-    ensures { λ k. ⌜ k ≡ tracksOf s banks b w ⌝ }
+// The tracks of a bank, of its neighbours and of the waiting writes' banks.
+fn tracks_in(s: Settings, banks: [BankTrack; 32], b: u32, h: Held) -> Tracks
+    ensures { λ k. ⌜ k ≡ tracksOf s banks b h ⌝ }
 {
     let i = slot_of(b);
     let j = slot_of(low_of(s, b));
     let n = slot_of(high_of(s, b));
-    let m = slot_of(w);
-    around(s, b, w, banks[i], banks[j], banks[n], banks[m])
+    let m = slot_of(h.bank);
+    let o = slot_of(h.next);
+    around(s, b, h, banks[i], banks[j], banks[n], banks[m], banks[o])
 }
 
 // The least instant of a record from now on that the rules allow in a state.
@@ -108,7 +117,7 @@ pub fn least_from(s: Settings, ch: Channel, r: Record, now: PacketAt) -> u64
     let buffer = ch.buffer;
     let banks = ch.banks;
     let h = held_of(buffer, ch.due);
-    let k = tracks_in(s, banks, v.bank, h.bank);
+    let k = tracks_in(s, banks, v.bank, h);
     let act = act_in(s, v.opens, banks, v.bank);
     least_by(s, v, h, k, act, ch.lasts, now)
 }

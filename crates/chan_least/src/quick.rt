@@ -6,7 +6,6 @@ use crate::bounds::latest_of;
 use crate::bounds::nocop_bound;
 use crate::bounds::open_bound;
 use crate::bounds::read_bound;
-use crate::bounds::retire_bound;
 use crate::bounds::write_bound;
 use chan_judge::data_rule;
 use chan_judge::tests::in_range;
@@ -27,6 +26,7 @@ use record::Record;
 use settings::Arrival;
 use settings::PacketAt;
 use settings::Settings;
+use spec_rules::BankTrack;
 use spec_rules::LastInstants;
 
 // What rule 5 asks at most, where no bank was opened after newest.
@@ -46,12 +46,11 @@ fn closed_near(k: Tracks) -> bool
     is_closed(own) & (is_closed(low) & is_closed(high))
 }
 
-// Whether a PRER or REFP to bank b loses the waiting write.
-fn loses(s: Settings, b: u32, h: Held, k: Tracks) -> bool
-    ensures { λ r. ⌜ r ≡ loses s b h k ⌝ }
+// Whether a PRER or REFP to bank b loses a write to bank x, where one waits.
+fn loses(s: Settings, b: u32, waits: bool, x: u32, k: BankTrack) -> bool
+    ensures { λ r. ⌜ r ≡ loses s b waits x k ⌝ }
 {
-    let held = k.held;
-    h.waits & (is_near(s, b, h.bank) & !is_closed(held))
+    waits & (is_near(s, b, x) & !is_closed(k))
 }
 
 // ACT and REFA; act is what rule 5 asks.
@@ -69,7 +68,10 @@ fn closes_well(s: Settings, at: PacketAt, k: Tracks, l: LastInstants, b: u32, h:
     let opened = latest_of(k.own.opened, k.low.opened, k.high.opened);
     let rd = latest_of(k.own.rd, k.low.rd, k.high.rd);
     let retire = latest_of(k.own.retire, k.low.retire, k.high.retire);
-    !loses(s, b, h, k) & (close_bound(s, l, opened, rd, retire) <= num::wide32(at.0))
+    let held = k.held;
+    let next = k.next;
+    let safe = !loses(s, b, h.waits, h.bank, held) & !loses(s, b, h.two, h.next, next);
+    safe & (close_bound(s, l, opened, rd, retire) <= num::wide32(at.0))
 }
 
 // RD with this mask.
@@ -95,15 +97,15 @@ fn writes_well(s: Settings, at: PacketAt, k: Tracks, l: LastInstants) -> bool
     }
 }
 
-// What a COL packet with this mask retires, if it does.
-fn leaves_well(s: Settings, at: PacketAt, k: Tracks, h: Held, mask: u32, out: bool) -> bool
-    ensures { λ r. ⌜ r ≡ leavesWell s at k h mask out ⌝ }
+// What a COL packet with this mask retires, if it does; stays says whether it may leave the waiting writes.
+fn leaves_well(s: Settings, at: PacketAt, k: Tracks, stays: bool, mask: u32, out: bool) -> bool
+    ensures { λ r. ⌜ r ≡ leavesWell s at k stays mask out ⌝ }
 {
     if out {
         let held = k.held;
-        return is_open(held) & (retire_bound(s, h.at, held.act) <= num::wide32(at.0));
+        return is_open(held) & (after_gap(held.act, s.rcd) <= num::wide32(at.0));
     }
-    mask == FULL
+    stays & (mask == FULL)
 }
 
 fn row_well(
@@ -125,7 +127,7 @@ fn row_well(
     }
 }
 
-// out says whether the packet retires the waiting write.
+// out says whether the packet retires the older write. A NOCOP may leave none, a WR one; no RD comes where two wait.
 fn col_well(
     s: Settings,
     at: PacketAt,
@@ -138,18 +140,18 @@ fn col_well(
     ensures { λ r. ⌜ r ≡ colWell s at p h k l out ⌝ }
 {
     match p {
-        ColPacket::Nocop { mask } => leaves_well(s, at, k, h, mask, out)
+        ColPacket::Nocop { mask } => leaves_well(s, at, k, !h.waits, mask, out)
             & (nocop_bound(s, l) <= num::wide32(at.0)),
         ColPacket::Wr {
             bank: _,
             column: _,
             mask,
-        } => leaves_well(s, at, k, h, mask, out) & writes_well(s, at, k, l),
+        } => leaves_well(s, at, k, !h.two, mask, out) & writes_well(s, at, k, l),
         ColPacket::Rd {
             bank: _,
             column: _,
             mask,
-        } => reads_well(s, at, k, l, mask),
+        } => !h.two & reads_well(s, at, k, l, mask),
     }
 }
 

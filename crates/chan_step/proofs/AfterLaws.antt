@@ -1,11 +1,12 @@
 -- The state after a record, part by part: banks, last instants, write buffer, and whether data are due.
 -- Assumes nothing.
-use Prim.Native.Nat.{ℕ}
-use mathlib.Core.Path.{_≡_, refl, ap, _∙_}
-use mathlib.Core.Bool.{Bool, true, false, and-false}
+use Prim.Native.Nat.{ℕ, _+_}
+use mathlib.Core.Path.{_≡_, refl, ap, sym, _∙_}
+use mathlib.Core.Bool.{Bool, true, false, _&&_, and-false}
 use mathlib.Core.List.{List}
 use mathlib.Core.Option.{Option}
 use native.Mathlib.Omega.{arith}
+use lib.Dec.{leb}
 use lib.ListN.{length}
 use Rattle.settings.specs.declared.Settings.{Settings}
 use Rattle.settings.specs.declared.PacketAt.{PacketAt}
@@ -20,11 +21,11 @@ use Rattle.spec_rules.specs.declared.BankTrack.{BankTrack}
 use Rattle.spec_rules.specs.declared.LastInstants.{LastInstants}
 use Rattle.spec_rules.specs.declared.Write.{Write}
 use Rattle.spec_rules.specs.declared.Buffer.{Buffer}
-use Rattle.spec_rules.specs.declared.Buffer.the-variants.{Empty, One}
+use Rattle.spec_rules.specs.declared.Buffer.the-variants.{Empty, One, Two}
 use Rattle.spec_rules.specs.declared.Channel.{Channel}
 use Rattle.spec_rules.specs.Neighbour.{contextOf}
 use Rattle.spec_rules.specs.Packets.{traits, rowTraits, colTraits, instant}
-use Rattle.spec_rules.specs.History.{first, rest, onlyWrite, loads}
+use Rattle.spec_rules.specs.History.{first, onlyWrite, loads}
 use Rattle.spec_rules.specs.Channel.{waitingOf, bufferOf, afterPacket, afterRetire, afterData, after}
 use Rattle.chan_view.specs.declared.View.{View}
 use Rattle.chan_view.specs.declared.Seen.the-variants.{Packet, Data}
@@ -44,13 +45,8 @@ channelOf banks lasts buffer due = record { banks = banks; lasts = lasts; buffer
 pub buffer-same : (b : Buffer) → bufferOf (waitingOf b) ≡ b
 unfolding bufferOf waitingOf
 buffer-same Empty = refl
-buffer-same (One w) = refl
-
--- the oldest write is the only one
-pub left-all : (b : Buffer) → Empty ≡ bufferOf (rest (waitingOf b))
-unfolding bufferOf waitingOf
-left-all Empty = refl
-left-all (One w) = refl
+buffer-same (One x) = refl
+buffer-same (Two x y) = refl
 
 -- ---- the packet itself
 
@@ -82,14 +78,16 @@ module _ (s : Settings) (ch : Channel) (t : PacketAt) (v : View) where
   retire-after : afterRetire (t .0) (onlyWrite (leaves s held v) (first (waitingOf (ch .buffer)))) ch
       ≡ channelOf (retiredBanks (leaves s held v) (held .bank) t (ch .banks)) (ch .lasts) (leftBuffer (leaves s held v) (ch .buffer)) (ch .due)
   unfolding heldOf waitingOf leftBuffer bufferOf afterRetire
-  retire-after = go (ch .buffer) refl (v .other) refl
+  retire-after = go (ch .buffer) refl (v .other && leb (held .at .0 + s .rtr) (v .at .0)) refl
     where
-      go : (b : Buffer) → ch .buffer ≡ b → (u : Bool) → v .other ≡ u
+      go : (b : Buffer) → ch .buffer ≡ b → (u : Bool) → (v .other && leb (held .at .0 + s .rtr) (v .at .0)) ≡ u
           → afterRetire (t .0) (onlyWrite (leaves s held v) (first (waitingOf (ch .buffer)))) ch
           ≡ channelOf (retiredBanks (leaves s held v) (held .bank) t (ch .banks)) (ch .lasts) (leftBuffer (leaves s held v) (ch .buffer)) (ch .due)
       go Empty q u p = rw q
-      go (One w) q true p = rw (q, p, retired-banks t w (ch .banks))
-      go (One w) q false p = rw (q, p)
+      go (One x) q true p = rw (p, q, retired-banks t x (ch .banks))
+      go (One x) q false p = rw (p, q)
+      go (Two x y) q true p = rw (p, q, retired-banks t x (ch .banks))
+      go (Two x y) q false p = rw (p, q)
 
 -- ---- the record
 
@@ -118,10 +116,10 @@ module _ (s : Settings) (ch : Channel) (e : length (ch .banks) ≡ 32) where
   col-after t p =
       let v : View = colView t p in
       let h : Held = heldOf (ch .buffer) (ch .due) in
-      rw (col-at t p)
-      (ap (λ (o : Option Write). afterPacket (contextOf s) (afterRetire (t .0) o ch) (ColAt t p)) (leaving-is s (ch .buffer) (ch .due) (ColAt t p) v (col-shows t p))
+      ap (λ (o : Option Write). afterPacket (contextOf s) (afterRetire (t .0) o ch) (ColAt t p)) (leaving-is s (ch .buffer) (ch .due) (ColAt t p) v (col-shows t p))
       ∙ ap (λ (c : Channel). afterPacket (contextOf s) c (ColAt t p)) (retire-after s ch t v)
-      ∙ col-packet s (retiredBanks (leaves s h v) (h .bank) t (ch .banks)) (ch .lasts) (leaves s h v) (ch .buffer) (ch .due) t p)
+      ∙ col-packet s (retiredBanks (leaves s h v) (h .bank) t (ch .banks)) (ch .lasts) (leaves s h v) (ch .buffer) (ch .due) t p
+      ∙ ap (λ (u : PacketAt). channelOf (colBanks t p (retiredBanks (leaves s h v) (h .bank) u (ch .banks))) (lastsNext (ColAt t p) (ch .lasts)) (colBuffer t p (leaves s h v) (ch .buffer)) (v .writes)) (sym (col-at t p))
 
   pub packet-after : (r : Record) (v : View) → seenOf r ≡ Packet v → after (contextOf s) ch r ≡ nextBy r v
   unfolding seenOf

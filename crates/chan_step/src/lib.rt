@@ -168,20 +168,29 @@ pub fn lasts_after(r: Record, l: LastInstants) -> LastInstants
     }
 }
 
-// The write buffer once the oldest write has left, if it does.
+// The write buffer once the older write has left, if it does: the newer one becomes the older.
 fn left(leaves: bool, b: Buffer) -> Buffer
     ensures { λ r. ⌜ r ≡ leftBuffer leaves b ⌝ }
 {
-    if leaves { Buffer::Empty } else { b }
+    if leaves {
+        match b {
+            Buffer::Empty => Buffer::Empty,
+            Buffer::One(_) => Buffer::Empty,
+            Buffer::Two(_, y) => Buffer::One(y),
+        }
+    } else {
+        b
+    }
 }
 
-// A write behind those that wait; a WR retires the earlier write, so that there is room.
+// A write behind the older one. Where two wait, rule 12 has no WR that retires none.
 fn joined(b: Buffer, w: Write) -> Buffer
     ensures { λ r. ⌜ r ≡ joinedBuffer b w ⌝ }
 {
     match b {
         Buffer::Empty => Buffer::One(w),
-        Buffer::One(first) => Buffer::One(first),
+        Buffer::One(x) => Buffer::Two(x, w),
+        Buffer::Two(x, _) => Buffer::Two(x, w),
     }
 }
 
@@ -203,7 +212,7 @@ fn col_buffer(at: PacketAt, p: ColPacket, leaves: bool, b: Buffer) -> Buffer
     }
 }
 
-// The write buffer after a record that retires the oldest write or does not.
+// The write buffer after a record that retires the older write or does not.
 pub fn buffer_after(r: Record, leaves: bool, b: Buffer) -> Buffer
     ensures { λ x. ⌜ x ≡ bufferNext r leaves b ⌝ }
 {
@@ -214,7 +223,7 @@ pub fn buffer_after(r: Record, leaves: bool, b: Buffer) -> Buffer
     }
 }
 
-// Whether a record retires the waiting write.
+// Whether a record retires the older write.
 pub fn retires(s: Settings, h: Held, r: Record) -> bool
     ensures { λ x. ⌜ x ≡ retiresBy s h (seenOf r) ⌝ }
 {

@@ -1,6 +1,6 @@
 -- What ready bytes say of the state, and what a stored number says of the least instant of a packet.
 -- Assumes nothing.
-use Prim.Native.Nat.{ℕ, _+_, _*_, _-_, _<_, _≤_, _^_, max}
+use Prim.Native.Nat.{ℕ, _+_, _*_, _-_, _<_, _≤_, max}
 use mathlib.Core.Path.{_≡_, refl, sym, ap, _∙_}
 use mathlib.Core.Bool.{Bool, true, false, cond}
 use mathlib.Core.List.{List}
@@ -145,7 +145,7 @@ module _ (s : Settings) (b : List ℕ) where
   pub record Says (v : ℕ) (r : Record) : Type 0 where
     pub stored : v ≡ slot (contextOf s) (plannerIn b) r - 3
     pub instant : v + 3 ≡ slot (contextOf s) (plannerIn b) r
-    pub fits : v + 3 < 2 ^ 32 - 64
+    pub fits : v + 3 ≤ 999999100
 
   slot-low : 4 ≤ plannerIn b .now .0 → (r : Record) → 4 ≤ slot (contextOf s) (plannerIn b) r
   unfolding slot leastFrom

@@ -118,14 +118,14 @@ module _ (s : Settings) (top : ℕ) (b : List ℕ) (k : Ready s top b) (h : top 
         left ≡ wrStored b (at .bank) (at .column) mask v
         → room1 ≡ splice room start (recordFields (v + 3) 1 (colWord (s .device) (Wr (at .bank) (at .column) wr-mask)) 0 0)
         → wr-mask ≡ carriedIn b
-        → room2 ≡ splice room1 (start + 32) (recordFields (v + s .cwd + 3) 2 0 (d .dqa) (d .dqb))
+        → room2 ≡ splice room1 (start + 32) (recordFields (v + 3 + s .cwd) 2 0 (d .dqa) (d .dqb))
         → Drawn s (written (contextOf s) at mask d (bare p)) room start left room2 to
     unfolding written loaded sent placedAt under recordBytes listBytes wrStored contextOf
     wr-drawn room start left room1 room2 to wr-mask next fits f g same h =
         let v : ℕ = wrAt s b (at .bank) in
         let e : Says s b v wr = wr-says (at .bank) (at .column) l in
         let t : ℕ = slot (contextOf s) p wr in
-        let then : v + s .cwd + 3 ≡ t + s .cwd = omega (arith, e .instant) in
+        let then : v + 3 + s .cwd ≡ t + s .cwd = omega (arith, e .instant) in
         let columns : at .column < 256 = omega (arith, bounds s (readies s top b k .figures) .columns-most) in
         record {
           planner = f

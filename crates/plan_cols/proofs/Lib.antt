@@ -1,3 +1,4 @@
 pub mod Slots
+pub mod Arrivals
 pub mod Puts
 pub mod Cols

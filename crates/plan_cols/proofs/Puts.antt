@@ -33,14 +33,6 @@ use Rattle.spec_plan.specs.PlannerBytes.{plannerBytes}
 use Rattle.plan_bytes.specs.form.Numbers.{nowStored}
 use Rattle.plan_bytes.specs.form.Drawn.{bare}
 use Rattle.plan_bytes.proofs.Puts.{mask-stored, Plain, then-now, BankIn}
-use Rattle.plan_cols.specs.form.Slots.{leftStored, wrStored}
-
--- ---- the stores of a WR
-
-pub wr-put : (b : List ℕ) (x c m t : ℕ) {b1 b2 b3 b4 b5 : List ℕ} → b1 ≡ leftStored b t → b2 ≡ splice b1 728 (bytes 8 1) → b3 ≡ splice b2 736 (bytes 8 (x + 256 * c + 4294967296 * t))
-    → b4 ≡ nowStored (colStored b3 t) t → b5 ≡ splice b4 760 (bytes 2 m) → b5 ≡ wrStored b x c m t
-unfolding wrStored writeStored
-wr-put b x c m t e1 e2 e3 e4 e5 = e5 ∙ rw (e4, e3, e2, e1)
 
 -- ---- RD
 

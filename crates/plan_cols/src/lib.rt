@@ -4,30 +4,41 @@ ghost use mathlib.Core.Bool.{true, cond};
 ghost use Prim.Native.Nat.{_+_, _-_, _<_, _≤_, _^_};
 ghost use lib.ListN.{length};
 ghost use Rattle.packet.specs.declared.ColPacket.the-variants.{Rd};
+ghost use Rattle.settings.specs.Instants.{horizon};
 ghost use Rattle.record.proofs.RequestLaws.{InPlace};
 ghost use Rattle.spec_rules.specs.Neighbour.{contextOf};
-ghost use Rattle.spec_state.specs.form.Stores.{colStored, rdStored, retireStored, emptyStored};
+ghost use Rattle.spec_state.specs.form.Stores.{colStored, retireStored, emptyStored};
 ghost use Rattle.spec_plan.specs.Plan.{colPacket, sent, flushed, written};
 ghost use Rattle.plan_bytes.specs.form.Numbers.{waitsIn, heldBank, nowStored};
 ghost use Rattle.plan_bytes.specs.form.Drawn.{drafted, Ready, Drawn};
 ghost use Rattle.plan_cols.specs.form.Slots.{colBase, rdAt, retireAt, wrAt, carriedIn, leftStored, wrStored};
 use chan_view::bounds::later;
 use col_words::col_word;
+use instants::write_arrival;
 use num::u16_at;
 use num::wide32;
 use packet::ColPacket;
 use packet::FULL;
 use plan_bytes::after;
 use plan_bytes::held_bank;
-use plan_bytes::put_record;
+use plan_bytes::put_data;
+use plan_bytes::put_now;
+use plan_bytes::put_packet;
 use plan_bytes::stored;
 use plan_bytes::waits;
 use puts::put_u16;
-use puts::put_u32;
-use puts::put_u64;
 use record::Dualoct;
 use record::Place;
+use settings::Arrival;
+use settings::DataAt;
+use settings::HORIZON;
+use settings::PacketAt;
 use settings::Settings;
+use state_stores::cols::store_col;
+use state_stores::cols::store_empty;
+use state_stores::cols::store_rd;
+use state_stores::cols::store_retire;
+use state_stores::cols::store_write;
 
 // The difference, or 0 where it would be negative.
 fn minus(a: u32, b: u32) -> u32
@@ -44,32 +55,12 @@ fn col_base(s: Settings, b: &[u8]) -> u64
     later(later(stored(b, 752), stored(b, 704)), after(b, 712, s.cc))
 }
 
-// The last instants and now after a COL packet.
-fn put_col(b: &mut [u8], t: u64)
-    requires { ⌜ length (now b) ≡ 768 ⌝ }
-    ensures { λ _. ⌜ now (b .exit) ≡ nowStored (colStored (now (b .entry)) t) t ⌝ }
-{
-    put_u32(b, 704, t);
-    put_u32(b, 712, t);
-    put_u32(b, 752, t);
-}
-
 fn rd_at(s: Settings, b: &[u8], x: usize) -> u64
     requires { ⌜ length (now b) ≡ 768 ⌝ }
     requires { ⌜ x < 32 ⌝ }
     ensures { λ r. ⌜ r ≡ rdAt s (now (b .entry)) x ⌝ }
 {
     later(col_base(s, b), after(b, 128 + 4 * x, s.rcd))
-}
-
-fn put_rd(b: &mut [u8], x: usize, t: u64)
-    requires { ⌜ length (now b) ≡ 768 ⌝ }
-    requires { ⌜ x < 32 ⌝ }
-    ensures { λ _. ⌜ now (b .exit) ≡ nowStored (rdStored (now (b .entry)) x t) t ⌝ }
-{
-    put_u32(b, 384 + 4 * x, t);
-    put_u32(b, 720, t);
-    put_col(b, t);
 }
 
 // RD.
@@ -90,8 +81,9 @@ pub fn rd(s: Settings, b: &mut [u8], bank: u32, column: u32, room: &mut [u8], to
             mask: FULL,
         },
     );
-    put_record(room, to, t, 1, word, 0, 0);
-    put_rd(b, x, t);
+    put_packet(room, to, t, 1, word);
+    store_rd(b, x, t);
+    put_now(b, t);
     to + 32
 }
 
@@ -112,10 +104,10 @@ fn put_nocop(b: &mut [u8], t: u64)
     ensures { λ _. ⌜ now (b .exit) ≡ nowStored (colStored (emptyStored (retireStored (now (b .entry)) (heldBank (now (b .entry))) t)) t) t ⌝ }
 {
     let h = held_bank(b) as usize;
-    put_u32(b, 512 + 4 * h, t);
-    put_u64(b, 728, 0);
-    put_u64(b, 736, 0);
-    put_col(b, t);
+    store_retire(b, h, t);
+    store_empty(b);
+    store_col(b, t);
+    put_now(b, t);
 }
 
 // NOCOP, where a write waits.
@@ -133,7 +125,7 @@ pub fn nocop(s: Settings, b: &mut [u8], room: &mut [u8], to: usize) -> usize
             mask: u16_at(b, 760),
         },
     );
-    put_record(room, to, t, 1, word, 0, 0);
+    put_packet(room, to, t, 1, word);
     put_nocop(b, t);
     to + 32
 }
@@ -176,7 +168,7 @@ fn put_left(b: &mut [u8], t: u64)
 {
     if waits(b) {
         let h = held_bank(b) as usize;
-        put_u32(b, 512 + 4 * h, t);
+        store_retire(b, h, t);
     }
 }
 
@@ -190,11 +182,21 @@ fn put_wr(b: &mut [u8], at: Place, mask: u32, t: u64)
     ensures { λ _. ⌜ now (b .exit) ≡ wrStored (now (b .entry)) (at .bank) (at .column) mask t ⌝ }
 {
     put_left(b, t);
-    let word = wide32(at.bank) + 256 * wide32(at.column) + 4294967296 * t;
-    put_u64(b, 728, 1);
-    put_u64(b, 736, word);
-    put_col(b, t);
+    store_write(b, 1, at.bank, at.column, t);
+    store_col(b, t);
+    put_now(b, t);
     put_u16(b, 760, wide32(mask));
+}
+
+// D's instant, of a WR whose instant comes as it is stored. None is late: a planner that is ready ends before the last instant.
+fn data_at(s: Settings, t: u64) -> DataAt
+    requires { ⌜ t + 3 + s .cwd ≤ horizon ⌝ }
+    ensures { λ r. ⌜ r ≡ record { 0 = t + 3 + s .cwd } ⌝ }
+{
+    match write_arrival(s, PacketAt((t + 3) as u32)) {
+        Arrival::At(at) => at,
+        Arrival::Late => DataAt(HORIZON),
+    }
 }
 
 // WR, under the mask of the write that it retires, and its D.
@@ -223,8 +225,8 @@ pub fn wr(
             mask: left,
         },
     );
-    put_record(room, to, t, 1, word, 0, 0);
-    put_record(room, to + 32, t + wide32(s.cwd), 2, 0, d.dqa, d.dqb);
+    put_packet(room, to, t, 1, word);
+    put_data(room, to + 32, data_at(s, t), d);
     put_wr(b, at, mask, t);
     to + 64
 }

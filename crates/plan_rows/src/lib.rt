@@ -8,7 +8,7 @@ ghost use Rattle.packet.specs.declared.RowPacket.the-variants.{Act, Prer, Refa,
 ghost use Rattle.record.specs.Record.{recordFields};
 ghost use Rattle.spec_rules.specs.Checks.{since};
 ghost use Rattle.spec_rules.specs.Neighbour.{contextOf, near};
-ghost use Rattle.spec_state.specs.form.Stores.{rowStored, closeStored, actStored, refaStored};
+ghost use Rattle.spec_state.specs.form.Stores.{closeStored};
 ghost use Rattle.spec_plan.specs.Plan.{rowPacket, sent};
 ghost use Rattle.plan_bytes.specs.form.Numbers.{word, nowStored};
 ghost use Rattle.plan_bytes.specs.form.Drawn.{drafted, Ready, OpenAt, NearShut, Drawn};
@@ -19,17 +19,18 @@ use chan_view::neighbours::first_near;
 use chan_view::neighbours::is_near;
 use chan_view::neighbours::last_near;
 use num::u32_at;
-use num::wide32;
 use packet::RowPacket;
 use plan_bytes::after;
 use plan_bytes::latest;
-use plan_bytes::put_record;
+use plan_bytes::put_now;
+use plan_bytes::put_packet;
 use plan_bytes::stored;
-use puts::put_u16;
-use puts::put_u32;
 use row_words::row_word;
 use settings::PacketAt;
 use settings::Settings;
+use state_stores::rows::store_act;
+use state_stores::rows::store_close;
+use state_stores::rows::store_refa;
 
 // What the latest of a bank and its neighbours in a plane and a distance ask.
 fn after_near(s: Settings, b: &[u8], plane: usize, x: usize, gap: u32) -> u64
@@ -52,16 +53,6 @@ fn row_base(b: &[u8]) -> u64
     later(later(stored(b, 752), stored(b, 704)), after(b, 708, 4))
 }
 
-// The last instants and now after a ROW packet.
-fn put_row(b: &mut [u8], t: u64)
-    requires { ⌜ length (now b) ≡ 768 ⌝ }
-    ensures { λ _. ⌜ now (b .exit) ≡ nowStored (rowStored (now (b .entry)) t) t ⌝ }
-{
-    put_u32(b, 704, t);
-    put_u32(b, 708, t);
-    put_u32(b, 752, t);
-}
-
 fn close_at(s: Settings, b: &[u8], x: usize) -> u64
     requires { ⌜ length (now b) ≡ 768 ⌝ }
     requires { ⌜ x < 32 ⌝ }
@@ -75,17 +66,6 @@ fn close_at(s: Settings, b: &[u8], x: usize) -> u64
     later(row_base(b), later(opened, later(after(b, 716, s.pp), cols)))
 }
 
-fn put_close(b: &mut [u8], x: usize, t: u64)
-    requires { ⌜ length (now b) ≡ 768 ⌝ }
-    requires { ⌜ x < 32 ⌝ }
-    ensures { λ _. ⌜ now (b .exit) ≡ nowStored (closeStored (now (b .entry)) x t) t ⌝ }
-{
-    put_u32(b, 256 + 4 * x, t);
-    put_u16(b, 640 + 2 * x, 0);
-    put_u32(b, 716, t);
-    put_row(b, t);
-}
-
 // PRER or REFP, by its word, to a bank whose neighbours are closed.
 fn close(s: Settings, b: &mut [u8], x: usize, word: u64, room: &mut [u8], to: usize)
     requires { ⌜ length (now b) ≡ 768 ⌝ }
@@ -96,8 +76,9 @@ fn close(s: Settings, b: &mut [u8], x: usize, word: u64, room: &mut [u8], to: us
     ensures { λ _. ⌜ now (room .exit) ≡ splice (now (room .entry)) to (recordFields (closeAt s (now (b .entry)) x + 3) 0 word 0 0) ⌝ }
 {
     let t = close_at(s, b, x);
-    put_record(room, to, t, 0, word, 0, 0);
-    put_close(b, x, t);
+    put_packet(room, to, t, 0, word);
+    store_close(b, x, t);
+    put_now(b, t);
 }
 
 // PRER, to a bank that is open.
@@ -188,17 +169,6 @@ fn open_at(s: Settings, b: &[u8], bank: u32) -> u64
     )
 }
 
-fn put_act(b: &mut [u8], x: usize, row: u32, t: u64)
-    requires { ⌜ length (now b) ≡ 768 ⌝ }
-    requires { ⌜ x < 32 ⌝ }
-    ensures { λ _. ⌜ now (b .exit) ≡ nowStored (actStored (now (b .entry)) x row t) t ⌝ }
-{
-    put_u32(b, 4 * x, t);
-    put_u32(b, 128 + 4 * x, t);
-    put_u16(b, 640 + 2 * x, wide32(row) + 1);
-    put_row(b, t);
-}
-
 // ACT, to a bank that is closed with its neighbours.
 pub fn act(s: Settings, b: &mut [u8], bank: u32, row: u32, room: &mut [u8], to: usize) -> usize
     requires { ⌜ Ready s 999999000 (now b) ⌝ }
@@ -209,19 +179,10 @@ pub fn act(s: Settings, b: &mut [u8], bank: u32, row: u32, room: &mut [u8], to: 
 {
     let t = open_at(s, b, bank);
     let word = row_word(s.device, RowPacket::Act { bank, row });
-    put_record(room, to, t, 0, word, 0, 0);
-    put_act(b, bank as usize, row, t);
+    put_packet(room, to, t, 0, word);
+    store_act(b, bank as usize, row, t);
+    put_now(b, t);
     to + 32
-}
-
-fn put_refa(b: &mut [u8], x: usize, t: u64)
-    requires { ⌜ length (now b) ≡ 768 ⌝ }
-    requires { ⌜ x < 32 ⌝ }
-    ensures { λ _. ⌜ now (b .exit) ≡ nowStored (refaStored (now (b .entry)) x t) t ⌝ }
-{
-    put_u32(b, 4 * x, t);
-    put_u16(b, 640 + 2 * x, 0xFFFF);
-    put_row(b, t);
 }
 
 // REFA, to a bank that is closed with its neighbours.
@@ -234,8 +195,9 @@ fn refa(s: Settings, b: &mut [u8], bank: u32, room: &mut [u8], to: usize) -> usi
 {
     let t = open_at(s, b, bank);
     let word = row_word(s.device, RowPacket::Refa { bank });
-    put_record(room, to, t, 0, word, 0, 0);
-    put_refa(b, bank as usize, t);
+    put_packet(room, to, t, 0, word);
+    store_refa(b, bank as usize, t);
+    put_now(b, t);
     to + 32
 }
 

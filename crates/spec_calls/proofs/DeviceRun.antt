@@ -45,7 +45,7 @@ use Rattle.spec_model.specs.declared.Stepped.the-variants.{Refused, Read, Retir
 use Rattle.spec_model.specs.Store.{storeLength, dualoct, dualoctAt}
 use Rattle.spec_model.specs.Model.{modelValid, openRow, bytesLeft, bytesNext, secondNext, modelNext, storeNext, readOf, retiredWrite, retireMask}
 use Rattle.spec_model.specs.ModelBytes.{modelBytes}
-use Rattle.spec_model.specs.Step.{retireAnswer, passedAnswer, recordAnswer, readAnswer, stepAnswer, isTaken, modelBy, stepModel, stepStore, bytesRead, bytesBy, stepRoom}
+use Rattle.spec_model.specs.Step.{retireAnswer, passedAnswer, recordAnswer, readAnswer, stepAnswer, isTaken, stepModel, stepStore, bytesRead, bytesBy, stepRoom}
 use Rattle.spec_model.proofs.StoreLaws.{dualoct-in}
 use Rattle.spec_model.proofs.ModelRoundTrip.{DataFits, HeldFits, model-decode-encode, model-right}
 use Rattle.spec_model.proofs.NextValid.{next-model-valid}
@@ -54,7 +54,7 @@ use Rattle.spec_runs.specs.Drive.{Drive, returned, leftBy, isFull, fails, calle
 use Rattle.spec_runs.proofs.DriveLaws.{Every, length-record, roomy, kept, gone, Ready, ready-next, call-is, driven-none, next-none, next-one}
 use Rattle.spec_runs.proofs.Sim.{DataIn}
 use Rattle.spec_calls.specs.Settings.{underSettings}
-use Rattle.spec_calls.specs.Models.{steppedAnswer, StepResult, stepRefused, stepTaken, stepBy, stepUnder, stepCall}
+use Rattle.spec_calls.specs.Models.{steppedAnswer, StepResult, stepBy, stepUnder, stepCall}
 use Rattle.spec_calls.specs.Runs.{Device, deviceBy, deviceNext, deviceAfter}
 use Rattle.spec_calls.proofs.ListOf.{list-next}
 use Rattle.spec_calls.proofs.BenchRun.{refusal-number}

@@ -2,14 +2,14 @@
 -- state.
 -- Assumes nothing.
 use Prim.Native.Nat.{ℕ, _+_, _-_, _^_, _<_}
-use mathlib.Core.Path.{_≡_, sym, ap, _∙_}
-use mathlib.Core.Bool.{Bool, true, _&&_}
+use mathlib.Core.Path.{_≡_, _∙_}
+use mathlib.Core.Bool.{true, _&&_}
 use mathlib.Core.List.{List, _++_}
-use lib.Dec.{eqb, ltb}
+use lib.Dec.{eqb}
 use lib.ListN.{length, length-append}
 use borrow.Author.Tests.{ltb-true, eqb-true}
 use native.Mathlib.Omega.{arith}
-use Rattle.num.specs.Bytes.{bytes, number, part, zeros, Bytes}
+use Rattle.num.specs.Bytes.{bytes, part, zeros, Bytes}
 use Rattle.num.proofs.ByteLaws.{length-bytes, number-bytes}
 use Rattle.num.proofs.PartLaws.{part-all, bytes-part, Bytes-append, Bytes-bytes, Bytes-zeros}
 use Rattle.num.proofs.SpliceLaws.{length-zeros}

@@ -234,7 +234,7 @@ module _ (s : Settings) where
       go : (q : Request) → Inv (contextOf s) p → length (stepsOf (contextOf s) q d .records) ≤ 18
       go (Read at) k =
           let z : Draft = reached (contextOf s) (at .bank) (at .row) d in
-          let test : List Write → Bool = delays (contextOf s) at in
+          let test : List Write → Bool = delays at in
           let y : Draft = flushedWhile (contextOf s) test z in
           let r : Record = colPacket (Rd (at .bank) (at .column) 0xFFFF) in
           omega (

@@ -293,5 +293,5 @@ carried-in none mask m = omega arith
 carried-in (some w) mask m = m
 
 pub shifted-in : (o : Option Write) (mask second : ℕ) → mask < 2 ^ 16 → second < 2 ^ 16 → shifted o mask second < 2 ^ 16
-shifted-in none mask second m n = m
-shifted-in (some w) mask second m n = n
+shifted-in none mask second m n = omega arith
+shifted-in (some w) mask second m n = omega arith

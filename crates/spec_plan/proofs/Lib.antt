@@ -11,3 +11,5 @@ pub mod Refused
 pub mod Bound
 pub mod DataFree
 pub mod PlannerRoundTrip
+pub mod Early
+pub mod Rate

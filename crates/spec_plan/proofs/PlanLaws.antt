@@ -1,6 +1,6 @@
 -- Every step of the planner keeps its invariant, and each of its records passes the tests on the state, at the least instant.
 -- Assumes nothing.
-use Prim.Native.Nat.{ℕ, zero, suc, _+_, _≤_, _<_, _^_, max}
+use Prim.Native.Nat.{ℕ, zero, suc, _+_, _≤_, _<_, _^_}
 use mathlib.Core.Path.{_≡_, refl, ap, _∙_}
 use mathlib.Core.Bool.{Bool, true, false, not, _&&_, _||_, cond, or-true}
 use mathlib.Core.List.{List, [], _∷_}
@@ -25,14 +25,14 @@ use Rattle.spec_rules.specs.declared.Write.{Write}
 use Rattle.spec_rules.specs.declared.Channel.{Channel}
 use Rattle.spec_rules.specs.Neighbour.{bankCount, Context, Neighbours, near}
 use Rattle.spec_rules.specs.Packets.{traits, rowTraits, colTraits, isPacket}
-use Rattle.spec_rules.specs.History.{bankBy, isClosed, isOpen, first, rest, left, queued, loads, bankOf, anyWrite, two}
+use Rattle.spec_rules.specs.History.{bankBy, isClosed, isOpen, first, rest, left, queued, loads, bankOf, two}
 use Rattle.spec_rules.specs.Rules.{openFor, stays}
 use Rattle.spec_rules.specs.Channel.{newestDue, dueOf, bankNext, afterData, after}
-use Rattle.spec_rules.specs.Earliest.{placedAt, under, fits, earliest, soonest, leastFrom}
+use Rattle.spec_rules.specs.Earliest.{placedAt, under, fits, soonest, leastFrom}
 use Rattle.spec_rules.proofs.Bools.{not-both, and-right, neither}
 use Rattle.spec_rules.proofs.EarliestLaws.{able, picked-late}
 use Rattle.spec_plan.specs.declared.PlannerState.{PlannerState}
-use Rattle.spec_plan.specs.Plan.{Draft, rowPacket, colPacket, when, waiting, stateIn, openOn, hits, anyWaits, slot, leaver, sent, flushed, flushedWhile, loses, closed, closedUpTo, cleared, delays, reached, plannedRead, loaded, written, plannedWrite, turned, plannedRefresh, plannedDrain}
+use Rattle.spec_plan.specs.Plan.{Draft, rowPacket, colPacket, waiting, stateIn, openOn, anyWaits, slot, leaver, sent, flushed, flushedWhile, loses, closed, closedUpTo, cleared, delays, reached, plannedRead, loaded, written, plannedWrite, turned, plannedRefresh, plannedDrain}
 use Rattle.spec_plan.proofs.SentLaws.{when-either, sent-now, sent-mask, sent-second, sent-refresh, sent-size, sent-state, sent-due, sent-waiting, row-waiting, read-waiting, flushed-waiting, while-keeps, while-ends, while-state, saved, saved-far, up-to-picked}
 use Rattle.spec_plan.proofs.Invariant.{Banked, WritesIn, allOpen, inBanks, none-picked, Held, Inv, NearClosed, Changed, banked-shut, banked-open, held-far, far-other, held-stays, left-in, left-open, queued-in, queued-open, first-open, fits-by, free-near, shifted-in}
 use Rattle.spec_plan.proofs.Trace.{Trace, trace-sent, trace-loaded}
@@ -329,7 +329,7 @@ module _ (cx : Context) (ns : Neighbours cx) (p : PlannerState) where
   good-read d k at i =
       let a = good-reached d k (at .bank) (at .row) (i .0) (i .1) in
       let z : Draft = reached cx (at .bank) (at .row) d in
-      let test : List Write → Bool = delays cx at in
+      let test : List Write → Bool = delays at in
       let y : Draft = flushedWhile cx test z in
       good-rd y (good-while z (a .0) test refl) (at .bank) (at .column) (at .row) (i .0) (i .2) (while-state cx test refl z (a .0 .inv .size) (at .bank) (i .0) ∙ a .1)
       (neither (two (waiting y)) _ (while-ends cx test refl z) .0)

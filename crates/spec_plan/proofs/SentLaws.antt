@@ -5,7 +5,7 @@ use Prim.Native.Nat.{ℕ, zero, suc, _+_, _≤_, _<_, _^_, max}
 use mathlib.Core.Path.{_≡_, refl, sym, ap, _∙_}
 use mathlib.Core.Bool.{Bool, true, false, not, _&&_, cond}
 use mathlib.Core.List.{List, [], _∷_, _++_}
-use mathlib.Core.Option.{Option, none, some}
+use mathlib.Core.Option.{Option, none}
 use lib.Dec.{eqb, ltb}
 use lib.ListN.{length}
 use borrow.Author.Tests.{le-leb, lt-ltb, eqb-true, eqb-false, eq-eqb}
@@ -27,12 +27,11 @@ use Rattle.spec_rules.specs.Neighbour.{bankCount, Context, near}
 use Rattle.spec_rules.specs.Packets.{traits, colTraits, instant}
 use Rattle.spec_rules.specs.History.{bankBy, isClosed, first, rest, onlyWrite, passed, leaving, left, loads, joined, waitingNext, anyWrite, has}
 use Rattle.spec_rules.specs.Channel.{never, waitingOf, bankNext, leavingOf, after}
-use Rattle.spec_rules.specs.Earliest.{placedAt, under, earliest, retireBound, slotFrom, soonest, leastFrom}
+use Rattle.spec_rules.specs.Earliest.{placedAt, under, retireBound, slotFrom, soonest, leastFrom}
 use Rattle.spec_rules.proofs.Bools.{not-both, and-left, and-right}
 use Rattle.spec_rules.proofs.TrackLaws.{row-keeps, keeps-all, after-waits}
 use Rattle.spec_rules.proofs.EarliestLaws.{placed-instant, moved-not-read, moved-leaving, moved-bank, moved-writes}
 use Rattle.spec_state.proofs.AfterLaws.{after-size, after-due, after-state}
-use Rattle.spec_plan.specs.declared.PlannerState.{PlannerState}
 use Rattle.spec_plan.specs.Plan.{Draft, rowPacket, colPacket, when, waiting, stateIn, carried, shifted, anyWaits, slot, leaver, placedIn, sent, flushed, flushedWhile, loses, closed, closedUpTo}
 
 -- ---- a record at another instant, under another mask
@@ -96,6 +95,10 @@ module _ (cx : Context) where
     pub sent-records : sent cx r d .records ≡ d .records ++ (here ∷ [])
     unfolding sent
     sent-records = refl
+
+    -- it carries the mask of the older write where it retires one, and else M = 0
+    pub here-carries : here ≡ placedAt (slot cx (d .planner) r) (under (carried gone (d .planner .mask)) r)
+    here-carries = refl
 
     pub sent-size : length (sent cx r d .planner .channel .banks) ≡ length (d .planner .channel .banks)
     unfolding sent
@@ -178,18 +181,6 @@ module _ (cx : Context) where
 
   -- ---- NOCOP after NOCOP
 
-  -- what each NOCOP keeps
-  pub while-keeps : (P : Draft → Type 0) → ((z : Draft) → anyWaits (waiting z) ≡ true → P z → P (flushed cx z)) → (test : List Write → Bool) → test [] ≡ false → (d : Draft) → P d → P (flushedWhile cx test d)
-  unfolding flushedWhile
-  while-keeps P f test e d k =
-      let z : Draft = when (test (waiting d)) (flushed cx) d in
-      let kz : P z = when-either P (test (waiting d)) (flushed cx) d (λ h. f d (waits (waiting d) h) k) (λ _. k) in
-      when-either P (test (waiting z)) (flushed cx) z (λ h. f z (waits (waiting z) h) kz) (λ _. kz)
-    where
-      waits : (ws : List Write) → test ws ≡ true → anyWaits ws ≡ true
-      waits [] h = not-both (test []) h e
-      waits (w ∷ ws) h = refl
-
   -- they end where the test fails
   pub while-ends : (test : List Write → Bool) → test [] ≡ false → (d : Draft) → test (waiting (flushedWhile cx test d)) ≡ false
   unfolding flushedWhile
@@ -202,6 +193,18 @@ module _ (cx : Context) where
       go : (b : Bool) → test (waiting d) ≡ b → test (waiting (when (test (waiting (when b (flushed cx) d))) (flushed cx) (when b (flushed cx) d))) ≡ false
       go true h = last (test (waiting (flushed cx d))) refl
       go false h = rw h h
+
+  -- what each NOCOP keeps
+  pub while-keeps : (P : Draft → Type 0) → ((z : Draft) → anyWaits (waiting z) ≡ true → P z → P (flushed cx z)) → (test : List Write → Bool) → test [] ≡ false → (d : Draft) → P d → P (flushedWhile cx test d)
+  unfolding flushedWhile
+  while-keeps P f test e d k =
+      let z : Draft = when (test (waiting d)) (flushed cx) d in
+      let kz : P z = when-either P (test (waiting d)) (flushed cx) d (λ h. f d (waits (waiting d) h) k) (λ _. k) in
+      when-either P (test (waiting z)) (flushed cx) z (λ h. f z (waits (waiting z) h) kz) (λ _. kz)
+    where
+      waits : (ws : List Write) → test ws ≡ true → anyWaits ws ≡ true
+      waits [] h = not-both (test []) h e
+      waits (w ∷ ws) h = refl
 
   pub while-size : (test : List Write → Bool) → test [] ≡ false → (d : Draft) → Sized d → Sized (flushedWhile cx test d)
   while-size test e d n = while-keeps Sized (λ z _ k. flushed-size z ∙ k) test e d n

@@ -79,6 +79,9 @@ runs =
     ∷ (write 0 0 0 0x0003 ones ∷ write 0 0 1 0x0006 twos ∷ read 0 0 0 ∷ [])
     ∷ (write 0 0 0 0x0003 ones ∷ write 0 0 1 0x0006 twos ∷ read 0 0 1 ∷ [])
     ∷ (write 0 0 0 0x0003 ones ∷ write 0 0 1 0x0006 twos ∷ write 0 0 2 full ones ∷ write 0 0 3 full twos ∷ [])
+    -- eight full writes to two open rows: a WR every tCC
+    ∷ (write 0 0 0 full ones ∷ write 4 0 0 full ones ∷ write 0 0 1 full twos ∷ write 4 0 1 full twos ∷ write 0 0 2 full ones ∷ write 4 0 2 full ones ∷ write 0 0 3 full twos
+    ∷ write 4 0 3 full twos ∷ write 0 0 0 full twos ∷ [])
     -- a write to another bank, which comes when the first is due; a read of another row there
     ∷ (write 0 0 0 0x0003 ones ∷ write 5 0 1 0x0006 twos ∷ read 5 1 0 ∷ [])
     ∷ []
@@ -99,6 +102,9 @@ lists =
     ∷ (row 4 (Act 0 0) ∷ col 5 (Wr 0 0 full) ∷ dat 11 ones ∷ col 9 (Wr 0 1 full) ∷ dat 15 twos ∷ col 13 (Nocop 0x0003) ∷ col 17 (Rd 0 0 full) ∷ [])
     ∷ (row 4 (Act 0 0) ∷ col 5 (Wr 0 0 full) ∷ dat 11 ones ∷ col 9 (Wr 0 1 full) ∷ dat 15 twos ∷ col 13 (Nocop 0x0003) ∷ col 17 (Nocop 0x0006) ∷ col 21 (Rd 0 1 full) ∷ [])
     ∷ (row 4 (Act 0 0) ∷ col 5 (Wr 0 0 full) ∷ dat 11 ones ∷ col 9 (Wr 0 1 full) ∷ dat 15 twos ∷ col 13 (Wr 0 2 0x0003) ∷ dat 19 ones ∷ col 17 (Wr 0 3 0x0006) ∷ dat 23 twos ∷ [])
+    ∷ (row 4 (Act 0 0) ∷ col 5 (Wr 0 0 full) ∷ dat 11 ones ∷ row 12 (Act 4 0) ∷ col 13 (Wr 4 0 full) ∷ dat 19 ones ∷ col 17 (Wr 0 1 full) ∷ dat 23 twos ∷ col 21 (Wr 4 1 full)
+    ∷ dat 27 twos ∷ col 25 (Wr 0 2 full) ∷ dat 31 ones ∷ col 29 (Wr 4 2 full) ∷ dat 35 ones ∷ col 33 (Wr 0 3 full) ∷ dat 39 twos ∷ col 37 (Wr 4 3 full) ∷ dat 43 twos
+    ∷ col 41 (Wr 0 0 full) ∷ dat 47 twos ∷ [])
     ∷ (row 4 (Act 0 0) ∷ col 5 (Wr 0 0 full) ∷ dat 11 ones ∷ row 12 (Act 5 0) ∷ col 13 (Wr 5 1 0x0003) ∷ dat 19 twos ∷ col 21 (Nocop 0x0006) ∷ row 32 (Prer 5) ∷ row 40 (Act 5 1)
     ∷ col 49 (Rd 5 0 full) ∷ [])
     ∷ []

@@ -67,6 +67,10 @@ openOn Refresh row = false
 abbrev pub hits : ℕ → ℕ → Write → Bool
 hits bank column w = eqb (w .bank) bank && eqb (w .column) column
 
+-- "The planner sends NOCOP before an RD while two wait, and before a read [..] until the write concerned has retired"
+abbrev pub delays : Place → List Write → Bool
+delays at ws = two ws || anyWrite (hits (at .bank) (at .column)) ws
+
 abbrev pub anyWaits : List Write → Bool
 anyWaits ws = anyWrite (λ w. true) ws
 
@@ -128,16 +132,14 @@ module _ (cx : Context) where
   unfoldable pub reached : ℕ → ℕ → Draft → Draft
   reached bank row d = when (not (openOn (stateIn d bank) row)) (λ d. sent (rowPacket (Act bank row)) (cleared bank d)) d
 
-  -- "The planner sends NOCOP before an RD while two wait, and before a read [..] until the write concerned has retired"
-  abbrev pub delays : Place → List Write → Bool
-  delays at ws = two ws || anyWrite (hits (at .bank) (at .column)) ws
-
+  -- "then RD."
   unfoldable pub plannedRead : Place → Draft → Draft
   plannedRead at d =
       sent (colPacket (Rd (at .bank) (at .column) 0xFFFF))
       (flushedWhile (delays at) (reached (at .bank) (at .row) d))
 
-  -- D after a WR, which now waits with its own mask, beside an older write or alone: "Each WR is followed in the list by its data record D, at WR + tCWD"
+  -- D after a WR, which now waits with its own mask, behind an older write or alone: "Each WR is followed in the list by its data
+  -- record D, at WR + tCWD"
   unfoldable pub loaded : ℕ → Dualoct → Draft → Draft
   loaded mask bytes d =
       let p : PlannerState = d .planner in

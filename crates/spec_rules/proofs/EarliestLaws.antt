@@ -19,7 +19,7 @@ use Rattle.spec_rules.specs.declared.Bank.{Bank}
 use Rattle.spec_rules.specs.declared.Write.{Write}
 use Rattle.spec_rules.specs.declared.Channel.{Channel}
 use Rattle.spec_rules.specs.Neighbour.{Context, Neighbours}
-use Rattle.spec_rules.specs.Packets.{traits, rowTraits, colTraits, retireTraits, instant, isPacket}
+use Rattle.spec_rules.specs.Packets.{traits, colTraits, retireTraits, instant, isPacket}
 use Rattle.spec_rules.specs.History.{first, onlyWrite, passed, leaving, bankOf, anyWrite, Deed, retireDeeds, deeds, closes, has}
 use Rattle.spec_rules.specs.Distances.{distances, each}
 use Rattle.spec_rules.specs.Rules.{freeFor, openFor, dataDelay, stays, dataInPlace}

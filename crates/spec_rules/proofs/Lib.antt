@@ -10,5 +10,6 @@ pub mod TrackLaws
 pub mod RulesAreChecks
 pub mod CheckerRight
 pub mod EarliestLaws
+pub mod LeavingLaws
 pub mod ByCommand
 pub mod ByRule

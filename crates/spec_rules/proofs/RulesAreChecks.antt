@@ -12,9 +12,9 @@ use Rattle.spec_rules.specs.declared.Bank.{Bank}
 use Rattle.spec_rules.specs.declared.Write.{Write}
 use Rattle.spec_rules.specs.declared.Channel.{Channel}
 use Rattle.spec_rules.specs.Neighbour.{bankCount, Context, Neighbours, near}
-use Rattle.spec_rules.specs.Packets.{onPins, traits, instant, isPacket}
+use Rattle.spec_rules.specs.Packets.{onPins, traits, instant}
 use Rattle.spec_rules.specs.History.{Event, bankAfter, isClosed, isOpen, leaving, waitingAfter, bankOf, only, anyWrite, Deed, deeds, closes, events, keeps, over, has}
-use Rattle.spec_rules.specs.Distances.{Kind, packet, ROW, COL, ACT, onlyACT, PRER, RD, WR, retire, bankAs, Banks, any, same, sameOrNeighbour, others, sameNeighbourOrClosed, within, Distance, distances, asked, each, ofRule}
+use Rattle.spec_rules.specs.Distances.{Kind, packet, ROW, COL, ACT, onlyACT, PRER, RD, retire, bankAs, Banks, any, same, sameOrNeighbour, others, sameNeighbourOrClosed, within, Distance, distances, asked, each, ofRule}
 use Rattle.spec_rules.specs.Rules.{freeFor, openFor, dataDelay, stays, dataInPlace, ruleOf, rule1, rule4, rule9, rule12, rule14, rule15, rule16, rules}
 use Rattle.spec_rules.specs.Channel.{inBank, trackOf, stateOf, waitingOf, dueOf, leavingOf}
 use Rattle.spec_rules.specs.Checks.{boundOf, lastOn, lastAt, boundBanks, boundBy, bound, checkOf, checks}

@@ -16,7 +16,6 @@ use Rattle.settings.specs.declared.DataAt.{DataAt}
 use Rattle.record.specs.declared.Dualoct.{Dualoct}
 use Rattle.packet.specs.declared.RowPacket.{RowPacket}
 use Rattle.packet.specs.declared.RowPacket.the-variants.{Act, Prer, Refa, Refp}
-use Rattle.packet.specs.declared.ColPacket.{ColPacket}
 use Rattle.packet.specs.declared.ColPacket.the-variants.{Nocop, Wr, Rd}
 use Rattle.packet.specs.Row.{rowFits}
 use Rattle.packet.specs.Col.{colFits}
@@ -32,7 +31,7 @@ use Rattle.spec_rules.specs.declared.Buffer.the-variants.{Empty, One, Tw
 use Rattle.spec_rules.specs.declared.Channel.{Channel}
 use Rattle.spec_rules.specs.Neighbour.{bankCount, Context, near}
 use Rattle.spec_rules.specs.Packets.{onPins, traits, rowTraits, colTraits, retireTraits, instant, isPacket}
-use Rattle.spec_rules.specs.History.{bankBy, bankAfter, rest, onlyWrite, passed, leaving, left, colLoads, loads, queued, joined, waitingNext, waitingAfter, Event, reaches, closes, Deed, retireDeeds, deeds, eventOf, done, events, has}
+use Rattle.spec_rules.specs.History.{bankBy, bankAfter, rest, onlyWrite, passed, leaving, left, colLoads, loads, queued, joined, waitingNext, waitingAfter, Event, reaches, closes, retireDeeds, deeds, eventOf, done, events, has}
 use Rattle.spec_rules.specs.Rules.{dueAfter}
 use Rattle.spec_rules.specs.Channel.{idle, fresh, trackOf, stateOf, waitingOf, bufferOf, newestDue, dueOf, inBank, imap, bankNext, trackNext, afterPacket, trackRetired, afterRetire, afterData, leavingOf, after}
 use Rattle.spec_rules.proofs.Bools.{not-both, and-left}

@@ -2,7 +2,7 @@
 -- Assumes nothing.
 use Prim.Native.Nat.{ℕ, zero, suc, _+_, _^_, _<_, _≤_}
 use mathlib.Core.Path.{_≡_, refl, sym, ap, _∙_}
-use mathlib.Core.Bool.{Bool, true, false, not, _&&_, _||_}
+use mathlib.Core.Bool.{Bool, true, false, not, _&&_}
 use mathlib.Core.List.{List, [], _∷_, _++_}
 use mathlib.Core.Option.{some}
 use lib.Dec.{eqb}
@@ -132,7 +132,7 @@ module _ (cx : Context) (ns : Neighbours cx) (p : PlannerState) (st : List ℕ) 
   sim-read d k at i =
       let z : Draft = reached cx (at .bank) (at .row) d in
       let g = good-reached cx ns p d (k .0) (at .bank) (at .row) (i .0) (i .1) in
-      let test : List Write → Bool = delays cx at in
+      let test : List Write → Bool = delays at in
       read-on (flushedWhile cx test z) (both-while z (g .0, sim-reached d k (at .bank) (at .row)) test refl)
       (while-state cx test refl z (g .0 .inv .size) (at .bank) (i .0) ∙ g .1) (neither (two (waiting (flushedWhile cx test z))) _ (while-ends cx test refl z) .1)
     where

@@ -2,18 +2,17 @@
 -- Assumes nothing.
 use Prim.Native.Nat.{ℕ, _+_, _*_, _-_, _<_}
 use mathlib.Core.Path.{_≡_, refl, sym, ap, _∙_}
-use mathlib.Core.Bool.{Bool, true, false, cond, _&&_}
-use mathlib.Core.List.{List, [], _∷_, _++_, append-assoc}
+use mathlib.Core.Bool.{Bool, true, false}
+use mathlib.Core.List.{List, _++_, append-assoc}
 use mathlib.Core.Option.{Option, none, some}
 use native.Mathlib.Omega.{arith}
-use lib.Dec.{eqb, leb}
+use lib.Dec.{eqb}
 use lib.ListN.{length, length-append}
 use Rattle.num.specs.Bytes.{bytes, number, part, splice, zeros}
 use Rattle.num.proofs.ByteLaws.{length-bytes}
 use Rattle.num.proofs.PartLaws.{part-left, part-right, part-all, bytes-part, Bytes-bytes}
-use Rattle.settings.specs.declared.PacketAt.{PacketAt}
 use Rattle.packet.specs.declared.ColPacket.{ColPacket}
-use Rattle.packet.specs.declared.ColPacket.the-variants.{Nocop, Wr, Rd}
+use Rattle.packet.specs.declared.ColPacket.the-variants.{Nocop, Wr}
 use Rattle.record.specs.declared.Record.{Record}
 use Rattle.record.specs.declared.Record.the-variants.{ColAt}
 use Rattle.spec_rules.specs.declared.BankTrack.{BankTrack}
@@ -23,13 +22,14 @@ use Rattle.spec_rules.specs.declared.Buffer.the-variants.{Empty, One, Two}
 use Rattle.spec_rules.specs.declared.Channel.{Channel}
 use Rattle.spec_rules.specs.Neighbour.{Context}
 use Rattle.spec_rules.specs.Packets.{traits, colTraits, instant}
-use Rattle.spec_rules.specs.History.{rest, onlyWrite, leaving, loads, joined}
+use Rattle.spec_rules.specs.History.{rest, loads}
 use Rattle.spec_rules.specs.Channel.{idle, trackOf, waitingOf, bufferOf, bankNext, trackNext, afterPacket, trackRetired, afterRetire, afterData, leavingOf, after}
 use Rattle.spec_rules.proofs.ListLaws.{length-imap, getD-imap}
 use Rattle.spec_rules.proofs.TrackLaws.{buffer-waiting}
+use Rattle.spec_rules.proofs.LeavingLaws.{leaving-none}
 use Rattle.spec_state.specs.ChannelBytes.{bankTag, plane, channelBytes}
-use Rattle.spec_state.specs.form.Layout.{body, Numbers, layout, figureOf, lastOfChannel, countWord, countNumber, writeWord, writeNumber, secondNumber, atLast, atCount, atWrite, atSecond, atFigure, numbersOf}
-use Rattle.spec_state.specs.form.Stores.{put, colStored, retireStored, secondIn, emptyStored, shiftStored, writeStored, besideStored, behindStored, dataStored}
+use Rattle.spec_state.specs.form.Layout.{Numbers, layout, figureOf, lastOfChannel, countWord, countNumber, writeWord, writeNumber, secondNumber, atCount, atWrite, atSecond, atFigure, numbersOf}
+use Rattle.spec_state.specs.form.Stores.{colStored, retireStored, secondIn, emptyStored, shiftStored, writeStored, besideStored, behindStored, dataStored}
 use Rattle.spec_state.proofs.PlaneLaws.{length-plane}
 use Rattle.spec_state.proofs.LayoutLaws.{put-retire, put-count, put-write, put-second, layout-ext}
 use Rattle.spec_state.proofs.StoreLaws.{WriteIn, by-numbers, nextNumbers, track-next, next-bytes, pick, on, col-stored}
@@ -264,20 +264,6 @@ module _ (cx : Context) (ch : Channel) (q : List ℕ) (e : length (ch .banks) �
           ∙ sym (loaded-bytes due (Two w (new x c m l k due)) (rw z) (rw z at i, (omega arith, k)))
 
 -- ---- the whole state after a COL packet that is no RD, by what leaves
-
--- what leaves, where these wait
-pub leaving-first : (cx : Context) (ch : Channel) (r : Record) (w : Write) (ws : List Write) → waitingOf (ch .buffer) ≡ w ∷ ws → traits r .notRead ≡ true
-    → leavingOf cx ch r ≡ onlyWrite (leb (w .at .0 + cx .settings .rtr) (instant r)) (some w)
-unfolding leaving
-leaving-first cx ch r w ws z n = rw (z, n)
-
-pub leaving-none : (cx : Context) (ch : Channel) (r : Record) → ch .buffer ≡ Empty → leavingOf cx ch r ≡ none
-unfolding leaving waitingOf
-leaving-none cx ch r z = rw z (go (traits r .notRead && false))
-  where
-    go : (b : Bool) → onlyWrite b none ≡ none
-    go true = refl
-    go false = refl
 
 module _ (cx : Context) (ch : Channel) (q : List ℕ) (e : length (ch .banks) ≡ 32) (i : WriteIn (ch .buffer)) (d : ch .due ≡ false) (t : ℕ) where
   abbrev at : ColPacket → Record

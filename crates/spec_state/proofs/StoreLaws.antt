@@ -3,18 +3,15 @@
 use Prim.Native.Nat.{ℕ, _+_, _*_, _-_, _/_, _%_, _<_}
 use mathlib.Core.Path.{_≡_, refl, sym, ap, _∙_}
 use mathlib.Core.Bool.{Bool, true, false, cond, not, _||_, _&&_}
-use mathlib.Core.List.{List, [], _∷_, _++_, append-assoc}
-use mathlib.Core.Option.{Option, none, some}
+use mathlib.Core.List.{List, _++_, append-assoc}
 use native.Mathlib.Omega.{arith}
-use borrow.Author.Tests.{eqb-true}
 use lib.Dec.{eqb}
-use lib.ListN.{length, getD}
+use lib.ListN.{length}
 use Rattle.num.specs.Bytes.{bytes, splice, zeros}
 use Rattle.settings.specs.declared.PacketAt.{PacketAt}
 use Rattle.packet.specs.declared.RowPacket.{RowPacket}
 use Rattle.packet.specs.declared.RowPacket.the-variants.{Act, Prer, Refa, Refp}
-use Rattle.packet.specs.declared.ColPacket.{ColPacket}
-use Rattle.packet.specs.declared.ColPacket.the-variants.{Nocop, Wr, Rd}
+use Rattle.packet.specs.declared.ColPacket.the-variants.{Rd}
 use Rattle.record.specs.declared.Record.{Record}
 use Rattle.record.specs.declared.Record.the-variants.{RowAt, ColAt}
 use Rattle.spec_rules.specs.declared.Bank.{Bank}
@@ -27,14 +24,14 @@ use Rattle.spec_rules.specs.declared.Channel.{Channel}
 use Rattle.spec_rules.specs.Neighbour.{bankCount, Context, near}
 use Rattle.spec_rules.specs.Packets.{traits, rowTraits, colTraits, instant}
 use Rattle.spec_rules.specs.History.{bankBy, isClosed, leaving, loads, has}
-use Rattle.spec_rules.specs.Channel.{idle, trackOf, stateOf, waitingOf, bufferOf, bankNext, trackNext, afterPacket, trackRetired, afterRetire, afterData, after}
+use Rattle.spec_rules.specs.Channel.{idle, trackOf, stateOf, waitingOf, bufferOf, bankNext, trackNext, afterPacket, afterRetire, after}
 use Rattle.spec_rules.proofs.ListLaws.{getD-imap}
 use Rattle.spec_rules.proofs.TrackLaws.{buffer-waiting}
-use Rattle.spec_state.specs.ChannelBytes.{bankTag, plane, banksBytes, lastsBytes, countBytes, writeBytes, bufferBytes, channelBytes}
-use Rattle.spec_state.specs.form.Layout.{body, rest, Numbers, layout, figureOf, lastOfChannel, countWord, countNumber, writeWord, wordOf, writeNumber, secondNumber, atLast, atCount, atWrite, atTag, atFigure, numbersOf}
-use Rattle.spec_state.specs.form.Stores.{put, rowStored, colStored, actStored, refaStored, closeStored, rdStored, retireStored, emptyStored, writeStored}
+use Rattle.spec_state.specs.ChannelBytes.{bankTag, banksBytes, lastsBytes, countBytes, writeBytes, bufferBytes, channelBytes}
+use Rattle.spec_state.specs.form.Layout.{Numbers, layout, figureOf, lastOfChannel, countWord, countNumber, writeWord, wordOf, writeNumber, secondNumber, atLast, numbersOf}
+use Rattle.spec_state.specs.form.Stores.{rowStored, colStored, actStored, refaStored, closeStored, rdStored}
 use Rattle.spec_state.proofs.RoundTrip.{bytes-zero}
-use Rattle.spec_state.proofs.LayoutLaws.{put-opened, put-act, put-pre, put-rd, put-retire, put-tag, put-704, put-708, put-712, put-716, put-720, put-count, put-write, layout-ext}
+use Rattle.spec_state.proofs.LayoutLaws.{put-opened, put-act, put-pre, put-rd, put-tag, put-704, put-708, put-712, put-716, put-720, layout-ext}
 
 -- ---- the bytes of a state by its numbers
 

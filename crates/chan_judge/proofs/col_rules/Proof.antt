@@ -15,7 +15,7 @@ returns c =
       c .before .before .before .before .unless3 .ensures,
       c .before .before .before .before .before .turned .ensures,
       c .before .before .before .before .before .before .unless2 .ensures,
-      c .before .before .before .before .before .before .before .retire-late .ensures,
+      c .before .before .before .before .before .before .before .stays .ensures,
       c .before .before .before .before .before .before .before .before .unless .ensures,
       c .before .before .before .before .before .before .before .before .before .columns-done .ensures,
     )

@@ -13,7 +13,8 @@ long c = search (length-of-map, c .good .1 .0)
 returns : tie.Need-returns
 returns c =
     let k = c .before .before .before .before .before in
-    let m = k .before .before in
+    let o = k .before .before in
+    let m = o .before .before in
     let n = m .before .before in
     let j = n .before .before .before in
     let i = j .before .before .before in
@@ -22,6 +23,7 @@ returns c =
       c .packet-rule .ensures,
       c .before .before .act-bound .ensures,
       k .around .ensures,
+      o .slot-of5 .ensures .0,
       m .slot-of4 .ensures .0,
       n .slot-of3 .ensures .0,
       n .before .high-of .ensures,
@@ -34,7 +36,8 @@ returns c =
 returns-2 : tie.Need-returns-2
 returns-2 c =
     let k = c .before .before .before in
-    let m = k .before .before in
+    let o = k .before .before in
+    let m = o .before .before in
     let n = m .before .before in
     let j = n .before .before .before in
     let i = j .before .before .before in
@@ -42,6 +45,7 @@ returns-2 c =
     rw (
       c .packet-rule2 .ensures,
       k .around .ensures,
+      o .slot-of5 .ensures .0,
       m .slot-of4 .ensures .0,
       n .slot-of3 .ensures .0,
       n .before .high-of .ensures,
@@ -57,5 +61,5 @@ packet-in-spec =
     (tie.spec
     (λ c κs. search needs) (λ c. search needs) (λ c. search needs) (λ c κs. search needs) (λ c κs. search needs) (λ c. search needs)
     (λ c. search needs) (λ c κs. search needs) (λ c κs. search needs) (λ c. search needs) (λ c. search needs) (λ c κs. search needs)
-    (λ c. search needs) (λ c. search needs) (λ c κs. search needs) (λ c κs. search needs) (λ c κs. search needs) returns (λ c κs. search needs)
+    (λ c. search needs) (λ c. search needs) (λ c κs. search needs) (λ c. search needs) (λ c. search needs) (λ c κs. search needs) (λ c κs. search needs) (λ c κs. search needs) returns (λ c κs. search needs)
     returns-2)

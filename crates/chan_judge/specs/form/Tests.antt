@@ -1,5 +1,5 @@
--- The rules as tests on what one record concerns: of a packet its view, the waiting write, the last instants of the channel and
--- the tracks of four banks. The laws in proofs/ say that these tests are those of the tracked state.
+-- The rules as tests on what one record concerns: of a packet its view, the waiting writes, the last instants of the channel
+-- and the tracks of five banks. The laws in proofs/ say that these tests are those of the tracked state.
 -- Assumes nothing.
 use Prim.Native.Nat.{ℕ, suc, _+_, _-_}
 use mathlib.Core.Bool.{Bool, true, false, not, _&&_, _||_, cond}
@@ -22,7 +22,7 @@ use Rattle.chan_view.specs.declared.View.{View}
 use Rattle.chan_view.specs.declared.Held.{Held}
 use Rattle.chan_view.specs.declared.Tracks.{Tracks}
 use Rattle.chan_view.specs.form.Bounds.{boundIf, three}
-use Rattle.chan_view.specs.form.View.{leaves}
+use Rattle.chan_view.specs.form.View.{leaves, staysBy}
 
 -- ---- rule 5 over all banks
 
@@ -67,6 +67,9 @@ module _ (v : View) where
   abbrev pub test9 : Bool → Tracks → Bool
   test9 out k = (not (v .reads) || isOpen (k .own .bank)) && ((not (v .writes) || isOpen (k .own .bank)) && (not out || isOpen (k .held .bank)))
 
+  abbrev pub test12 : Bool → Held → Bool
+  test12 out h = out || staysBy h v
+
 module _ (s : Settings) (v : View) where
   abbrev pub test1 : ℕ → Bool
   test1 last = isInstant (v .at .0) && (dataInTime s v && leb last (v .at .0))
@@ -85,16 +88,17 @@ module _ (s : Settings) (v : View) where
   abbrev pub test11 : ℕ → Bool
   test11 rd = kept v (v .writes) (since rd (s .cc + s .cac - s .cwd))
 
-  abbrev pub test12 : Bool → Held → Bool
-  test12 out h = not out || leb (h .at .0 + s .rtr) (v .at .0)
-
   abbrev pub test13 : Tracks → Bool
   test13 k =
       kept v (v .precharges) (three (k .own .rd .0) (k .low .rd .0) (k .high .rd .0) (s .rdp))
       && kept v (v .precharges) (three (k .own .retire .0) (k .low .retire .0) (k .high .retire .0) (s .rtp))
 
+  -- a PRER spares the bank x of a write, where one waits
+  abbrev pub spared : Bool → ℕ → BankTrack → Bool
+  spared waits x k = not (waits && (v .precharges && near (contextOf s) (v .bank) x)) || isClosed (k .bank)
+
   abbrev pub test14 : Held → Tracks → Bool
-  test14 h k = not (h .waits && (v .precharges && near (contextOf s) (v .bank) (h .bank))) || isClosed (k .held .bank)
+  test14 h k = spared (h .waits) (h .bank) (k .held) && spared (h .two) (h .next) (k .next)
 
   -- rules 1 to 3
   unfoldable pub pinTests : LastInstants → List Bool
@@ -104,9 +108,9 @@ module _ (s : Settings) (v : View) where
   unfoldable pub rowTests : Tracks → ℕ → LastInstants → List Bool
   rowTests k act l = test4 v k ∷ kept v (v .opens) act ∷ test6 k ∷ test7 k ∷ kept v (v .precharges) (since (l .pre .0) (s .pp)) ∷ []
 
-  -- rules 9 to 13; out says whether the waiting write is retired
+  -- rules 9 to 13; out says whether the older write is retired
   unfoldable pub colTests : Held → Bool → Tracks → LastInstants → List Bool
-  colTests h out k l = test9 v out k ∷ test10 out k ∷ test11 (l .rd .0) ∷ test12 out h ∷ test13 k ∷ []
+  colTests h out k l = test9 v out k ∷ test10 out k ∷ test11 (l .rd .0) ∷ test12 v out h ∷ test13 k ∷ []
 
   -- rules 14 to 16
   unfoldable pub bufferTests : Held → Bool → Tracks → List Bool
@@ -119,4 +123,4 @@ module _ (s : Settings) (v : View) where
 -- ---- data, which only rules 1 and 15 judge
 
 unfoldable pub dataRule : Settings → Held → DataAt → ℕ
-dataRule s h t = cond (isInstant (t .0)) (cond (h .due && eqb (t .0) (h .at .0 + s .cwd)) 0 15) 1
+dataRule s h t = cond (isInstant (t .0)) (cond (h .due && eqb (t .0) (h .newest .0 + s .cwd)) 0 15) 1

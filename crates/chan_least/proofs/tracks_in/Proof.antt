@@ -1,4 +1,4 @@
--- `chan_least::tracks_in` meets its contract: what stands at the indices of the four banks.
+-- `chan_least::tracks_in` meets its contract: what stands at the indices of the five banks.
 use mathlib.Core.Path.{_≡_}
 use lib.ListN.{length}
 use Rattle.chan_view.proofs.PlaceLaws.{length-of-map, around-is}
@@ -11,17 +11,18 @@ long c = search (length-of-map, c .good .1 .0)
 
 returns : tie.Need-returns
 returns c =
-    let z = c .before .before .before .before .before .before .before .before .before .before .before in
+    let z = c .before .before .before .before .before .before .before .before .before .before .before .before .before in
     rw (
       c .around .ensures,
-      c .before .before .before .before .before .slot-of4 .ensures .0,
-      c .before .before .before .before .before .before .slot-of3 .ensures .0,
-      c .before .before .before .before .before .before .before .high-of .ensures,
-      c .before .before .before .before .before .before .before .before .slot-of2 .ensures .0,
-      c .before .before .before .before .before .before .before .before .before .low-of .ensures,
-      c .before .before .before .before .before .before .before .before .before .before .slot-of .ensures .0,
+      c .before .before .before .before .before .before .slot-of5 .ensures .0,
+      c .before .before .before .before .before .before .before .slot-of4 .ensures .0,
+      c .before .before .before .before .before .before .before .before .slot-of3 .ensures .0,
+      c .before .before .before .before .before .before .before .before .before .high-of .ensures,
+      c .before .before .before .before .before .before .before .before .before .before .slot-of2 .ensures .0,
+      c .before .before .before .before .before .before .before .before .before .before .before .low-of .ensures,
+      c .before .before .before .before .before .before .before .before .before .before .before .before .slot-of .ensures .0,
     )
-    (around-is (z .args .t2) (long z) (z .args .s) (z .args .b) (z .args .w))
+    (around-is (z .args .t2) (long z) (z .args .s) (z .args .b) (z .args .h))
 
 pub tracks-in-spec : {M : Type 1} → statement M
-tracks-in-spec = tie.close (tie.spec (λ c κs. search needs) (λ c κs. search needs) (λ c κs. search needs) (λ c κs. search needs) (λ c κs. search needs) (λ c κs. search needs) (λ c. search needs) (λ c. search needs) (λ c. search needs) (λ c. search needs) (λ c. search needs) (λ c. search needs) (λ c. search needs) (λ c. search needs) (λ c κs. search needs) returns)
+tracks-in-spec = tie.close (tie.spec (λ c κs. search needs) (λ c κs. search needs) (λ c κs. search needs) (λ c κs. search needs) (λ c κs. search needs) (λ c κs. search needs) (λ c κs. search needs) (λ c. search needs) (λ c. search needs) (λ c. search needs) (λ c. search needs) (λ c. search needs) (λ c. search needs) (λ c. search needs) (λ c. search needs) (λ c. search needs) (λ c. search needs) (λ c κs. search needs) returns)

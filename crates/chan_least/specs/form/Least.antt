@@ -2,7 +2,8 @@
 -- proofs/ say that these are the bounds of the table of distances.
 -- Assumes nothing.
 use Prim.Native.Nat.{ℕ, _+_, _-_, max}
-use mathlib.Core.Bool.{cond}
+use mathlib.Core.Bool.{Bool, not, _&&_, _||_, cond}
+use lib.Dec.{leb}
 use Rattle.settings.specs.declared.Settings.{Settings}
 use Rattle.settings.specs.declared.PacketAt.{PacketAt}
 use Rattle.spec_rules.specs.declared.LastInstants.{LastInstants}
@@ -10,7 +11,7 @@ use Rattle.spec_rules.specs.Checks.{since}
 use Rattle.chan_view.specs.declared.View.{View}
 use Rattle.chan_view.specs.declared.Held.{Held}
 use Rattle.chan_view.specs.declared.Tracks.{Tracks}
-use Rattle.chan_view.specs.form.View.{leaves}
+use Rattle.chan_view.specs.form.View.{staysBy}
 
 -- ---- by command
 
@@ -72,8 +73,12 @@ packetBound s v k act l =
     (cond (v .precharges) (closeBound s l (openedNear k) (rdNear k) (retireNear k))
     (cond (v .reads) (readBound s l (k .own .act)) (cond (v .writes) (writeBound s l (k .own .act)) (nocopBound s l))))
 
+-- whether a packet that is free to come from this instant on retires the older write: tRTR has passed there, or it may not leave it
+abbrev pub leavesFrom : Settings → Held → View → ℕ → Bool
+leavesFrom s h v free = h .waits && (v .other && (not (staysBy h v) || leb (h .at .0 + s .rtr) free))
+
 -- the least instant from now on
 unfoldable pub leastBy : Settings → View → Held → Tracks → ℕ → LastInstants → ℕ → ℕ
 leastBy s v h k act l now =
     let free : ℕ = max now (max 4 (packetBound s v k act l)) in
-    cond (leaves s h v) (max free (retireBound s (h .at) (k .held .act))) free
+    cond (leavesFrom s h v free) (max free (retireBound s (h .at) (k .held .act))) free

@@ -13,6 +13,7 @@ use Rattle.packet.specs.declared.ColPacket.{ColPacket}
 use Rattle.packet.specs.declared.ColPacket.the-variants.{Nocop, Wr, Rd}
 use Rattle.record.specs.declared.Record.{Record}
 use Rattle.record.specs.declared.Record.the-variants.{RowAt, ColAt, DataOf}
+use Rattle.spec_rules.specs.declared.BankTrack.{BankTrack}
 use Rattle.spec_rules.specs.declared.LastInstants.{LastInstants}
 use Rattle.spec_rules.specs.Neighbour.{contextOf, near}
 use Rattle.spec_rules.specs.History.{isClosed, isOpen}
@@ -22,7 +23,7 @@ use Rattle.chan_view.specs.declared.Tracks.{Tracks}
 use Rattle.chan_view.specs.form.View.{seenOf}
 use Rattle.chan_step.specs.form.Lasts.{retiresBy}
 use Rattle.chan_judge.specs.form.Tests.{dataRule}
-use Rattle.chan_least.specs.form.Least.{openBound, closeBound, readBound, writeBound, nocopBound, retireBound, openedNear, preNear, rdNear, retireNear}
+use Rattle.chan_least.specs.form.Least.{openBound, closeBound, readBound, writeBound, nocopBound, openedNear, preNear, rdNear, retireNear}
 
 -- what rule 5 asks at most where no bank was opened after newest: just what it asks, where tRR is not above tRC and newest is the
 -- latest of all
@@ -32,9 +33,13 @@ actBy s k newest = max (since (newest .0) (s .rr)) (since (openedNear k .0) (s .
 abbrev pub closedNear : Tracks → Bool
 closedNear k = isClosed (k .own .bank) && (isClosed (k .low .bank) && isClosed (k .high .bank))
 
--- rule 14: a PRER or REFP to bank b loses the waiting write
-abbrev pub loses : Settings → ℕ → Held → Tracks → Bool
-loses s b h k = h .waits && (near (contextOf s) b (h .bank) && not (isClosed (k .held .bank)))
+-- rule 14: a PRER or REFP to bank b loses a write to bank x, where one waits
+abbrev pub loses : Settings → ℕ → Bool → ℕ → BankTrack → Bool
+loses s b waits x k = waits && (near (contextOf s) b x && not (isClosed (k .bank)))
+
+-- and of the two that may wait it loses none
+abbrev pub losesNone : Settings → ℕ → Held → Tracks → Bool
+losesNone s b h k = not (loses s b (h .waits) (h .bank) (k .held)) && not (loses s b (h .two) (h .next) (k .next))
 
 module _ (s : Settings) (t : PacketAt) (k : Tracks) (l : LastInstants) where
   -- ACT and REFA; act is what rule 5 asks
@@ -43,7 +48,7 @@ module _ (s : Settings) (t : PacketAt) (k : Tracks) (l : LastInstants) where
 
   -- PRER and REFP
   unfoldable pub closesWell : ℕ → Held → Bool
-  closesWell b h = not (loses s b h k) && leb (closeBound s l (openedNear k) (rdNear k) (retireNear k)) (t .0)
+  closesWell b h = losesNone s b h k && leb (closeBound s l (openedNear k) (rdNear k) (retireNear k)) (t .0)
 
   -- RD, which retires nothing, with this mask
   unfoldable pub readsWell : ℕ → Bool
@@ -53,9 +58,9 @@ module _ (s : Settings) (t : PacketAt) (k : Tracks) (l : LastInstants) where
   unfoldable pub writesWell : Bool
   writesWell = leb (t .0 + s .cwd) horizon && (isOpen (k .own .bank) && leb (writeBound s l (k .own .act)) (t .0))
 
--- what a COL packet with this mask retires, if it does
-unfoldable pub leavesWell : Settings → PacketAt → Tracks → Held → ℕ → Bool → Bool
-leavesWell s t k h m out = cond out (isOpen (k .held .bank) && leb (retireBound s (h .at) (k .held .act)) (t .0)) (eqb m 0xFFFF)
+-- what a COL packet with this mask retires, if it does; stays says whether it may leave the waiting writes
+unfoldable pub leavesWell : Settings → PacketAt → Tracks → Bool → ℕ → Bool → Bool
+leavesWell s t k stays m out = cond out (isOpen (k .held .bank) && leb (since (k .held .act .0) (s .rcd)) (t .0)) (stays && eqb m 0xFFFF)
 
 unfoldable pub rowWell : Settings → PacketAt → RowPacket → Held → Tracks → LastInstants → ℕ → Bool
 rowWell s t (Act b row) h k l act = opensWell s t k l act
@@ -63,10 +68,11 @@ rowWell s t (Prer b) h k l act = closesWell s t k l b h
 rowWell s t (Refa b) h k l act = opensWell s t k l act
 rowWell s t (Refp b) h k l act = closesWell s t k l b h
 
+-- a NOCOP may leave none, a WR one; no RD comes where two wait
 unfoldable pub colWell : Settings → PacketAt → ColPacket → Held → Tracks → LastInstants → Bool → Bool
-colWell s t (Nocop m) h k l out = leavesWell s t k h m out && leb (nocopBound s l) (t .0)
-colWell s t (Wr b c m) h k l out = leavesWell s t k h m out && writesWell s t k l
-colWell s t (Rd b c m) h k l out = readsWell s t k l m
+colWell s t (Nocop m) h k l out = leavesWell s t k (not (h .waits)) m out && leb (nocopBound s l) (t .0)
+colWell s t (Wr b c m) h k l out = leavesWell s t k (not (h .two)) m out && writesWell s t k l
+colWell s t (Rd b c m) h k l out = not (h .two) && readsWell s t k l m
 
 unfoldable pub recordWell : Settings → Record → Held → Tracks → LastInstants → ℕ → Bool
 recordWell s (RowAt t p) h k l act = (isInstant (t .0) && not (h .due)) && rowWell s t p h k l act

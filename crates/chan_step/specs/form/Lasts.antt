@@ -35,15 +35,15 @@ lastsNext (RowAt t p) l = lastsBy t (rowTraits p) l
 lastsNext (ColAt t p) l = lastsBy t (colTraits p) l
 lastsNext (DataOf t d) l = l
 
--- the buffer once the oldest write has left, if it does
+-- the buffer once the older write has left, if it does
 unfoldable pub leftBuffer : Bool → Buffer → Buffer
 leftBuffer leaves b = bufferOf (cond leaves (rest (waitingOf b)) (waitingOf b))
 
--- with a write behind those that wait
+-- with a write behind the older one
 unfoldable pub joinedBuffer : Buffer → Write → Buffer
 joinedBuffer b w = bufferOf (joined (some w) (waitingOf b))
 
--- after a COL packet, and after a record; leaves says whether the oldest write does
+-- after a COL packet, and after a record; leaves says whether the older write does
 unfoldable pub colBuffer : PacketAt → ColPacket → Bool → Buffer → Buffer
 colBuffer t (Nocop m) leaves x = leftBuffer leaves x
 colBuffer t (Wr b c m) leaves x = joinedBuffer (leftBuffer leaves x) (record { bank = b; column = c; at = t })
@@ -54,7 +54,7 @@ bufferNext (RowAt t p) leaves x = x
 bufferNext (ColAt t p) leaves x = colBuffer t p leaves x
 bufferNext (DataOf t d) leaves x = x
 
--- whether a record retires the waiting write
+-- whether a record retires the older write
 unfoldable pub retiresBy : Settings → Held → Seen → Bool
 retiresBy s h (Packet v) = leaves s h v
 retiresBy s h (Data t) = false

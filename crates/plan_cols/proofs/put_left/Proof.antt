@@ -1,18 +1,17 @@
 -- `plan_cols::put_left` meets its contract.
 use mathlib.Core.Path.{sym, _∙_}
 use native.Mathlib.Omega.{arith}
-use Rattle.spec_state.specs.form.Stores.{retireStored}
 use Rattle.plan_cols.specs.form.Slots.{leftStored}
 use borrow.Author.Needs.{needs}
 use Rattle.plan_cols.proofs.put_left.Statement.{statement}
 use Rattle.plan_cols.proofs.put_left.Tie as tie
 
-put-u32-requires : tie.Need-put-u32-requires
-put-u32-requires c κs = omega (arith, c .before .held-bank .ensures .0, c .before .before .before .before .before .before .before .pre .1 (sym (c .before .before .before .before .waits .ensures) ∙ c .before .before .before .if1 .taken))
+store-retire-requires : tie.Need-store-retire-requires
+store-retire-requires c κs = (search needs, omega (arith, c .before .held-bank .ensures .0, c .before .before .before .before .before .before .before .pre .1 (sym (c .before .before .before .before .waits .ensures) ∙ c .before .before .before .if1 .taken)))
 
 returns : tie.Need-returns
-unfolding leftStored retireStored
-returns c = rw (← c .before .before .before .before .before .before .before .waits .ensures, c .before .before .before .before .before .before .if1 .taken) (rw (c .before .before .before .before .held-bank .ensures .0) at (c .before .before .put-u32 .ensures))
+unfolding leftStored
+returns c = rw (← c .before .before .before .before .before .before .before .waits .ensures, c .before .before .before .before .before .before .if1 .taken) (rw (c .before .before .before .before .held-bank .ensures .0) at (c .before .before .store-retire .ensures))
 
 returns-2 : tie.Need-returns-2
 unfolding leftStored
@@ -25,9 +24,7 @@ put-left-spec =
     (λ c κs. search needs)
     (λ c κs. search needs)
     (λ c. search needs)
-    (λ c. search needs)
-    (λ c. search needs)
-    put-u32-requires
+    store-retire-requires
     (λ c. search needs)
     returns
     (λ c. search needs)

@@ -1,20 +1,16 @@
 -- `plan_cols::put_nocop` meets its contract.
-use Rattle.spec_state.specs.form.Stores.{emptyStored, retireStored}
 use borrow.Author.Needs.{needs}
 use Rattle.plan_cols.proofs.put_nocop.Statement.{statement}
 use Rattle.plan_cols.proofs.put_nocop.Tie as tie
 
 returns : tie.Need-returns
-unfolding emptyStored retireStored
-returns c = rw (c .before .before .put-col .ensures, c .before .before .before .before .before .before .put-u642 .ensures, c .before .before .before .before .before .before .before .before .before .before .put-u64 .ensures, c .before .before .before .before .before .before .before .before .before .before .before .before .before .before .put-u32 .ensures, c .before .before .before .before .before .before .before .before .before .before .before .before .before .before .before .before .held-bank .ensures .0)
+returns c = rw (c .before .before .put-now .ensures, c .before .before .before .before .before .before .store-col .ensures, c .before .before .before .before .before .before .before .before .before .before .store-empty .ensures, c .before .before .before .before .before .before .before .before .before .before .before .before .before .before .store-retire .ensures, c .before .before .before .before .before .before .before .before .before .before .before .before .before .before .before .before .held-bank .ensures .0)
 
 pub put-nocop-spec : {M : Type 1} → statement M
 put-nocop-spec =
     tie.close
     (tie.spec
     (λ c κs. search needs)
-    (λ c. search needs)
-    (λ c. search needs)
     (λ c. search needs)
     (λ c κs. search needs)
     (λ c κs. search needs)

@@ -16,14 +16,14 @@ wr-at-requires c κs = let t = bounds _ (readies _ _ _ (c .before .before .befor
 col-word-requires : tie.Need-col-word-requires
 col-word-requires c κs = device-in _ _ _ (c .before .before .before .before .before .before .before .pre .0)
 
-put-record-requires : tie.Need-put-record-requires
-put-record-requires c κs = (search needs, (omega (arith, c .before .before .before .before .wr-at .ensures, wr-says _ _ _ (c .before .before .before .before .before .before .before .before .before .pre .0) (omega arith) (c .before .before .before .before .before .before .before .before .before .args .at .bank) (c .before .before .before .before .before .before .before .before .before .args .at .column) (c .before .before .before .before .before .before .before .before .before .pre .1 .1 .0 .0) .fits), search needs))
+put-packet-requires : tie.Need-put-packet-requires
+put-packet-requires c κs = (search needs, (omega (arith, c .before .before .before .before .wr-at .ensures, wr-says _ _ _ (c .before .before .before .before .before .before .before .before .before .pre .0) (omega arith) (c .before .before .before .before .before .before .before .before .before .args .at .bank) (c .before .before .before .before .before .before .before .before .before .args .at .column) (c .before .before .before .before .before .before .before .before .before .pre .1 .1 .0 .0) .fits), search needs))
 
-add-put-record-2 : tie.Need-add-put-record-2
-add-put-record-2 c = omega (arith, c .before .before .before .before .before .before .before .before .before .wr-at .ensures, c .wide32 .ensures .1, wr-says _ _ _ (c .before .before .before .before .before .before .before .before .before .before .before .before .before .before .pre .0) (omega arith) (c .before .before .before .before .before .before .before .before .before .before .before .before .before .before .args .at .bank) (c .before .before .before .before .before .before .before .before .before .before .before .before .before .before .args .at .column) (c .before .before .before .before .before .before .before .before .before .before .before .before .before .before .pre .1 .1 .0 .0) .fits)
-
-put-record-requires-2 : tie.Need-put-record-requires-2
-put-record-requires-2 c κs = let t = bounds _ (readies _ _ _ (c .before .before .before .before .before .before .before .before .before .before .before .before .before .before .pre .0) .figures) in (search needs, (omega (arith, c .before .before .before .before .before .before .before .before .before .wr-at .ensures, c .wide32 .ensures .0, wr-says _ _ _ (c .before .before .before .before .before .before .before .before .before .before .before .before .before .before .pre .0) (omega arith) (c .before .before .before .before .before .before .before .before .before .before .before .before .before .before .args .at .bank) (c .before .before .before .before .before .before .before .before .before .before .before .before .before .before .args .at .column) (c .before .before .before .before .before .before .before .before .before .before .before .before .before .before .pre .1 .1 .0 .0) .fits), search needs))
+data-at-requires : tie.Need-data-at-requires
+data-at-requires c κs =
+    let z = c .before .before .before .before .before .before .before .before .before .before .before .before .before in
+    let t = bounds _ (readies _ _ _ (z .pre .0) .figures) in
+    omega (arith, c .before .before .before .before .before .before .before .before .wr-at .ensures, wr-says _ _ _ (z .pre .0) (omega arith) (z .args .at .bank) (z .args .at .column) (z .pre .1 .1 .0 .0) .fits)
 
 put-wr-requires : tie.Need-put-wr-requires
 put-wr-requires c κs = let t = bounds _ (readies _ _ _ (c .before .before .before .before .before .before .before .before .before .before .before .before .before .before .before .before .before .before .pre .0) .figures) in (search needs, (held-bank _ _ _ (c .before .before .before .before .before .before .before .before .before .before .before .before .before .before .before .before .before .before .pre .0), (omega (arith, c .before .before .before .before .before .before .before .before .before .before .before .before .before .before .before .before .before .before .pre .1 .1 .0 .0), (omega (arith, c .before .before .before .before .before .before .before .before .before .before .before .before .before .before .before .before .before .before .pre .1 .1 .0 .2), omega (arith, c .before .before .before .before .before .before .before .before .before .before .before .before .before .wr-at .ensures, wr-says _ _ _ (c .before .before .before .before .before .before .before .before .before .before .before .before .before .before .before .before .before .before .pre .0) (omega arith) (c .before .before .before .before .before .before .before .before .before .before .before .before .before .before .before .before .before .before .args .at .bank) (c .before .before .before .before .before .before .before .before .before .before .before .before .before .before .before .before .before .before .args .at .column) (c .before .before .before .before .before .before .before .before .before .before .before .before .before .before .before .before .before .before .pre .1 .1 .0 .0) .fits)))))
@@ -34,7 +34,7 @@ add-result c = omega (arith, c .before .before .before .before .before .before .
 returns : tie.Need-returns
 returns c =
     let z = c .before .before .before .before .before .before .before .before .before .before .before .before .before .before .before .before .before .before .before .before .before in
-    wr-drawn _ _ _ (z .pre .0) (omega arith) (z .args .at) (z .args .mask) (z .args .d) (z .pre .1 .1 .0 .0) (z .pre .1 .1 .0 .2) _ _ _ _ _ _ _ refl (omega (arith, z .pre .1 .1 .1)) (rw (c .before .before .before .before .before .before .before .before .before .before .before .before .before .before .before .before .wr-at .ensures) at (c .before .before .put-wr .ensures)) (rw (c .before .before .before .before .before .before .before .before .before .before .before .before .before .before .before .before .wr-at .ensures, c .before .before .before .before .before .before .before .before .before .before .before .before .before .col-word .ensures) at (c .before .before .before .before .before .before .before .before .before .before .before .put-record .ensures)) (c .before .before .before .before .before .before .before .before .before .before .before .before .before .before .carried .ensures .0) (rw (c .before .before .before .before .before .before .before .before .before .before .before .before .before .before .before .before .wr-at .ensures, c .before .before .before .before .before .before .before .wide32 .ensures .0) at (c .before .before .before .before .before .before .put-record2 .ensures))
+    wr-drawn _ _ _ (z .pre .0) (omega arith) (z .args .at) (z .args .mask) (z .args .d) (z .pre .1 .1 .0 .0) (z .pre .1 .1 .0 .2) _ _ _ _ _ _ _ refl (omega (arith, z .pre .1 .1 .1)) (rw (c .before .before .before .before .before .before .before .before .before .before .before .before .before .before .before .before .wr-at .ensures) at (c .before .before .put-wr .ensures)) (rw (c .before .before .before .before .before .before .before .before .before .before .before .before .before .before .before .before .wr-at .ensures, c .before .before .before .before .before .before .before .before .before .before .before .before .before .col-word .ensures) at (c .before .before .before .before .before .before .before .before .before .before .before .put-packet .ensures)) (c .before .before .before .before .before .before .before .before .before .before .before .before .before .before .carried .ensures .0) (rw (c .before .before .before .before .before .before .before .data-at .ensures, c .before .before .before .before .before .before .before .before .before .before .before .before .before .before .before .before .wr-at .ensures) at (c .before .before .before .before .before .before .put-data .ensures))
 
 pub wr-spec : {M : Type 1} → statement M
 wr-spec =
@@ -44,11 +44,10 @@ wr-spec =
     wr-at-requires
     (λ c κs. search needs)
     col-word-requires
-    put-record-requires
+    put-packet-requires
     (λ c. search needs)
+    data-at-requires
     (λ c κs. search needs)
-    add-put-record-2
-    put-record-requires-2
     put-wr-requires
     add-result
     (λ c. search needs)

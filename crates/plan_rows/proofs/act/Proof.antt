@@ -6,11 +6,16 @@ use borrow.Author.Needs.{needs}
 use Rattle.plan_rows.proofs.act.Statement.{statement}
 use Rattle.plan_rows.proofs.act.Tie as tie
 
-put-record-requires : tie.Need-put-record-requires
-put-record-requires c κs = (search needs, (omega (arith, c .before .before .open-at .ensures, act-says _ _ _ (c .before .before .before .before .before .before .pre .0) (omega arith) (c .before .before .before .before .before .before .args .bank) (c .before .before .before .before .before .before .args .row) (c .before .before .before .before .before .before .pre .1 .1 .0) .fits), search needs))
+put-packet-requires : tie.Need-put-packet-requires
+put-packet-requires c κs =
+    let z = c .before .before .before .before .before .before in
+    (search needs, (omega (arith, c .before .before .open-at .ensures, act-says _ _ _ (z .pre .0) (omega arith) (z .args .bank) (z .args .row) (z .pre .1 .1 .0) .fits), search needs))
 
 returns : tie.Need-returns
-returns c = act-drawn _ _ _ (c .before .before .before .before .before .before .before .before .before .before .before .before .before .pre .0) (omega arith) _ _ _ _ _ refl (c .before .before .before .before .before .before .before .before .before .before .before .before .before .args .bank) (c .before .before .before .before .before .before .before .before .before .before .before .before .before .args .row) (c .before .before .before .before .before .before .before .before .before .before .before .before .before .pre .1 .1 .0) (rw (c .before .before .before .before .before .before .before .before .before .open-at .ensures) at (c .before .before .put-act .ensures)) (rw (c .before .before .before .before .before .before .before .before .before .open-at .ensures, c .before .before .before .before .before .before .before .before .row-word .ensures) at (c .before .before .before .before .before .before .put-record .ensures))
+returns c =
+    let z = c .before .before .before .before .before .before .before .before .before .before .before .before .before .before .before .before .before in
+    let e = c .before .before .before .before .before .before .before .before .before .before .before .before .before .open-at .ensures in
+    act-drawn _ _ _ (z .pre .0) (omega arith) _ _ _ _ _ refl (z .args .bank) (z .args .row) (z .pre .1 .1 .0) (rw (c .before .before .before .before .before .before .store-act .ensures, e) at (c .before .before .put-now .ensures)) (rw (e, c .before .before .before .before .before .before .before .before .before .before .before .before .row-word .ensures) at (c .before .before .before .before .before .before .before .before .before .before .put-packet .ensures))
 
 pub act-spec : {M : Type 1} → statement M
 act-spec =
@@ -18,7 +23,8 @@ act-spec =
     (tie.spec
     (λ c κs. search needs)
     (λ c κs. search needs)
-    put-record-requires
+    put-packet-requires
+    (λ c κs. search needs)
     (λ c κs. search needs)
     (λ c. search needs)
     (λ c. search needs)

@@ -4,12 +4,15 @@ use Rattle.plan_rows.proofs.close.Statement.{statement}
 use Rattle.plan_rows.proofs.close.Tie as tie
 
 returns : tie.Need-returns
-returns c = (rw (c .before .before .before .before .before .before .before .before .close-at .ensures) at (c .before .before .put-close .ensures), rw (c .before .before .before .before .before .before .before .before .close-at .ensures) at (c .before .before .before .before .before .before .put-record .ensures))
+returns c =
+    let e = c .before .before .before .before .before .before .before .before .before .before .before .before .close-at .ensures in
+    (rw (c .before .before .before .before .before .before .store-close .ensures, e) at (c .before .before .put-now .ensures), rw e at (c .before .before .before .before .before .before .before .before .before .before .put-packet .ensures))
 
 pub close-spec : {M : Type 1} → statement M
 close-spec =
     tie.close
     (tie.spec
+    (λ c κs. search needs)
     (λ c κs. search needs)
     (λ c κs. search needs)
     (λ c κs. search needs)

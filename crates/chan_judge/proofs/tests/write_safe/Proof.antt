@@ -1,4 +1,4 @@
--- `chan_judge::tests::write_safe` meets its contract: the test is that of the definition.
+-- `chan_judge::tests::write_safe` meets its contract: of either write.
 use borrow.Author.Needs.{needs}
 use Rattle.chan_judge.proofs.tests.write_safe.Statement.{statement}
 use Rattle.chan_judge.proofs.tests.write_safe.Tie as tie
@@ -6,8 +6,8 @@ use Rattle.chan_judge.proofs.tests.write_safe.Tie as tie
 returns : tie.Need-returns
 returns c =
     rw (
-      c .is-closed .ensures,
-      c .before .before .before .is-near .ensures,
+      c .spared2 .ensures,
+      c .before .spared .ensures,
     )
 
 pub write-safe-spec : {M : Type 1} → statement M

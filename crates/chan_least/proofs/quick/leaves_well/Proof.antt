@@ -6,7 +6,7 @@ use Rattle.chan_least.proofs.quick.leaves_well.Tie as tie
 
 returns : tie.Need-returns
 unfolding leavesWell
-returns c = rw (c .wide32 .ensures .0, c .before .retire-bound .ensures, c .before .before .is-open .ensures, c .before .before .before .before .if1 .taken)
+returns c = rw (c .wide32 .ensures .0, c .before .after-gap .ensures, c .before .before .is-open .ensures, c .before .before .before .before .if1 .taken)
 
 returns-2 : tie.Need-returns-2
 unfolding leavesWell
