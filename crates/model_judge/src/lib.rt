@@ -71,13 +71,14 @@ fn act_in(s: Settings, b: &[u8], bank: u32) -> u64
 fn packet_in(s: Settings, b: &[u8], h: Held, v: View) -> u32
     requires { ⌜ 752 ≤ length (now b) ⌝ }
     requires { ⌜ InRange (now b) ⌝ }
-    ensures { λ n. ⌜ n ≡ packetRule s v h (tracksOf s (channelIn (now (b .entry)) .banks) (v .bank) (h .bank)) (actOver s (channelIn (now (b .entry)) .banks) (v .bank)) (channelIn (now (b .entry)) .lasts) ⌝ }
+    ensures { λ n. ⌜ n ≡ packetRule s v h (tracksOf s (channelIn (now (b .entry)) .banks) (v .bank) h) (actOver s (channelIn (now (b .entry)) .banks) (v .bank)) (channelIn (now (b .entry)) .lasts) ⌝ }
 {
     let own = track_for(b, v.bank);
     let low = track_for(b, low_of(s, v.bank));
     let high = track_for(b, high_of(s, v.bank));
     let held = track_for(b, h.bank);
-    let k = around(s, v.bank, h.bank, own, low, high, held);
+    let next = track_for(b, h.next);
+    let k = around(s, v.bank, h, own, low, high, held, next);
     let l = lasts_at(b);
     if v.opens {
         return packet_rule(s, v, h, k, act_in(s, b, v.bank), l);

@@ -24,8 +24,8 @@ use Rattle.spec_rules.specs.declared.Bank.the-variants.{Closed, Open, Refresh}
 use Rattle.spec_rules.specs.declared.Write.{Write}
 use Rattle.spec_rules.specs.declared.Channel.{Channel}
 use Rattle.spec_rules.specs.Neighbour.{Context, bankCount}
-use Rattle.spec_rules.specs.Packets.{traits, rowTraits, colTraits}
-use Rattle.spec_rules.specs.History.{onlyWrite, first, leaving, allWrites}
+use Rattle.spec_rules.specs.Packets.{traits, rowTraits, colTraits, instant}
+use Rattle.spec_rules.specs.History.{onlyWrite, first, passed, leaving, allWrites}
 use Rattle.spec_rules.specs.Channel.{stateOf, waitingOf, leavingOf}
 use Rattle.spec_rules.proofs.Bools.{and-left, and-right}
 use Rattle.spec_state.specs.Valid.{bankValid, writeValid}
@@ -158,11 +158,11 @@ module _ (cx : Context) (m : ModelState) (own held : Bank) where
         (ltb-true _ _ (and-left (ltb b 32) _ e), ltb-true _ _ (and-left (ltb c (cx .settings .columns)) _ q), ltb-true _ _ (and-right (ltb c (cx .settings .columns)) _ q))
 
     pub touch-in : (r : Record) → finds r → recordFits (cx .settings) r ≡ true → TouchIn cx (touched r)
-    unfolding recordFits colFits touchOf colTouch TouchIn PlaceIn leaving traits colTraits
+    unfolding recordFits colFits touchOf colTouch TouchIn PlaceIn leaving traits colTraits instant
     touch-in (RowAt t p) f e = tt
     touch-in (DataOf t d) f e = tt
-    touch-in (ColAt t (Nocop x)) f e = retire-in true x (ltb-true _ _ e) _ refl (f .retired)
-    touch-in (ColAt t (Wr b c x)) f e = retire-in true x (fits-bank b c x e .2) _ refl (f .retired)
+    touch-in (ColAt t (Nocop x)) f e = retire-in (passed cx (first (waitingOf (m .channel .buffer))) (t .0)) x (ltb-true _ _ e) _ refl (f .retired)
+    touch-in (ColAt t (Wr b c x)) f e = retire-in (passed cx (first (waitingOf (m .channel .buffer))) (t .0)) x (fits-bank b c x e .2) _ refl (f .retired)
     touch-in (ColAt t (Rd b c x)) f e = let p = fits-bank b c x e in (p .0, rw (f .read b refl) (found-in b (p .0)), p .1)
 
 -- a refused record leaves the store

@@ -1,5 +1,6 @@
 // What a record asks of the store, from the state of the channel before it.
 ghost use mathlib.Core.Path.{_≡_};
+ghost use mathlib.Core.Option.{some};
 ghost use Rattle.spec_rules.specs.History.{onlyWrite, first};
 ghost use Rattle.spec_rules.specs.Channel.{waitingOf};
 ghost use Rattle.spec_model.specs.Model.{openRow};
@@ -36,19 +37,25 @@ fn place_of(w: Write, held: BankTrack) -> Place
     }
 }
 
-// The retire of the oldest write, if it leaves, under the mask of the packet that retires it.
+// The retire of a write, if it leaves, under the mask of the packet that retires it.
+fn leave_touch(w: Write, leaves: bool, held: BankTrack, mask: u32) -> Touch
+    ensures { λ t. ⌜ t ≡ retireTouch (onlyWrite leaves (some w)) (held .bank) mask ⌝ }
+{
+    if leaves {
+        Touch::Retires(place_of(w, held), mask)
+    } else {
+        Touch::Nothing
+    }
+}
+
+// The same of the older write that waits.
 fn retire_touch(b: Buffer, leaves: bool, held: BankTrack, mask: u32) -> Touch
     ensures { λ t. ⌜ t ≡ retireTouch (onlyWrite leaves (first (waitingOf b))) (held .bank) mask ⌝ }
 {
     match b {
         Buffer::Empty => Touch::Nothing,
-        Buffer::One(w) => {
-            if leaves {
-                Touch::Retires(place_of(w, held), mask)
-            } else {
-                Touch::Nothing
-            }
-        }
+        Buffer::One(w) => leave_touch(w, leaves, held, mask),
+        Buffer::Two(w, _) => leave_touch(w, leaves, held, mask),
     }
 }
 
@@ -74,7 +81,7 @@ fn col_touch(p: ColPacket, b: Buffer, leaves: bool, own: BankTrack, held: BankTr
     }
 }
 
-// What a record asks, where the bank that it names has one track and the bank of the oldest write, which leaves or not, another.
+// What a record asks, where the bank that it names has one track and the bank of the older write, which leaves or not, another.
 pub fn touch_of(r: Record, b: Buffer, leaves: bool, own: BankTrack, held: BankTrack) -> Touch
     ensures { λ t. ⌜ t ≡ touchOf r (onlyWrite leaves (first (waitingOf b))) (own .bank) (held .bank) ⌝ }
 {

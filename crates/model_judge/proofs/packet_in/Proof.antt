@@ -9,7 +9,7 @@ use Rattle.model_judge.proofs.packet_in.Tie as tie
 returns : tie.Need-returns
 returns c =
     let k = c .before .before .before in
-    let m = k .before .before .before in
+    let m = k .before .before .before .before in
     let n = m .before .before in
     let z = n .before .before .before .before in
     let b = z .args .b .now in
@@ -18,7 +18,8 @@ returns c =
       c .before .act-in .ensures,
       k .lasts-at .ensures,
       k .before .around .ensures,
-      k .before .before .track-for4 .ensures,
+      k .before .before .track-for5 .ensures,
+      k .before .before .before .track-for4 .ensures,
       m .track-for3 .ensures,
       m .before .high-of .ensures,
       n .track-for2 .ensures,
@@ -31,7 +32,7 @@ returns c =
 returns-2 : tie.Need-returns-2
 returns-2 c =
     let k = c .before .before in
-    let m = k .before .before .before in
+    let m = k .before .before .before .before in
     let n = m .before .before in
     let z = n .before .before .before .before in
     let b = z .args .b .now in
@@ -39,7 +40,8 @@ returns-2 c =
       c .packet-rule2 .ensures,
       k .lasts-at .ensures,
       k .before .around .ensures,
-      k .before .before .track-for4 .ensures,
+      k .before .before .track-for5 .ensures,
+      k .before .before .before .track-for4 .ensures,
       m .track-for3 .ensures,
       m .before .high-of .ensures,
       n .track-for2 .ensures,
@@ -55,6 +57,7 @@ packet-in-spec =
     (tie.spec
     (λ c κs. c .before .pre) (λ c κs. search needs) (λ c κs. c .before .before .before .pre) (λ c κs. search needs)
     (λ c κs. c .before .before .before .before .before .pre) (λ c κs. c .before .before .before .before .before .before .pre)
-    (λ c κs. search needs) (λ c κs. c .before .before .before .before .before .before .before .before .pre)
-    (λ c κs. c .before .before .before .before .before .before .before .before .before .before .pre) (λ c κs. search needs) returns
+    (λ c κs. c .before .before .before .before .before .before .before .pre) (λ c κs. search needs)
+    (λ c κs. c .before .before .before .before .before .before .before .before .before .pre)
+    (λ c κs. c .before .before .before .before .before .before .before .before .before .before .before .pre) (λ c κs. search needs) returns
     (λ c κs. search needs) returns-2)

@@ -1,4 +1,4 @@
--- `model_store::touching::retire_touch` meets its contract: by the state of the buffer, and by whether the oldest write leaves.
+-- `model_store::touching::retire_touch` meets its contract: by the state of the buffer.
 use Prim.Native.Nat.{ℕ}
 use mathlib.Core.Path.{_≡_, refl}
 use mathlib.Core.Bool.{Bool, true, false}
@@ -23,12 +23,12 @@ unfolding waitingOf
 returns c = let a = c .before .before .args in rw (c .enum-told .given .1) (no-write (a .leaves) (a .held .bank) (a .mask))
 
 returns-2 : tie.Need-returns-2
-unfolding retireTouch waitingOf
-returns-2 c = rw (c .before .if1 .taken, c .before .before .before .b .given .1, c .place-of .ensures)
+unfolding waitingOf
+returns-2 c = rw (c .before .before .b .given .1) (c .leave-touch .ensures)
 
 returns-3 : tie.Need-returns-3
-unfolding retireTouch
-returns-3 c = rw (c .if1 .left)
+unfolding waitingOf
+returns-3 c = rw (c .before .before .b2 .given .1) (c .leave-touch2 .ensures)
 
 pub retire-touch-spec : {M : Type 1} → statement M
-retire-touch-spec = tie.close (tie.spec (λ c. search needs) (λ c. search needs) (λ c κs. search needs) returns returns-2 returns-3)
+retire-touch-spec = tie.close (tie.spec (λ c. search needs) (λ c. search needs) (λ c κs. search needs) (λ c. search needs) (λ c κs. search needs) returns returns-2 returns-3)
