@@ -52,7 +52,7 @@ fn long_streams() {
         plan_all(&mut random, &mut seen, &mut run, &maker, 150);
         run.check();
     }
-    seen.report("plan, long streams", &[0, 2, 3, 4, 5, 6, 8, 13]);
+    seen.report("plan, long streams", &[0, 2, 3, 4, 5, 6, 7, 8, 13]);
     seen.all_kinds();
 }
 

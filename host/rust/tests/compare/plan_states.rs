@@ -133,7 +133,7 @@ fn damaged_bytes() {
             seen.add(call(&numbers, &damaged, &request, ENOUGH));
         }
     }
-    let numbers = [0, 1, 2, 3, 4, 5, 6, 13];
+    let numbers = [0, 1, 2, 3, 4, 5, 6, 7, 13];
     seen.report("plan, states with damaged bytes", &numbers);
 }
 
