@@ -51,7 +51,7 @@ void test_state(void)
     check(state_is(model, MODEL, LATEST, COUNT(LATEST)), "state at the last instants");
 }
 
-/* States with bank 2 open on row 1: with no write, with one whose data are due, and with one and two that wait in it. */
+/* States with bank 2 open on row 1: no write, one with data due, one that waits, two with data due, two that wait. */
 static uint8_t none_waits[MODEL], is_due[MODEL], waits[MODEL], second_due[MODEL], two_wait[MODEL];
 
 static void make_states(void)

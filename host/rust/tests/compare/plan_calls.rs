@@ -181,7 +181,11 @@ impl Seen {
         self.kinds[usize::from(request[0])] += 1;
         self.records[commands.len()] += 1;
         let pair = |a, b| commands.windows(2).any(|w| w == [Some(a), Some(b)]);
-        let flushed = |c| commands.windows(3).any(|w| w == [Some(NOCOP), Some(NOCOP), Some(c)]);
+        let flushed = |c| {
+            commands
+                .windows(3)
+                .any(|w| w == [Some(NOCOP), Some(NOCOP), Some(c)])
+        };
         let closings = commands.iter().filter(|c| **c == Some(PRER)).count();
         let mut records = list.chunks(32).zip(commands);
         self.shapes[0] += u64::from(pair(NOCOP, RD));

@@ -2,12 +2,12 @@
 //! then by reference and library. A packet is written as in the paper's listings: instant, name,
 //! bank, row or column, mask or `-`; D shows its WR's bank and column.
 
-use crate::lists::{rule_numbers, T_CC, T_RTR};
 use crate::plan_calls::{Run, Seen, ENOUGH};
 use crate::plan_streams::{bare, read, wait, write, DRAIN, REFRESH};
-use crate::random::{bytes, set_h, Random};
+use crate::random::{bytes, set_h};
 use crate::reference::{figures, number, packet, word, NOCOP};
 use crate::reference_plan::Planner;
+use crate::two_writes;
 
 const NAMES: [&str; 7] = ["ACT", "PRER", "REFA", "REFP", "NOCOP", "WR", "RD"];
 
@@ -31,13 +31,15 @@ fn listing(settings: &[u8], list: &[u8]) -> Vec<String> {
     list.chunks(32).map(line).collect()
 }
 
-const ONES: [u8; 16] = [1; 16];
-const TWOS: [u8; 16] = [2; 16];
+pub const ONES: [u8; 16] = [1; 16];
+pub const TWOS: [u8; 16] = [2; 16];
 
-type Requests = Vec<Vec<u8>>;
+pub type Requests = Vec<Vec<u8>>;
 
 /// Requests and the lines that they must make.
-fn runs() -> Vec<(Requests, Vec<&'static str>)> {
+pub type Runs = Vec<(Requests, Vec<&'static str>)>;
+
+fn runs() -> Runs {
     vec![
         (
             vec![
@@ -100,138 +102,6 @@ fn runs() -> Vec<(Requests, Vec<&'static str>)> {
                 "52 REFP 1 0 -",
             ],
         ),
-        // The second WR comes beside the first write, with M = 0.
-        (
-            vec![write(0, 0, 0, 0x0003, &ONES), write(0, 0, 0, 0x0006, &TWOS)],
-            vec![
-                "4 ACT 0 0 -",
-                "5 WR 0 0 -",
-                "11 D 0 0 -",
-                "9 WR 0 0 -",
-                "15 D 0 0 -",
-            ],
-        ),
-        // A read of the older write's dualoct, then of the newer's: each waits for its own.
-        (
-            vec![
-                write(0, 0, 0, 0x0003, &ONES),
-                write(0, 0, 1, 0x0006, &TWOS),
-                read(0, 0, 0),
-                read(0, 0, 1),
-            ],
-            vec![
-                "4 ACT 0 0 -",
-                "5 WR 0 0 -",
-                "11 D 0 0 -",
-                "9 WR 0 1 -",
-                "15 D 0 1 -",
-                "13 NOCOP 0 0 0003",
-                "17 RD 0 0 -",
-                "21 NOCOP 0 0 0006",
-                "25 RD 0 1 -",
-            ],
-        ),
-        // A read of the newer write's dualoct: both retire.
-        (
-            vec![
-                write(0, 0, 0, 0x0003, &ONES),
-                write(0, 0, 1, 0xFFFF, &TWOS),
-                read(0, 0, 1),
-            ],
-            vec![
-                "4 ACT 0 0 -",
-                "5 WR 0 0 -",
-                "11 D 0 0 -",
-                "9 WR 0 1 -",
-                "15 D 0 1 -",
-                "13 NOCOP 0 0 0003",
-                "17 NOCOP 0 0 -",
-                "21 RD 0 1 -",
-            ],
-        ),
-        // A read of another place: the NOCOP comes after the ACT, directly before the RD.
-        (
-            vec![
-                write(0, 0, 0, 0x0003, &ONES),
-                write(0, 0, 1, 0x0006, &TWOS),
-                read(4, 0, 0),
-            ],
-            vec![
-                "4 ACT 0 0 -",
-                "5 WR 0 0 -",
-                "11 D 0 0 -",
-                "9 WR 0 1 -",
-                "15 D 0 1 -",
-                "12 ACT 4 0 -",
-                "13 NOCOP 0 0 0003",
-                "21 RD 4 0 -",
-            ],
-        ),
-        // Another row of the newer write's bank: both retire before the PRER.
-        (
-            vec![
-                read(0, 0, 0),
-                write(4, 0, 0, 0x0003, &ONES),
-                write(0, 0, 1, 0x0006, &TWOS),
-                read(0, 1, 1),
-            ],
-            vec![
-                "4 ACT 0 0 -",
-                "13 RD 0 0 -",
-                "13 ACT 4 0 -",
-                "19 WR 4 0 -",
-                "25 D 4 0 -",
-                "23 WR 0 1 -",
-                "29 D 0 1 -",
-                "27 NOCOP 0 0 0003",
-                "31 NOCOP 0 0 0006",
-                "35 PRER 0 0 -",
-                "43 ACT 0 1 -",
-                "52 RD 0 1 -",
-            ],
-        ),
-        // A drain first retires both.
-        (
-            vec![
-                read(0, 0, 0),
-                write(4, 0, 0, 0xFFFF, &ONES),
-                write(4, 0, 0, 0x0100, &TWOS),
-                bare(DRAIN),
-            ],
-            vec![
-                "4 ACT 0 0 -",
-                "13 RD 0 0 -",
-                "13 ACT 4 0 -",
-                "19 WR 4 0 -",
-                "25 D 4 0 -",
-                "23 WR 4 0 -",
-                "29 D 4 0 -",
-                "27 NOCOP 0 0 -",
-                "31 NOCOP 0 0 0100",
-                "31 PRER 0 0 -",
-                "39 PRER 4 0 -",
-            ],
-        ),
-        // Three writes: the third WR carries the first one's mask.
-        (
-            vec![
-                write(0, 0, 0, 0x0003, &ONES),
-                write(0, 0, 0, 0x0006, &TWOS),
-                write(0, 0, 0, 0x000C, &ONES),
-                write(0, 0, 0, 0x0018, &ONES),
-            ],
-            vec![
-                "4 ACT 0 0 -",
-                "5 WR 0 0 -",
-                "11 D 0 0 -",
-                "9 WR 0 0 -",
-                "15 D 0 0 -",
-                "13 WR 0 0 0003",
-                "19 D 0 0 -",
-                "17 WR 0 0 0006",
-                "23 D 0 0 -",
-            ],
-        ),
         // Mask 0 is legal.
         (
             vec![write(0, 0, 0, 0, &ONES), bare(DRAIN)],
@@ -256,7 +126,7 @@ fn runs() -> Vec<(Requests, Vec<&'static str>)> {
 #[test]
 fn runs_of_the_paper_by_the_reference() {
     let settings = bytes(&set_h(2, 4, 0));
-    for (requests, lines) in runs() {
+    for (requests, lines) in runs().into_iter().chain(two_writes::runs()) {
         let mut planner = Planner::fresh(&settings).unwrap();
         let records = requests.iter().map(|q| planner.plan(q, ENOUGH).unwrap());
         let list: Vec<u8> = records.flatten().collect();
@@ -267,7 +137,7 @@ fn runs_of_the_paper_by_the_reference() {
 #[test]
 fn runs_of_the_paper_by_the_library() {
     let mut seen = Seen::default();
-    for (requests, lines) in runs() {
+    for (requests, lines) in runs().into_iter().chain(two_writes::runs()) {
         let mut run = Run::new(&set_h(2, 4, 0));
         for request in &requests {
             run.call(&mut seen, request, ENOUGH).unwrap();
@@ -362,34 +232,6 @@ fn data_alter_nothing_else() {
         (fronts, run.state)
     });
     assert!(runs.iter().all(|run| *run == runs[0]));
-}
-
-/// A stream of full writes to an open row: under set H a WR every tCC; under any settings a WR waits
-/// for tCC after the last and, from the third on, for tRTR after the last but one.
-#[test]
-fn writes_at_full_rate() {
-    let mut random = Random::new(67);
-    for round in 0..200 {
-        let numbers = match round {
-            0 => set_h(2, 4, 0),
-            _ => rule_numbers(&mut random),
-        };
-        let (mut run, mut seen) = (Run::new(&numbers), Seen::default());
-        for _ in 0..8 {
-            let request = write(5, 0, 0, 0xFFFF, &ONES);
-            run.call(&mut seen, &request, ENOUGH).unwrap();
-        }
-        // ACT, then each WR and its D.
-        let records = run.list.chunks(32).skip(1).step_by(2);
-        let at: Vec<u64> = records.map(|record| number(&record[..4])).collect();
-        let (cc, rtr) = (u64::from(numbers[T_CC]), u64::from(numbers[T_RTR]));
-        for i in 1..8 {
-            let retire = if i > 1 && cc < rtr { at[i - 2] + rtr } else { 0 };
-            assert_eq!(at[i], retire.max(at[i - 1] + cc), "{numbers:?}");
-        }
-        assert!(round > 0 || at == [5, 9, 13, 17, 21, 25, 29, 33]);
-        run.check();
-    }
 }
 
 /// The refresh bank rises to 31 and starts again.

@@ -293,7 +293,10 @@ fn a_copy_goes_on_alike() {
     let numbers = set_h(2, 4, 0);
     let mut run = Run::new(&numbers);
     let mut seen = Seen::default();
-    for request in [write(7, 1, 3, 0x0FF0, &[3; 16]), write(7, 1, 1, 3, &[4; 16])] {
+    for request in [
+        write(7, 1, 3, 0x0FF0, &[3; 16]),
+        write(7, 1, 1, 3, &[4; 16]),
+    ] {
         run.call(&mut seen, &request, ENOUGH).unwrap();
     }
     assert_eq!(run.state[WAITING], 2);

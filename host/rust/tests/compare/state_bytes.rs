@@ -3,7 +3,7 @@
 
 use crate::random::Random;
 use crate::reference::{COLUMNS, ROWS};
-use crate::reference_state::{put_instant, DUE, LAST, WAITING, WRITES, Write};
+use crate::reference_state::{put_instant, Write, DUE, LAST, WAITING, WRITES};
 use std::ops::Range;
 
 /// Offset and width.

@@ -228,9 +228,8 @@ impl Channel {
     /// The channel of bytes that need not be one.
     pub fn decode(state: &[u8; CHANNEL_BYTES]) -> Channel {
         let number = |at: usize| u32::from_le_bytes(state[at..at + 4].try_into().unwrap());
-        let write = |at: usize| {
-            Write::of(u64::from_le_bytes(state[at..at + 8].try_into().unwrap()))
-        };
+        let write =
+            |at: usize| Write::of(u64::from_le_bytes(state[at..at + 8].try_into().unwrap()));
         Channel {
             opened: plane(state, 0),
             act: plane(state, 128),

@@ -123,7 +123,6 @@ impl Channel {
         since(self.banks[bank].act, f.act_to_wr)
     }
 
-
     pub fn rule_11(&self, f: &Figures) -> u32 {
         since(self.last_rd, f.rd_to_wr)
     }
