@@ -1,6 +1,6 @@
 #!/usr/bin/env python3
-"""The listing of document 01 ("Bench runs") a second time, written from that document alone, so that what the runs are held to
-does not come from the program that they test. Nothing of it is proved, and no build needs it.
+"""The listing of document 01 ("Bench runs") a second time, written from documents 01 and 02 (a) alone, so that what the runs are
+held to does not come from the program that they test. Nothing of it is proved, and no build needs it.
 
   listing.py            the listing of standard input
   listing.py requests   the largest input, 2,730 requests of every kind, refused ones among them: crates/run_largest/stdin
@@ -25,7 +25,7 @@ def near(a, b):
 class Planner:
     def __init__(self):
         self.open = {}  # bank: row
-        self.write = None  # bank, column, mask, instant of the write in the buffer
+        self.writes = []  # bank, column, mask, instant of each waiting write, oldest first; two at most
         self.turn = 0  # the bank of the next refresh
         self.now = 4
         self.past = []  # events (kind, bank, instant, banks closed) of the last 64 cycles: no gap is longer
@@ -33,7 +33,7 @@ class Planner:
     def copy(self):
         p = Planner()
         p.__dict__.update(self.__dict__)
-        p.open, p.past = dict(self.open), list(self.past)
+        p.open, p.writes, p.past = dict(self.open), list(self.writes), list(self.past)
         return p
 
     def gap(self, event, kind, bank):
@@ -61,22 +61,27 @@ class Planner:
             gaps.append(CC + CAC - CWD)
         if old in ('RD', 'retire') and kind in pre and near(other, bank):
             gaps.append(RDP if old == 'RD' else RTP)
-        if self.write and kind in ('WR', 'NOCOP') and other == self.write[0]:
-            if old == 'ACT':
-                gaps.append(RCD)
-            if old == 'WR' and event[2] == self.write[3]:
-                gaps.append(RTR)
+        if old == 'ACT' and kind == 'retire' and other == bank:
+            gaps.append(RCD)
         return max(gaps)
 
+    def least(self, start, kind, bank):
+        return max([start] + [e[2] + self.gap(e, kind, bank) for e in self.past])
+
     def send(self, kind, bank, place, lines):
-        at = max([self.now] + [e[2] + self.gap(e, kind, bank) for e in self.past])
+        at, retired = self.least(self.now, kind, bank), None
+        if kind in ('WR', 'NOCOP') and self.writes:
+            older = self.writes[0]
+            # a WR beside one write may come before that one is due, and then retires nothing
+            if kind == 'NOCOP' or len(self.writes) == 2 or at >= older[3] + RTR:
+                at, retired = self.least(max(at, older[3] + RTR), 'retire', older[0]), older
         if at > HORIZON or (kind == 'RD' and at + CAC > HORIZON) or (kind == 'WR' and at + CWD > HORIZON):
             raise Late
         mask = '-'
-        if kind in ('WR', 'NOCOP') and self.write:
-            mask = '-' if self.write[2] == 0xFFFF else '%04x' % self.write[2]
-            self.past.append(('retire', self.write[0], at, set()))
-            self.write = None
+        if retired:
+            mask = '-' if retired[2] == 0xFFFF else '%04x' % retired[2]
+            self.past.append(('retire', retired[0], at, set()))
+            self.writes = self.writes[1:]
         closed = set()
         if kind in ('PRER', 'REFP'):
             closed = {b for b in self.open if near(b, bank)} | {bank}
@@ -89,11 +94,14 @@ class Planner:
         lines.append('%d %s %d %d %s' % (at, kind, 0 if kind == 'NOCOP' else bank, place, mask))
         return at
 
+    def retire_while(self, concerned, lines):
+        while concerned(self.writes):
+            self.send('NOCOP', 0, 0, lines)
+
     def close(self, banks, lines):
         for b in banks:
             if b in self.open:
-                if self.write and near(self.write[0], b):
-                    self.send('NOCOP', 0, 0, lines)
+                self.retire_while(lambda writes: any(near(w[0], b) for w in writes), lines)
                 self.send('PRER', b, 0, lines)
 
     def reach(self, bank, row, lines):
@@ -119,13 +127,13 @@ class Planner:
         if kind < 2:
             self.reach(bank, row, lines)
         if kind == 0:
-            if self.write and self.write[:2] == (bank, column):
-                self.send('NOCOP', 0, 0, lines)
+            own = (bank, column)
+            self.retire_while(lambda writes: len(writes) == 2 or any(w[:2] == own for w in writes), lines)
             self.send('RD', bank, column, lines)
         elif kind == 1:
             at = self.send('WR', bank, column, lines)
             lines.append('%d D %d %d -' % (at + CWD, bank, column))
-            self.write = (bank, column, mask, at)
+            self.writes = self.writes + [(bank, column, mask, at)]
         elif kind == 2:
             self.close([b for b in range(32) if near(b, self.turn)], lines)
             self.send('REFA', self.turn, 0, lines)
@@ -136,8 +144,7 @@ class Planner:
             if self.now > HORIZON:
                 return 7
         else:
-            if self.write:
-                self.send('NOCOP', 0, 0, lines)
+            self.retire_while(lambda writes: writes, lines)
             self.close(range(32), lines)
         return lines
 

@@ -59,7 +59,7 @@ extern "C" {
 #define RDRAM_REQUEST_BYTES 24
 
 /* The most records that one request makes: room for so many is enough. */
-#define RDRAM_REQUEST_RECORDS 17
+#define RDRAM_REQUEST_RECORDS 18
 
 /*
  * Planner, 768 bytes: the state of a planner between two requests. A program need not look inside;
@@ -71,12 +71,13 @@ extern "C" {
  *  512  32 x 4  of the last retire to it
  *  640  32 x 2  each bank: 0 closed, 1 + row open
  *  704  5 x 4   instants of the last packet, ROW packet, COL packet, PRER or REFP, and RD
- *  728  1       how many writes wait, 0 or 1
- *  736  2 x 1   bank and column of the waiting write, 0 where none waits
- *  740  4       instant of its WR, 0 where none waits
+ *  728  1       how many writes wait, 0 to 2
+ *  736  8       the older: bank 1, column 1, zero 2, instant of its WR 4; 0 where none waits
+ *  744  8       the newer of two likewise, 0 where no second waits
  *  752  4       now
  *  756  2       bank of the next refresh, 0 to 31
- *  760  2       mask of the last write, which is the one that waits, if any
+ *  760  2       mask of the older waiting write, and where none waits as at 762
+ *  762  2       mask of the last write that came while another waited
  * All other bytes are 0. An instant is stored less 3, and 0 stands for never: 4 is stored as 1, and
  * 1,000,000,000 as 999,999,997. Now and the instant of a waiting write are not 0. A bank under
  * refresh (65535) and a write whose data are due (1 at byte 729) do not occur between requests.
@@ -95,10 +96,10 @@ extern "C" {
  * Model, 792 bytes: the state of a device model between two records. A program need not look
  * inside; it may keep a copy, with one of the store, and go on from that.
  *    0  752     as in a planner, but that a bank may be under refresh (65535) and the data of the
- *               waiting write may be due (1 at byte 729)
+ *               newest waiting write may be due (1 at byte 729)
  *  752  2       REFR, the row that a refresh is due for, below rows
- *  760  16      the data of the last D record, which are those of the waiting write, if any, once
- *               they have come
+ *  760  16      data of the older waiting write; where they are due, or none waits, as at 776
+ *  776  16      data of the last D that came while two writes waited
  * All other bytes are 0. The instants are those of the records that the model has taken.
  */
 #define RDRAM_MODEL_BYTES 792
@@ -125,7 +126,7 @@ enum rdram_request {
 enum rdram_event {
     RDRAM_EVENT_NONE = 0,   /* it neither read nor retired a write */
     RDRAM_EVENT_READ = 1,   /* an RD: its dualoct is in the answer buffer */
-    RDRAM_EVENT_RETIRED = 2 /* it retired the waiting write to the store */
+    RDRAM_EVENT_RETIRED = 2 /* it retired the older waiting write to the store */
 };
 
 /* Answer numbers. */
@@ -252,9 +253,9 @@ rdram_copied rdram_log_decode(const uint8_t *settings, size_t settings_len,
  *
  * Data come tCAC after their RD and go tCWD after their WR. Banks are neighbours where their
  * numbers differ by 1, but for 15 and 16. PRER and REFP close their bank and each neighbour that is
- * open or under refresh. A WR waits until the next COL packet other than RD retires it. In 4 to 8,
- * 13 and 14 ACT stands for ACT and REFA, and PRER for PRER and REFP. "Near" is the same bank or a
- * neighbour. A distance is the least one, in cycles.
+ * open or under refresh. A write waits from its WR on. A COL packet other than RD retires the
+ * oldest, if tRTR has passed since its WR. In 4 to 8, 13 and 14 ACT stands for ACT and REFA, and
+ * PRER for PRER and REFP. "Near" is the same bank or a neighbour. A distance is the least one.
  *
  *    1  ROW and COL instants never fall; all, data's too, 4 to 1,000,000,000
  *    2  ROW to ROW: 4
@@ -267,7 +268,7 @@ rdram_copied rdram_log_decode(const uint8_t *settings, size_t settings_len,
  *    9  RD, WR and retire: the bank is open by ACT
  *   10  ACT to RD or retire, same bank: tRCD; to WR: tRCD - tRTR, at least 0
  *   11  RD to WR: tCC + tCAC - tCWD
- *   12  WR to the packet that retires it: tRTR
+ *   12  a NOCOP retires a write where one waits, a WR where two wait; no RD where two wait
  *   13  RD to PRER, near: tRDP; retire to PRER, near: tRTP
  *   14  PRER does not close the bank of a waiting write
  *   15  D directly after each WR, at WR + tCWD (or the list ends), no other D
@@ -315,21 +316,21 @@ uint32_t rdram_planner_fresh(uint8_t *planner, size_t planner_len);
  * planner on, one after the other and under the same settings, are a list that passes rdram_check.
  *
  *   read     Where the row is not open: PRER to each open one of the bank and its neighbours, in
- *            rising order, then ACT. NOCOP where the waiting write has this bank and column. RD.
- *   write    Where the row is not open: as for read. WR, then D. The write waits until a later
- *            NOCOP or WR retires it, which carries its mask.
+ *            rising order, then ACT. NOCOP while two writes wait, or one to this dualoct. RD.
+ *   write    Where the row is not open: as for read. WR, then D. The write waits, alone or beside
+ *            an older one, until a later NOCOP or WR retires it, which carries its mask.
  *   refresh  PRER as for read, about the refresh bank; REFA and REFP to it. The refresh bank
  *            rises, modulo 32.
  *   wait     No packet: now rises by the cycles.
- *   drain    NOCOP where a write waits, then PRER to each open bank, in rising order.
+ *   drain    NOCOP while a write waits, then PRER to each open bank, in rising order.
  *
- * A NOCOP stands before each PRER that would close the bank of the waiting write. Now is the
- * instant of the latest packet, and what waits add to it. Data bytes alter no instant and no word.
+ * NOCOPs stand before a PRER while it would close the bank of a waiting write. Now is the instant
+ * of the latest packet, and what waits add to it. Data bytes alter no instant and no word.
  *
  * Refusals, in this order:
  *    1  settings: correct the settings bytes. Or planner is not 768 bytes, or not a state between
  *       requests under these settings: a field is out of its range, another byte is not 0, two
- *       neighbours are both open, the bank of the waiting write is not open, a bank is under
+ *       neighbours are both open, the bank of a waiting write is not open, a bank is under
  *       refresh, or data are due. Pass the bytes that the last call left, with the same settings,
  *       or a fresh planner.
  *   13  request_len is not 24: pass one whole request.
@@ -360,12 +361,12 @@ uint32_t rdram_model_fresh(uint8_t *model, size_t model_len);
  * it to the next call, with the same settings and store. A fresh model takes a store of any bytes.
  *
  *   RD       The 16 bytes of its dualoct, in the row open in its bank, are written to the start of
- *            answer; the bytes of answer after them are unchanged. Event RDRAM_EVENT_READ. The
+ *            answer; the bytes of answer after them are unchanged. Event RDRAM_EVENT_READ. A
  *            waiting write is not seen: it is not in the store yet.
- *   NOCOP,   Where a write waits, it goes to the row open in its bank: byte i of its dualoct in
- *   WR       store is written where bit i of the mask that this packet carries is 1, and all 16
- *            where it carries none (M = 0). Event RDRAM_EVENT_RETIRED, and `bytes` is the number of
- *            bytes written. A WR then waits itself, for its D and to be retired.
+ *   NOCOP,   The write that it retires, if any, goes to the row open in its bank: byte i of its
+ *   WR       dualoct in store is written where bit i of the mask that this packet carries is 1, and
+ *            all 16 where it carries none (M = 0). Event RDRAM_EVENT_RETIRED, and `bytes` is the
+ *            number of bytes written. A WR then waits itself, for its D and to be retired.
  *   D        brings the data of the WR before it.
  *   others   ACT, PRER, REFA and REFP open and close banks. REFR rises, modulo rows, after REFA to
  *            bank 31. The store is not read or written.
@@ -376,7 +377,7 @@ uint32_t rdram_model_fresh(uint8_t *model, size_t model_len);
  * Refusals, in this order:
  *    1  settings: correct the settings bytes. Or model is not 792 bytes, or no state under these
  *       settings: a field is out of its range, another byte is not 0, two neighbours are both not
- *       closed, or the bank of the waiting write is not open by ACT. Pass the bytes that the last
+ *       closed, or the bank of a waiting write is not open by ACT. Pass the bytes that the last
  *       call left, with the same settings, or a fresh model.
  *    9  store_len is not rows x columns x 512: pass the whole store.
  *   13  record_len is not 32: pass one whole record.

@@ -96,7 +96,7 @@ extern const uint32_t IN_RANGE[6], OUT_OF_RANGE[10];
 int instant_offset(int n);
 
 /* Offsets and numbers of the bytes that they have in common and no field uses. */
-#define UNUSED {724, 4}, {730, 6}, {738, 2}, {744, 8}
+#define UNUSED {724, 4}, {730, 6}, {738, 2}, {746, 2}
 
 /* The state has these fields, and 0 in all others. */
 int state_is(const uint8_t *state, size_t length, const field *fields, size_t count);

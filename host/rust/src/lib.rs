@@ -40,7 +40,7 @@ pub const BLOCK_RECORDS: usize = 15;
 /// Bytes of a request.
 pub const REQUEST_BYTES: usize = 24;
 /// Most records of a request.
-pub const REQUEST_RECORDS: usize = 17;
+pub const REQUEST_RECORDS: usize = 18;
 /// Bytes of a planner.
 pub const PLANNER_BYTES: usize = 768;
 /// Bytes of a model.

@@ -7,8 +7,8 @@ use crate::{raw, Refusal, Settings, MODEL_BYTES};
 pub enum Event {
     /// An RD: the 16 bytes of its dualoct are at the start of the answer.
     Read,
-    /// A NOCOP or WR that retired the waiting write and wrote so many bytes: the ones of the mask
-    /// that it carries, 16 where it carries none. May be 0.
+    /// A NOCOP or WR that retired the older waiting write and wrote so many bytes: the ones of the
+    /// mask that it carries, 16 where it carries none. May be 0.
     Retired(u32),
     /// Neither of the two.
     Neither,
@@ -94,9 +94,9 @@ impl Model {
     /// [`check`](crate::check), given the records that the model has taken, and does what it says.
     ///
     /// RD writes the 16 bytes of its dualoct to the start of `answer`, whose bytes after them are
-    /// unchanged; the waiting write is not in the store yet. NOCOP and WR retire the waiting write
-    /// to `store`, under the mask that they carry. [`Settings::store_bytes`] is the length of
-    /// `store`; a fresh model takes any bytes.
+    /// unchanged; a waiting write is not in the store yet. NOCOP and WR retire the older waiting
+    /// write to `store`, under the mask that they carry, if tRTR has passed since its WR.
+    /// [`Settings::store_bytes`] is the length of `store`; a fresh model takes any bytes.
     ///
     /// Refused, in this order, with model, store and answer unchanged: [`Refusal::Settings`], also
     /// for a model of bytes that are no state; [`Refusal::Store`] for a store of another length;

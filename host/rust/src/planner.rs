@@ -26,7 +26,7 @@ pub enum Request {
     Wait {
         cycles: u32,
     },
-    /// The waiting write is retired and every bank closed.
+    /// The waiting writes are retired and every bank closed.
     Drain,
 }
 
@@ -145,7 +145,8 @@ impl Planner {
     /// The bytes of `room` after them are unchanged. Room for [`REQUEST_RECORDS`] is enough.
     ///
     /// The records of all accepted calls from a fresh planner on, under the same settings, are a
-    /// list that passes [`check`](crate::check).
+    /// list that passes [`check`](crate::check). A write waits, alone or beside an older one, until
+    /// a NOCOP or WR of a later request retires it.
     ///
     /// Refused, in this order, with planner and room unchanged: [`Refusal::Settings`], also for a
     /// planner of bytes that are no state; [`Refusal::Bank`], [`Refusal::Row`] and
@@ -166,6 +167,14 @@ impl Planner {
     /// // The row is open now, so RD alone.
     /// assert_eq!(planner.plan(&settings, &read, &mut room), Ok(1));
     /// assert_eq!(planner.now(), 17);
+    /// // WR and D, at full rate: tCC is 4.
+    /// let write = Request::Write { bank: 0, row: 0, column: 1, mask: 3, data: [9; 16] };
+    /// for now in [23, 27, 31] {
+    ///     assert_eq!(planner.plan(&settings, &write, &mut room), Ok(2));
+    ///     assert_eq!(planner.now(), now);
+    /// }
+    /// // Two writes wait, the newer one to the place that is read: NOCOP, NOCOP, RD.
+    /// assert_eq!(planner.plan(&settings, &read, &mut room), Ok(3));
     /// ```
     pub fn plan(
         &mut self,

@@ -10,7 +10,7 @@ void test_runs(void)
         "4 ACT 14, 13 RD 14, 24 PRER 14, 32 ACT 15, 41 RD 15",
         "4 ACT 0 0, 5 WR 0 0, 11 D, 13 NOCOP, 24 PRER 0, 32 ACT 0 1, 41 RD 0 0",
         "4 REFA 0, 24 REFP 0, 32 REFA 1, 52 REFP 1",
-        "4 ACT 0, 5 WR 0 1, 11 D, 13 WR 0 1 00F0, 19 D",
+        "4 ACT 0, 5 WR 0 1, 11 D, 9 WR 0 1, 15 D",
     };
     for (size_t i = 0; i < COUNT(RUNS); i++) {
         use_list(RUNS[i]);
@@ -50,6 +50,13 @@ void test_passing_lists(void)
         "4 ACT 0, 5 WR 0, 11 D, 13 NOCOP 0 0 0000",
         "4 ACT 0, 5 WR 0, 11 D, 9 PRER 20, 13 RD 0, 19 WR 0 2 8001, 25 D",
         "4 ACT 0, 5 WR 0 0, 11 D, 13 WR 0 1 0001, 19 D, 21 WR 0 2, 27 D, 29 NOCOP 0 0 FFFE",
+        /* two writes wait */
+        "4 ACT 0, 5 WR 0 1, 11 D, 13 WR 0 1 00F0, 19 D",
+        "4 ACT 0, 10 WR 0, 16 D, 17 WR 0, 23 D",
+        ("4 ACT 0, 5 WR 0 0, 11 D, 9 WR 0 1, 15 D, 13 WR 0 2 0003, 19 D, 17 WR 0 3, 23 D, 21 NOCOP, "
+         "25 NOCOP 0 0 8000, 29 RD 0 3"),
+        "4 ACT 0, 5 WR 0, 11 D, 9 WR 0, 15 D, 13 NOCOP, 17 RD 0",
+        "4 ACT 0, 12 ACT 20, 14 WR 0, 20 D, 18 WR 20, 24 D, 22 NOCOP, 26 PRER 0",
     };
     for (size_t i = 0; i < COUNT(LISTS); i++) {
         use_list(LISTS[i]);
@@ -113,7 +120,9 @@ void test_single_rules(void)
         {11, "4 ACT 0, 13 RD 0, 18 WR 0"},
         {11, "4 ACT 0, 12 ACT 20, 21 RD 0, 26 WR 20"},
         {12, "4 ACT 0, 10 WR 0, 16 D, 17 NOCOP"},
-        {12, "4 ACT 0, 10 WR 0, 16 D, 17 WR 0"},
+        {12, "4 ACT 0, 5 WR 0, 11 D, 12 NOCOP"},
+        {12, "4 ACT 0, 5 WR 0, 11 D, 9 WR 0, 15 D, 13 RD 0"},
+        {12, "4 ACT 0, 5 WR 0, 11 D, 9 WR 0, 15 D, 13 WR 0, 19 D, 40 RD 0"},
         {13, "4 ACT 0, 21 RD 0, 24 PRER 0"},
         {13, "4 ACT 1, 21 RD 1, 24 REFP 0"},
         {13, "4 ACT 0, 13 WR 0, 19 D, 21 NOCOP, 24 PRER 1"},
@@ -121,6 +130,9 @@ void test_single_rules(void)
         {13, "4 ACT 0, 12 ACT 20, 14 WR 0, 20 D, 22 WR 20, 28 D, 25 PRER 0"},
         {14, "4 ACT 0, 13 WR 0, 19 D, 24 PRER 0"},
         {14, "4 ACT 0, 13 WR 0, 19 D, 24 REFP 1"},
+        {14, "4 ACT 0, 12 ACT 20, 14 WR 0, 20 D, 18 WR 20, 24 D, 24 PRER 0"},
+        {14, "4 ACT 0, 12 ACT 20, 14 WR 20, 20 D, 18 WR 0, 24 D, 24 PRER 0"},
+        {14, "4 ACT 0, 12 ACT 20, 14 WR 0, 20 D, 18 WR 20, 24 D, 22 NOCOP, 32 REFP 21"},
         {15, "4 D"},
         {15, "4 ACT 0, 5 WR 0, 12 D"},
         {15, "4 ACT 0, 5 WR 0, 10 D"},
@@ -129,6 +141,7 @@ void test_single_rules(void)
         {15, "4 ACT 0, 5 WR 0, 11 D, 11 D"},
         {16, "4 NOCOP 0 0 0003"},
         {16, "4 ACT 0, 5 WR 0 0 0003"},
+        {16, "4 ACT 0, 5 WR 0, 11 D, 12 WR 0 0 0003"},
         {16, "4 ACT 0, 13 RD 0 0 0000"},
         {16, "4 ACT 0, 5 WR 0, 11 D, 13 RD 0 0 0003"},
     };
@@ -145,16 +158,19 @@ void test_several_rules(void)
         {1, "999999900 ACT 0, 999999994 WR 0, 1000000001 D"},     /* 15 */
         {1, "4294967295 RD 0 0 0003"},                            /* 9, 16 */
         {2, "4 ACT 0, 5 ACT 0"},                                  /* 4, 5 */
-        {3, "4 ACT 0, 5 WR 0, 6 NOCOP"},                          /* 10, 12, 15 */
+        {3, "4 ACT 0, 5 WR 0, 6 NOCOP"},                          /* 12, 15 */
         {4, "4 ACT 0, 31 ACT 1"},                                 /* 5 */
         {5, "4 ACT 0, 24 PRER 0, 31 ACT 0"},                      /* 7 */
         {6, "4 ACT 0, 13 RD 0, 13 PRER 0"},                       /* 13 */
         {6, "4 ACT 0, 13 WR 0, 19 D, 23 PRER 0"},                 /* 14 */
         {9, "4 NOCOP, 8 RD 0 0 0003"},                            /* 16 */
-        {10, "4 ACT 0, 5 WR 0, 11 D, 12 NOCOP"},                  /* 12 */
+        {3, "4 ACT 0, 5 WR 0, 11 D, 9 WR 0, 15 D, 12 WR 0"},      /* 12 */
+        {9, "4 ACT 0, 5 WR 0, 11 D, 9 WR 0, 15 D, 13 RD 20"},     /* 12 */
         {10, "4 ACT 0, 12 RD 0 0 0003"},                          /* 16 */
         {11, "4 ACT 0, 13 RD 0, 18 WR 0 0 0003"},                 /* 16 */
         {12, "4 ACT 0, 10 WR 0, 17 NOCOP"},                       /* 15 */
+        {12, "4 ACT 0, 10 WR 0, 16 D, 17 NOCOP 0 0 0003"},        /* 16 */
+        {12, "4 ACT 0, 5 WR 0, 11 D, 9 WR 0, 13 RD 0"},           /* 15 */
         {13, "4 ACT 0, 19 WR 0, 25 D, 27 WR 0, 33 D, 30 PRER 0"}, /* 14 */
         {15, "4 ACT 0, 5 WR 0, 13 RD 0 0 0003"},                  /* 16 */
     };
@@ -182,6 +198,11 @@ void test_timings(void)
     use_figure(5, 4); /* tRCD */
     use_figure(6, 4); /* tRTR below tCWD */
     check(both_are(0, 0, 0), "a retire before the instant of its D");
+    use_list("4 ACT 0, 4 WR 0, 10 D, 8 WR 0, 14 D, 67 WR 0");
+    use_figure(6, 64); /* tRTR */
+    check(both_are(RDRAM_REFUSED_RULE, 12, 5), "a third write 63 after the first, under tRTR 64");
+    use_figure(6, 63);
+    check(both_are(0, 0, 0), "a third write 63 after the first, under tRTR 63");
     use_list("4 ACT 0, 13 RD 0");
     use_figure(15, 1); /* device */
     check(both_are(RDRAM_REFUSED_WORD, 0, 0), "a list of another device");

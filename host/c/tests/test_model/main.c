@@ -24,6 +24,7 @@ int main(void)
     test_state();
     test_refused_states();
     test_no_write();
+    test_second_write();
     test_stored_instants();
     test_unused_bytes();
     test_lengths();

@@ -16,6 +16,25 @@ void test_runs(void)
         "43 ACT 1 0, 52 RD 1 0: reads, 63 PRER 1");
     want_write(0, 0, 1, 0x0003, 25);
     check(store_right(), "store after run 1");
+    /* two writes to one dualoct wait, older first; no RD comes while they do */
+    run("4 ACT 0, 5 WR 0, 11 D, 9 WR 0 0 0003: rule 16, 9 WR 0, 15 D, 13 RD 0: rule 12, 13 NOCOP 0 0 0003: wrote 2, "
+        "17 RD 0: reads, 21 NOCOP 0 0 0006: wrote 2, 25 RD 0: reads");
+    want_write(0, 0, 0, 0x0003, 11);
+    want_write(0, 0, 0, 0x0006, 15);
+    check(store_right(), "store after two writes that waited together");
+    /* a WR every tCC: from the third on each retires the last but one */
+    run("4 ACT 0, 5 WR 0 0, 11 D, 9 WR 0 1, 15 D, 13 WR 0 2 00FF: wrote 8, 19 D, 17 WR 0 3: wrote 16, 23 D, "
+        "24 PRER 1: rule 14, 24 NOCOP 0 0 0000: wrote 0, 28 RD 0 1: reads, 32 RD 0 3: reads, 36 NOCOP: wrote 16");
+    want_write(0, 0, 0, 0x00FF, 11);
+    want_write(0, 0, 1, 0xFFFF, 15);
+    want_write(0, 0, 3, 0xFFFF, 23);
+    check(store_right(), "store after writes at full rate");
+    /* writes of two banks: neither is closed under its write */
+    run("4 ACT 0 1, 12 ACT 20, 14 WR 20 3, 20 D, 18 WR 0 3, 24 D, 32 PRER 0: rule 14, 32 PRER 20: rule 14, "
+        "32 NOCOP: wrote 16, 32 PRER 1: rule 14, 36 PRER 20, 36 NOCOP 0 0 F000: wrote 4");
+    want_write(20, 0, 3, 0xFFFF, 20);
+    want_write(0, 1, 3, 0xF000, 24);
+    check(store_right(), "store after writes of two banks");
     /* the second WR carries the first's mask, the NOCOP its own */
     run("4 ACT 0, 5 WR 0, 11 D, 13 WR 0 0 0003: wrote 2, 19 D, 21 NOCOP 0 0 0006: wrote 2, 25 RD 0: reads");
     want_write(0, 0, 0, 0x0003, 11);
@@ -46,9 +65,9 @@ void test_rules(void)
         "4 REFA 3, 13 RD 3: rule 9, 24 PRER 2, 32 ACT 3, 41 RD 3: reads",
         "4 ACT 0, 12 RD 0: rule 10, 13 RD 0: reads, 18 WR 0: rule 11, 19 WR 0, 25 D, 26 NOCOP: rule 12",
         "4 ACT 0, 21 RD 0: reads, 24 PRER 0: rule 13",
-        "4 ACT 0, 13 WR 0, 19 D, 20 WR 0: rule 12, 21 WR 0: wrote 16, 27 D, 29 NOCOP: wrote 16, 32 PRER 1: rule 13",
-        /* the lowest of several: 10 of a retire before 12, 10 before 15 */
-        "4 ACT 0, 5 WR 0, 11 D, 12 NOCOP: rule 10", "4 ACT 0, 5 WR 0, 12 RD 0: rule 10",
+        "4 ACT 0, 13 WR 0, 19 D, 20 NOCOP: rule 12, 21 WR 0: wrote 16, 27 D, 29 NOCOP: wrote 16, 32 PRER 1: rule 13",
+        /* an early NOCOP retires nothing, so 10 does not judge it; the lowest of several: 10 before 15 */
+        "4 ACT 0, 5 WR 0, 11 D, 12 NOCOP: rule 12", "4 ACT 0, 5 WR 0, 12 RD 0: rule 10",
         /* a D out of its place is no packet out of order */
         "4 ACT 0, 13 RD 0: reads, 10 D: rule 15",
         "4 ACT 0, 5 WR 0, 13 NOCOP: rule 15, 12 D: rule 15, 11 D, 11 D: rule 15, 13 NOCOP: wrote 16",

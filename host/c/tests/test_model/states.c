@@ -14,6 +14,7 @@ void test_fresh(void)
 }
 
 #define DATA_11 {760, 8, 0xB7B6B5B4B3B2B1B0}, {768, 8, 0xBFBEBDBCBBBAB9B8}
+#define DATA_15(at) {at, 8, 0xF7F6F5F4F3F2F1F0}, {at + 8, 8, 0xFFFEFDFCFBFAF9F8}
 
 void test_state(void)
 {
@@ -26,22 +27,32 @@ void test_state(void)
     run_more("11 D");
     check(state_is(model, MODEL, WAITING, COUNT(WAITING)), "state with a waiting write");
     static const field REFRESH[] = {AT(8, 4), AT(136, 4), AT(512 + 8, 13), {644, 2, 2}, AT(124, 12),
-                                    {702, 2, 65535}, AT(704, 13), AT(708, 12), AT(712, 13), {752, 2, 1}, DATA_11};
+                                    {702, 2, 65535}, AT(704, 13), AT(708, 12), AT(712, 13), {752, 2, 1}};
     run_more("12 REFA 31, 13 NOCOP: wrote 16");
     check(state_is(model, MODEL, REFRESH, COUNT(REFRESH)), "state with a bank under refresh");
     static const field CLOSED[] = {AT(8, 4), AT(136, 4), AT(256 + 8, 24), AT(256 + 12, 24), AT(256 + 120, 32),
                                    AT(256 + 124, 32), AT(512 + 8, 13), AT(124, 12), AT(704, 32), AT(708, 32),
-                                   AT(712, 13), AT(716, 32), {752, 2, 1}, DATA_11};
+                                   AT(712, 13), AT(716, 32), {752, 2, 1}};
     run_more("24 PRER 3, 32 PRER 30");
     check(state_is(model, MODEL, CLOSED, COUNT(CLOSED)), "state after PRER to neighbours");
+    static const field TWO_WAIT[] = {AT(8, 4), AT(136, 4), {644, 2, 2}, AT(704, 9), AT(708, 4), AT(712, 9),
+                                     {728, 1, 2}, {736, 1, 2}, {737, 1, 3}, AT(740, 5), {744, 1, 2}, {745, 1, 1},
+                                     AT(748, 9), DATA_11, DATA_15(776)};
+    run("4 ACT 2 1, 5 WR 2 3, 11 D, 9 WR 2 1, 15 D");
+    check(state_is(model, MODEL, TWO_WAIT, COUNT(TWO_WAIT)), "state with two waiting writes");
+    static const field ONE_LEFT[] = {AT(8, 4), AT(136, 4), AT(512 + 8, 13), {644, 2, 2}, AT(704, 13), AT(708, 4),
+                                     AT(712, 13), {728, 1, 1}, {736, 1, 2}, {737, 1, 1}, AT(740, 9), DATA_15(760),
+                                     DATA_15(776)};
+    run_more("13 NOCOP: wrote 16");
+    check(state_is(model, MODEL, ONE_LEFT, COUNT(ONE_LEFT)), "state once the older write has retired");
     static const field LATEST[] = {AT(124, LAST - 40), AT(252, LAST - 40), AT(384 + 124, LAST - 8), {702, 2, 1},
                                    AT(704, LAST - 8), AT(708, LAST - 40), AT(712, LAST - 8), AT(720, LAST - 8)};
     run("999999960 ACT 31, 999999992 RD 31: reads");
     check(state_is(model, MODEL, LATEST, COUNT(LATEST)), "state at the last instants");
 }
 
-/* States with bank 2 open on row 1: with no write, with one whose data are due, and with one that waits in it. */
-static uint8_t none_waits[MODEL], is_due[MODEL], waits[MODEL];
+/* States with bank 2 open on row 1: no write, one with data due, one that waits, two with data due, two that wait. */
+static uint8_t none_waits[MODEL], is_due[MODEL], waits[MODEL], second_due[MODEL], two_wait[MODEL];
 
 static void make_states(void)
 {
@@ -51,6 +62,10 @@ static void make_states(void)
     memcpy(is_due, model, MODEL);
     run_more("11 D");
     memcpy(waits, model, MODEL);
+    run_more("9 WR 2 1");
+    memcpy(second_due, model, MODEL);
+    run_more("15 D");
+    memcpy(two_wait, model, MODEL);
 }
 
 /* A state with one field changed. */
@@ -93,7 +108,8 @@ void test_refused_states(void)
         {752, 2, 2}, {752, 2, 256}, {752, 2, 65535}};
     static const field GOOD[] = {
         {644, 2, 1}, {648, 2, 2}, {702, 2, 65535}, {640, 2, 65535}, {736, 1, 2}, {737, 1, 0}, {737, 1, 3},
-        {752, 2, 0}, {752, 2, 1}, {760, 8, 0}, {768, 8, 0xFFFFFFFFFFFFFFFF}};
+        {752, 2, 0}, {752, 2, 1}, {760, 8, 0}, {768, 8, 0xFFFFFFFFFFFFFFFF}, {776, 8, 1},
+        {784, 8, 0xFFFFFFFFFFFFFFFF}};
     make_states();
     for (size_t i = 0; i < COUNT(BAD); i++)
         check(refused_with(waits, BAD[i]) && refused_with(is_due, BAD[i]), "state with %" PRIu64 " at %d", BAD[i].value,
@@ -118,15 +134,39 @@ void test_no_write(void)
               BAD[i].offset);
 }
 
-/* Every last instant and that of the waiting write at and beyond the ends of their range. */
+/* Where two writes wait, and where one does: the second's bank, column and instant. */
+void test_second_write(void)
+{
+    static const field BAD[] = {
+        {644, 2, 0}, {644, 2, 65535}, {728, 1, 0}, {728, 1, 1}, {728, 1, 3}, {729, 1, 2}, {736, 1, 3}, {736, 1, 32},
+        {740, 4, 0}, {744, 1, 0}, {744, 1, 3}, {744, 1, 32}, {744, 1, 255}, {745, 1, 4}, {745, 1, 255}, {748, 4, 0}};
+    static const field GOOD[] = {
+        {644, 2, 1}, {737, 1, 0}, {740, 4, LAST - 3}, {745, 1, 0}, {745, 1, 3}, {748, 4, 1}, {776, 8, 0}, {784, 8, 1}};
+    static const field NONE[] = {{744, 1, 2}, {744, 1, 32}, {745, 1, 1}, {748, 4, 1}, {748, 4, LAST}};
+    make_states();
+    for (size_t i = 0; i < COUNT(BAD); i++)
+        check(refused_with(two_wait, BAD[i]) && refused_with(second_due, BAD[i]), "two writes, %" PRIu64 " at %d",
+              BAD[i].value, BAD[i].offset);
+    for (size_t i = 0; i < COUNT(GOOD); i++)
+        check(comes_back_with(two_wait, GOOD[i]), "two writes, %" PRIu64 " at %d comes back", GOOD[i].value,
+              GOOD[i].offset);
+    for (size_t i = 0; i < COUNT(NONE); i++)
+        check(refused_with(waits, NONE[i]) && refused_with(is_due, NONE[i]) && refused_with(none_waits, NONE[i]),
+              "no second write, %" PRIu64 " at %d", NONE[i].value, NONE[i].offset);
+    use_state(two_wait, (field){729, 1, 1});
+    run_more("11 D: rule 15, 15 D");
+    check(model[729] == 0, "the data of the newer write are due again, and come");
+}
+
+/* Every last instant and those of the waiting writes at and beyond the ends of their range. */
 void test_stored_instants(void)
 {
     make_states();
-    for (int n = 0; n < LAST_INSTANTS + 1; n++) {
-        int last = n < LAST_INSTANTS, offset = last ? instant_offset(n) : 740, ok = 1;
+    for (int n = 0; n < LAST_INSTANTS + 2; n++) {
+        int last = n < LAST_INSTANTS, offset = last ? instant_offset(n) : 740 + 8 * (n - LAST_INSTANTS), ok = 1;
         for (size_t i = last ? 0 : 1; i < COUNT(IN_RANGE); i++) {
             /* a record without coding: its refusal comes after that of a state, and before the rules */
-            use_state(waits, (field){offset, 4, IN_RANGE[i]});
+            use_state(two_wait, (field){offset, 4, IN_RANGE[i]});
             use_record("4 PRER 20");
             record[31] = 1;
             ok &= refuses(RDRAM_REFUSED_WORD, 0, 0);
@@ -134,7 +174,7 @@ void test_stored_instants(void)
         check(ok, "instants at %d that are not refused", offset);
         ok = 1;
         for (size_t i = 0; i < COUNT(OUT_OF_RANGE); i++)
-            ok &= refused_with(waits, (field){offset, 4, OUT_OF_RANGE[i]});
+            ok &= refused_with(two_wait, (field){offset, 4, OUT_OF_RANGE[i]});
         check(ok, "instants at %d that are refused", offset);
     }
     check(comes_back_with(waits, (field){0, 4, 0}) && comes_back_with(waits, (field){0, 4, 1}), "the first instants");
@@ -147,7 +187,7 @@ void test_stored_instants(void)
 /* Each bit of the bytes that no field uses. */
 void test_unused_bytes(void)
 {
-    static const int PARTS[][2] = {UNUSED, {754, 6}, {776, 16}};
+    static const int PARTS[][2] = {UNUSED, {754, 6}};
     make_states();
     for (size_t i = 0; i < COUNT(PARTS); i++)
         for (int byte = PARTS[i][0]; byte < PARTS[i][0] + PARTS[i][1]; byte++) {
@@ -155,6 +195,7 @@ void test_unused_bytes(void)
             for (int bit = 0; bit < 8; bit++) {
                 field one = {byte, 1, (uint64_t)1 << bit};
                 ok &= refused_with(waits, one) && refused_with(is_due, one) && refused_with(none_waits, one);
+                ok &= refused_with(two_wait, one) && refused_with(second_due, one);
             }
             check(ok, "byte %d, which is not used", byte);
         }

@@ -65,6 +65,7 @@ void test_fresh(void);
 void test_state(void);
 void test_refused_states(void);
 void test_no_write(void);
+void test_second_write(void);
 void test_stored_instants(void);
 void test_unused_bytes(void);
 

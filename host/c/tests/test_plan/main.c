@@ -19,6 +19,7 @@ int main(void)
     test_state();
     test_refused_states();
     test_no_write();
+    test_second_write();
     test_stored_instants();
     test_unused_bytes();
     test_requests();
@@ -27,6 +28,6 @@ int main(void)
     test_settings();
     test_null_pointers();
     test_horizon();
-    test_seventeen_records();
+    test_eighteen_records();
     return report();
 }

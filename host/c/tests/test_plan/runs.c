@@ -36,7 +36,7 @@ void test_runs(void)
         {"read 14, read 15", "4 ACT 14, 13 RD 14, 24 PRER 14, 32 ACT 15, 41 RD 15"},
         {"write 0 0 0 FFFF, read 0 1 0", "4 ACT 0 0, 5 WR 0 0, 11 D, 13 NOCOP, 24 PRER 0, 32 ACT 0 1, 41 RD 0 0"},
         {"refresh, refresh", "4 REFA 0, 24 REFP 0, 32 REFA 1, 52 REFP 1"},
-        {"write 0 0 0 0003, write 0 0 0 0006", "4 ACT 0, 5 WR 0 0, 11 D, 13 WR 0 0 0003, 19 D"},
+        {"write 0 0 0 0003, write 0 0 0 0006", "4 ACT 0, 5 WR 0 0, 11 D, 9 WR 0 0, 15 D"},
         {"read 31 1 3", "4 ACT 31 1, 13 RD 31 3"},
         {"write 0 0 0 0000, drain", "4 ACT 0, 5 WR 0, 11 D, 13 NOCOP 0 0 0000, 24 PRER 0"},
         /* Another column, and another bank: reads pass the buffer. */
@@ -48,6 +48,30 @@ void test_runs(void)
         /* A drain retires first, also where the write's bank is not the lowest. */
         {"read 0, write 2 0 0 0100, drain",
          "4 ACT 0, 13 RD 0, 13 ACT 2, 19 WR 2, 25 D, 27 NOCOP 0 0 0100, 27 PRER 0, 35 PRER 2"},
+        /* Two writes wait: reads of the older's dualoct, of the newer's, and of another bank. */
+        {"write 0 0 0 0003, write 0 0 1 0006, read 0 0 0, read 0 0 1",
+         "4 ACT 0, 5 WR 0 0, 11 D, 9 WR 0 1, 15 D, 13 NOCOP 0 0 0003, 17 RD 0 0, 21 NOCOP 0 0 0006, 25 RD 0 1"},
+        {"write 0 0 0 0003, write 0 0 1 FFFF, read 0 0 1",
+         "4 ACT 0, 5 WR 0 0, 11 D, 9 WR 0 1, 15 D, 13 NOCOP 0 0 0003, 17 NOCOP, 21 RD 0 1"},
+        {"write 0 0 0 0003, write 0 0 1 0006, read 4",
+         "4 ACT 0, 5 WR 0 0, 11 D, 9 WR 0 1, 15 D, 12 ACT 4, 13 NOCOP 0 0 0003, 21 RD 4"},
+        /* A PRER under the newer write, under the older, and under none. */
+        {"read 0, write 4 0 0 0003, write 0 0 1 0006, read 0 1 1",
+         "4 ACT 0, 13 RD 0, 13 ACT 4, 19 WR 4, 25 D, 23 WR 0 1, 29 D, 27 NOCOP 0 0 0003, 31 NOCOP 0 0 0006, "
+         "35 PRER 0, 43 ACT 0 1, 52 RD 0 1"},
+        {"read 0, write 4 0 0 0003, write 0 0 1 0006, write 4 1 1 000C",
+         "4 ACT 0, 13 RD 0, 13 ACT 4, 19 WR 4, 25 D, 23 WR 0 1, 29 D, 27 NOCOP 0 0 0003, 33 PRER 4, 41 ACT 4 1, "
+         "42 WR 4 1 0006, 48 D"},
+        {"read 9, write 0 0 0 0003, write 0 0 1 0006, refresh",
+         "4 ACT 9, 13 RD 9, 13 ACT 0, 19 WR 0, 25 D, 23 WR 0 1, 29 D, 27 NOCOP 0 0 0003, 31 NOCOP 0 0 0006, "
+         "35 PRER 0, 43 REFA 0, 63 REFP 0"},
+        /* A drain first retires both. */
+        {"read 0, write 4 0 0 FFFF, write 4 0 0 0100, drain",
+         "4 ACT 0, 13 RD 0, 13 ACT 4, 19 WR 4, 25 D, 23 WR 4, 29 D, 27 NOCOP, 31 NOCOP 0 0 0100, 31 PRER 0, "
+         "39 PRER 4"},
+        /* A WR every tCC: from the third on each carries the mask of the last but one. */
+        {"write 0 0 0 0003, write 0 0 1 0006, write 0 0 2 000C, write 0 0 3 0018",
+         "4 ACT 0, 5 WR 0 0, 11 D, 9 WR 0 1, 15 D, 13 WR 0 2 0003, 19 D, 17 WR 0 3 0006, 23 D"},
         {"read 15, read 16, drain", "4 ACT 15, 13 RD 15, 13 ACT 16, 22 RD 16, 24 PRER 15, 33 PRER 16"},
         /* A refresh closes as a read does. */
         {"read 1, refresh", "4 ACT 1, 13 RD 1, 24 PRER 1, 32 REFA 0, 52 REFP 0"},
@@ -73,7 +97,13 @@ void test_timings(void)
         /* tPP */
         {3, 40, 3, 40, {"read 0, read 2, drain", "4 ACT 0, 13 RD 0, 13 ACT 2, 22 RD 2, 24 PRER 0, 64 PRER 2"}},
         /* tRCD below tRTR: a WR at the instant of its ACT */
-        {5, 4, 6, 20, {"write 0 0 0 1, write 0 0 1 2", "4 ACT 0, 4 WR 0, 10 D, 24 WR 0 1 0001, 30 D"}},
+        {5, 4, 6, 20, {"write 0 0 0 1, write 0 0 1 2", "4 ACT 0, 4 WR 0, 10 D, 8 WR 0 1, 14 D"}},
+        /* tRTR above tCC twice: a third WR waits for the first write */
+        {5, 4, 6, 20,
+         {"write 0 0 0 1, write 0 0 1 2, write 0",
+          "4 ACT 0, 4 WR 0, 10 D, 8 WR 0 1, 14 D, 24 WR 0 0 0001, 30 D"}},
+        /* tCC not below tRTR: each WR retires the write before it */
+        {9, 8, 9, 8, {"write 0 0 0 1, write 0 0 1 2", "4 ACT 0, 5 WR 0, 11 D, 13 WR 0 1 0001, 19 D"}},
         /* tRTR below tCWD: a retire before the instant of its D */
         {6, 4, 5, 4, {"write 0 0 0 1, read 0 0 0", "4 ACT 0, 4 WR 0, 10 D, 8 NOCOP 0 0 0001, 12 RD 0"}},
         {10, 12, 11, 1, {"read 0, write 0 0 0 1", "4 ACT 0, 13 RD 0, 28 WR 0, 29 D"}}, /* tCAC, tCWD */
@@ -102,8 +132,8 @@ void test_refresh_banks(void)
     check(list_passes(), "refreshes pass the check");
 }
 
-/* Sixteen open banks and a waiting write: NOCOP and 16 PRER. */
-void test_seventeen_records(void)
+/* Sixteen open banks and two waiting writes: two NOCOP and 16 PRER. */
+void test_eighteen_records(void)
 {
     char text[40];
     begin();
@@ -112,13 +142,15 @@ void test_seventeen_records(void)
         use_request(text);
         check(accepts(3 * RECORD), "%s", text);
     }
+    use_request("write 30");
+    check(accepts(2 * RECORD), "a second write");
     use_request("drain");
     int ok = 1;
     for (size_t length = 0; length < ROOM; length++)
         ok &= refuses(RDRAM_REFUSED_FULL, PLANNER, REQUEST, length);
-    check(ok, "rooms for fewer than 17 records");
+    check(ok, "rooms for fewer than 18 records");
     size_t before = records;
-    check(accepts(ROOM + 31) && records == before + RDRAM_REQUEST_RECORDS, "17 records");
+    check(accepts(ROOM + 31) && records == before + RDRAM_REQUEST_RECORDS, "18 records");
     check(list_passes(), "they pass the check");
     check(accepts(0) && records == before + RDRAM_REQUEST_RECORDS, "nothing left to drain");
 }

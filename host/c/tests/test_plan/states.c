@@ -27,9 +27,21 @@ void test_state(void)
         AT(0, 4), AT(4, 43), AT(128, 4), AT(132, 43), AT(256, 35), AT(260, 63),
         AT(384, 31), AT(388, 52), AT(512, 27),
         AT(704, 63), AT(708, 63), AT(712, 52), AT(716, 63), AT(720, 52),
-        AT(752, 63), {760, 2, 3}};
+        AT(752, 63)};
     plan_all("read 0 0 1, write 0 0 1 0003, read 0 0 1, read 1 0 0, drain");
     check(state_is(planner, PLANNER, DRAINED, COUNT(DRAINED)), "state after run 1");
+    /* ACT 0 at 4, WR at 5, WR at 9 */
+    static const field TWO_WAIT[] = {
+        AT(0, 4), AT(128, 4), {640, 2, 1}, AT(704, 9), AT(708, 4), AT(712, 9),
+        {728, 1, 2}, {737, 1, 1}, AT(740, 5), {745, 1, 3}, AT(748, 9), AT(752, 9), {760, 2, 3}, {762, 2, 6}};
+    plan_all("write 0 0 1 0003, write 0 0 3 0006");
+    check(state_is(planner, PLANNER, TWO_WAIT, COUNT(TWO_WAIT)), "state with two waiting writes");
+    /* NOCOP 13, RD 17 */
+    static const field ONE_LEFT[] = {
+        AT(0, 4), AT(128, 4), AT(384, 17), AT(512, 13), {640, 2, 1}, AT(704, 17), AT(708, 4), AT(712, 17), AT(720, 17),
+        {728, 1, 1}, {737, 1, 3}, AT(740, 9), AT(752, 17), {760, 2, 6}, {762, 2, 6}};
+    check(plan_more("read 0 0 1"), "a read of the older write's dualoct");
+    check(state_is(planner, PLANNER, ONE_LEFT, COUNT(ONE_LEFT)), "state once the older write has retired");
     /* REFA 0 at 4, REFP 0 at 24, ACT 31 at 28, RD at 37, a wait */
     static const field REFRESHED[] = {
         AT(0, 4), AT(124, 28), AT(252, 28), AT(256, 24), AT(508, 37), {702, 2, 2},
@@ -45,8 +57,8 @@ void test_state(void)
     check(state_is(planner, PLANNER, LATEST, COUNT(LATEST)), "state at the last instant");
 }
 
-/* States with bank 0 open on row 0, and with a write waiting in it or none. */
-static uint8_t waits[PLANNER], none_waits[PLANNER];
+/* States with bank 0 open on row 0, and with one write waiting in it, two, or none. */
+static uint8_t waits[PLANNER], two_wait[PLANNER], none_waits[PLANNER];
 
 static void make_states(void)
 {
@@ -54,6 +66,8 @@ static void make_states(void)
     memcpy(none_waits, planner, PLANNER);
     plan_all("write 0 0 1 0003");
     memcpy(waits, planner, PLANNER);
+    plan_more("write 0 0 2 0006");
+    memcpy(two_wait, planner, PLANNER);
     use_request("wait 0");
 }
 
@@ -89,13 +103,33 @@ void test_refused_states(void)
         {740, 4, 0}, {752, 4, 0}, {756, 2, 32}, {756, 2, 256}, {756, 2, 65535}};
     static const field GOOD[] = {
         {640, 2, 2}, {644, 2, 1}, {702, 2, 2}, {737, 1, 0}, {737, 1, 3},
-        {756, 2, 0}, {756, 2, 31}, {760, 2, 0}, {760, 2, 65535}};
+        {756, 2, 0}, {756, 2, 31}, {760, 2, 0}, {760, 2, 65535}, {762, 2, 0}, {762, 2, 65535}};
     make_states();
     for (size_t i = 0; i < COUNT(BAD); i++)
         check(refused_with(waits, BAD[i]), "state with %" PRIu64 " at %d", BAD[i].value, BAD[i].offset);
     for (size_t i = 0; i < COUNT(GOOD); i++)
         check(comes_back_with(waits, GOOD[i]), "state with %" PRIu64 " at %d comes back", GOOD[i].value,
               GOOD[i].offset);
+}
+
+/* Where two writes wait, and where one does: the second's bank, column and instant. */
+void test_second_write(void)
+{
+    static const field BAD[] = {
+        {640, 2, 0}, {640, 2, 65535}, {728, 1, 0}, {728, 1, 1}, {728, 1, 3}, {729, 1, 1}, {736, 1, 2}, {736, 1, 32},
+        {740, 4, 0}, {744, 1, 1}, {744, 1, 2}, {744, 1, 32}, {744, 1, 255}, {745, 1, 4}, {745, 1, 255}, {748, 4, 0}};
+    static const field GOOD[] = {
+        {640, 2, 2}, {737, 1, 3}, {740, 4, LAST - 3}, {745, 1, 0}, {745, 1, 3}, {748, 4, 1}, {762, 2, 65535}};
+    static const field NONE[] = {{744, 1, 1}, {744, 1, 32}, {745, 1, 1}, {748, 4, 1}, {748, 4, LAST}};
+    make_states();
+    for (size_t i = 0; i < COUNT(BAD); i++)
+        check(refused_with(two_wait, BAD[i]), "two writes, %" PRIu64 " at %d", BAD[i].value, BAD[i].offset);
+    for (size_t i = 0; i < COUNT(GOOD); i++)
+        check(comes_back_with(two_wait, GOOD[i]), "two writes, %" PRIu64 " at %d comes back", GOOD[i].value,
+              GOOD[i].offset);
+    for (size_t i = 0; i < COUNT(NONE); i++)
+        check(refused_with(waits, NONE[i]) && refused_with(none_waits, NONE[i]), "no second write, %" PRIu64 " at %d",
+              NONE[i].value, NONE[i].offset);
 }
 
 /* Where no write waits: one that has no instant, data due, and bank, column or instant of none. */
@@ -110,19 +144,20 @@ void test_no_write(void)
               BAD[i].offset);
 }
 
-/* Every last instant, that of the waiting write and now, at and beyond the ends of their range. */
+/* Every last instant, those of the waiting writes and now, at and beyond the ends of their range. */
 void test_stored_instants(void)
 {
     make_states();
-    for (int n = 0; n < LAST_INSTANTS + 2; n++) {
+    for (int n = 0; n < LAST_INSTANTS + 3; n++) {
+        static const int OTHERS[] = {740, 748, 752};
         int last = n < LAST_INSTANTS, ok = 1;
-        int offset = last ? instant_offset(n) : n == LAST_INSTANTS ? 740 : 752;
+        int offset = last ? instant_offset(n) : OTHERS[n - LAST_INSTANTS];
         for (size_t i = last ? 0 : 1; i < COUNT(IN_RANGE); i++)
-            ok &= comes_back_with(waits, (field){offset, 4, IN_RANGE[i]});
+            ok &= comes_back_with(two_wait, (field){offset, 4, IN_RANGE[i]});
         check(ok, "instants at %d that come back", offset);
         ok = 1;
         for (size_t i = 0; i < COUNT(OUT_OF_RANGE); i++)
-            ok &= refused_with(waits, (field){offset, 4, OUT_OF_RANGE[i]});
+            ok &= refused_with(two_wait, (field){offset, 4, OUT_OF_RANGE[i]});
         check(ok, "instants at %d that are refused", offset);
     }
 }
@@ -130,14 +165,14 @@ void test_stored_instants(void)
 /* Each bit of the bytes that no field uses. */
 void test_unused_bytes(void)
 {
-    static const int PARTS[][2] = {UNUSED, {758, 2}, {762, 6}};
+    static const int PARTS[][2] = {UNUSED, {758, 2}, {764, 4}};
     make_states();
     for (size_t i = 0; i < COUNT(PARTS); i++)
         for (int byte = PARTS[i][0]; byte < PARTS[i][0] + PARTS[i][1]; byte++) {
             int ok = 1;
             for (int bit = 0; bit < 8; bit++) {
                 field one = {byte, 1, (uint64_t)1 << bit};
-                ok &= refused_with(waits, one) && refused_with(none_waits, one);
+                ok &= refused_with(waits, one) && refused_with(two_wait, one) && refused_with(none_waits, one);
             }
             check(ok, "byte %d, which is not used", byte);
         }

@@ -45,13 +45,14 @@ int list_passes(void);
 void test_runs(void);
 void test_timings(void);
 void test_refresh_banks(void);
-void test_seventeen_records(void);
+void test_eighteen_records(void);
 
 /* states.c */
 void test_fresh(void);
 void test_state(void);
 void test_refused_states(void);
 void test_no_write(void);
+void test_second_write(void);
 void test_stored_instants(void);
 void test_unused_bytes(void);
 

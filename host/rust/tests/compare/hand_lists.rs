@@ -39,7 +39,7 @@ pub fn set_h_list(text: &str) -> (Vec<u8>, Vec<u8>) {
 }
 
 /// Lists that pass.
-pub const PASS: [&str; 35] = [
+pub const PASS: [&str; 42] = [
     // The paper's runs.
     "4 ACT 0 0, 13 RD 0 1, 19 WR 0 1, 25 D, 27 NOCOP 0 0 0003, 31 RD 0 1, 35 PRER 0, 43 ACT 1 0, \
      52 RD 1 0, 63 PRER 1",
@@ -47,7 +47,7 @@ pub const PASS: [&str; 35] = [
     "4 ACT 14, 13 RD 14, 24 PRER 14, 32 ACT 15, 41 RD 15",
     "4 ACT 0 0, 5 WR 0 0, 11 D, 13 NOCOP, 24 PRER 0, 32 ACT 0 1, 41 RD 0 0",
     "4 REFA 0, 24 REFP 0, 32 REFA 1, 52 REFP 1",
-    "4 ACT 0, 5 WR 0 1, 11 D, 13 WR 0 1 00F0, 19 D",
+    "4 ACT 0, 5 WR 0 1, 11 D, 9 WR 0 1, 15 D",
     // One cycle from a broken rule.
     "4 ACT 0",
     "1000000000 ACT 0",
@@ -80,10 +80,20 @@ pub const PASS: [&str; 35] = [
     "4 ACT 0, 5 WR 0, 11 D, 13 NOCOP 0 0 0000",
     "4 ACT 0, 5 WR 0, 11 D, 9 PRER 20, 13 RD 0, 19 WR 0 2 8001, 25 D",
     "4 ACT 0, 5 WR 0 0, 11 D, 13 WR 0 1 0001, 19 D, 21 WR 0 2, 27 D, 29 NOCOP 0 0 FFFE",
+    // Two writes wait: a WR beside another, a WR every tCC, what may come while two wait, and an RD
+    // once the older has retired.
+    "4 ACT 0, 5 WR 0 1, 11 D, 13 WR 0 1 00F0, 19 D",
+    "4 ACT 0, 10 WR 0, 16 D, 17 WR 0, 23 D",
+    "4 ACT 0, 5 WR 0 0, 11 D, 9 WR 0 1, 15 D, 13 WR 0 2 0003, 19 D, 17 WR 0 3, 23 D, 21 NOCOP, \
+     25 NOCOP 0 0 8000, 29 RD 0 3",
+    "4 ACT 0, 5 WR 0, 11 D, 9 WR 0, 15 D, 9 PRER 20, 17 ACT 20, 17 NOCOP, 26 RD 20",
+    "4 ACT 0, 5 WR 0, 11 D, 9 WR 0, 15 D, 13 NOCOP, 17 RD 0",
+    "4 ACT 0, 12 ACT 20, 14 WR 0, 20 D, 18 WR 20, 24 D, 22 NOCOP, 26 PRER 0",
+    "4 ACT 0, 12 ACT 20, 14 WR 0, 20 D, 18 WR 20, 24 D, 22 NOCOP, 26 NOCOP, 32 PRER 20",
 ];
 
 /// Lists whose last record breaks one rule.
-pub const ONE: [(u32, &str); 56] = [
+pub const ONE: [(u32, &str); 62] = [
     (1, "3 ACT 0"),
     (1, "0 NOCOP"),
     (1, "1000000001 ACT 0"),
@@ -122,7 +132,12 @@ pub const ONE: [(u32, &str); 56] = [
     (11, "4 ACT 0, 13 RD 0, 18 WR 0"),
     (11, "4 ACT 0, 12 ACT 20, 21 RD 0, 26 WR 20"),
     (12, "4 ACT 0, 10 WR 0, 16 D, 17 NOCOP"),
-    (12, "4 ACT 0, 10 WR 0, 16 D, 17 WR 0"),
+    (12, "4 ACT 0, 5 WR 0, 11 D, 12 NOCOP"),
+    (12, "4 ACT 0, 5 WR 0, 11 D, 9 WR 0, 15 D, 13 RD 0"),
+    (
+        12,
+        "4 ACT 0, 5 WR 0, 11 D, 9 WR 0, 15 D, 13 WR 0, 19 D, 40 RD 0",
+    ),
     (13, "4 ACT 0, 21 RD 0, 24 PRER 0"),
     (13, "4 ACT 1, 21 RD 1, 24 REFP 0"),
     (13, "4 ACT 0, 13 WR 0, 19 D, 21 NOCOP, 24 PRER 1"),
@@ -133,6 +148,18 @@ pub const ONE: [(u32, &str); 56] = [
     ),
     (14, "4 ACT 0, 13 WR 0, 19 D, 24 PRER 0"),
     (14, "4 ACT 0, 13 WR 0, 19 D, 24 REFP 1"),
+    (
+        14,
+        "4 ACT 0, 12 ACT 20, 14 WR 0, 20 D, 18 WR 20, 24 D, 24 PRER 0",
+    ),
+    (
+        14,
+        "4 ACT 0, 12 ACT 20, 14 WR 20, 20 D, 18 WR 0, 24 D, 24 PRER 0",
+    ),
+    (
+        14,
+        "4 ACT 0, 12 ACT 20, 14 WR 0, 20 D, 18 WR 20, 24 D, 22 NOCOP, 32 REFP 21",
+    ),
     (15, "4 D"),
     (15, "4 ACT 0, 5 WR 0, 12 D"),
     (15, "4 ACT 0, 5 WR 0, 10 D"),
@@ -141,27 +168,31 @@ pub const ONE: [(u32, &str); 56] = [
     (15, "4 ACT 0, 5 WR 0, 11 D, 11 D"),
     (16, "4 NOCOP 0 0 0003"),
     (16, "4 ACT 0, 5 WR 0 0 0003"),
+    (16, "4 ACT 0, 5 WR 0, 11 D, 12 WR 0 0 0003"),
     (16, "4 ACT 0, 13 RD 0 0 0000"),
     (16, "4 ACT 0, 5 WR 0, 11 D, 13 RD 0 0 0003"),
 ];
 
 /// Lists whose last record breaks more than one rule; the lowest is named.
-const MORE: [(u32, &str); 17] = [
+const MORE: [(u32, &str); 20] = [
     (1, "3 RD 0"),                                            // 9
     (1, "4 ACT 0, 5 WR 0, 3 D"),                              // 15
     (1, "999999900 ACT 0, 999999994 WR 0, 1000000001 D"),     // 15
     (1, "4294967295 RD 0 0 0003"),                            // 9, 16
     (2, "4 ACT 0, 5 ACT 0"),                                  // 4, 5
-    (3, "4 ACT 0, 5 WR 0, 6 NOCOP"),                          // 10, 12, 15
+    (3, "4 ACT 0, 5 WR 0, 6 NOCOP"),                          // 12, 15
     (4, "4 ACT 0, 31 ACT 1"),                                 // 5
     (5, "4 ACT 0, 24 PRER 0, 31 ACT 0"),                      // 7
     (6, "4 ACT 0, 13 RD 0, 13 PRER 0"),                       // 13
     (6, "4 ACT 0, 13 WR 0, 19 D, 23 PRER 0"),                 // 14
     (9, "4 NOCOP, 8 RD 0 0 0003"),                            // 16
-    (10, "4 ACT 0, 5 WR 0, 11 D, 12 NOCOP"),                  // 12
+    (9, "4 ACT 0, 5 WR 0, 11 D, 9 WR 0, 15 D, 13 RD 20"),     // 12
     (10, "4 ACT 0, 12 RD 0 0 0003"),                          // 16
     (11, "4 ACT 0, 13 RD 0, 18 WR 0 0 0003"),                 // 16
     (12, "4 ACT 0, 10 WR 0, 17 NOCOP"),                       // 15
+    (12, "4 ACT 0, 10 WR 0, 16 D, 17 NOCOP 0 0 0003"),        // 16
+    (12, "4 ACT 0, 5 WR 0, 11 D, 9 WR 0, 13 RD 0"),           // 15
+    (3, "4 ACT 0, 5 WR 0, 11 D, 9 WR 0, 15 D, 12 WR 0"),      // 12
     (13, "4 ACT 0, 19 WR 0, 25 D, 27 WR 0, 33 D, 30 PRER 0"), // 14
     (15, "4 ACT 0, 5 WR 0, 13 RD 0 0 0003"),                  // 16
 ];
@@ -236,6 +267,27 @@ fn retire_before_its_data() {
     let (_, list) = set_h_list("4 ACT 0, 4 WR 0, 10 D, 8 NOCOP 0 0 0001, 12 RD 0");
     let answer = check_both(&mut Verdicts::default(), &settings, &list);
     assert_eq!(answer.number, 0);
+}
+
+/// Under tCC 4 and tRTR 64 two writes wait long, and no third comes meanwhile.
+#[test]
+fn long_waits() {
+    let mut numbers = set_h(2, 4, 0);
+    numbers[6] = 64; // tRTR
+    let settings = bytes(&numbers);
+    for (last, rule) in [
+        ("67 WR 0", 12),
+        ("67 NOCOP", 12),
+        ("67 NOCOP 0 0 0001", 12),
+        ("68 NOCOP 0 0 0001", 0),
+        ("68 WR 0 0 0001", 0),
+        ("999 RD 0", 12),
+    ] {
+        let text = format!("4 ACT 0, 4 WR 0, 10 D, 8 WR 0, 14 D, {last}");
+        let (_, list) = set_h_list(&text);
+        let answer = check_both(&mut Verdicts::default(), &settings, &list);
+        assert_eq!(answer.rule, rule, "{text}");
+    }
 }
 
 /// The first record that breaks a rule is named, though a later one breaks a lower rule.

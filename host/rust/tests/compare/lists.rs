@@ -10,7 +10,8 @@ pub const LAST: u32 = 1_000_000_000;
 const T_RC: usize = 0;
 const T_RR: usize = 4;
 const T_RCD: usize = 5;
-const T_RTR: usize = 6;
+pub const T_RTR: usize = 6;
+pub const T_CC: usize = 9;
 
 /// A record: a packet, or a D where there is none.
 #[derive(Clone, Copy, Debug, PartialEq, Eq)]
@@ -41,7 +42,7 @@ pub fn list_bytes(settings: &[u8], items: &[Item]) -> Vec<u8> {
 /// Valid settings in which the rules bear on each other in different ways.
 pub fn rule_numbers(random: &mut Random) -> [u16; 16] {
     let mut n = random.numbers();
-    match random.below(8) {
+    match random.below(10) {
         0 => n = set_h(2, 4, 0),
         1 => (0..10).for_each(|i| n[i] = BOUNDS[i].0),
         2 => (0..10).for_each(|i| n[i] = BOUNDS[i].1),
@@ -49,6 +50,8 @@ pub fn rule_numbers(random: &mut Random) -> [u16; 16] {
         4 => (n[T_RTR], n[T_CAC], n[T_CWD]) = (4, 12, 5 + random.below(7) as u16),
         5 => (n[T_RCD], n[T_RTR]) = (4 + random.below(8) as u16, 12 + random.below(53) as u16),
         6 => (0..10).for_each(|i| n[i] = n[i].min(4 + random.below(12) as u16)),
+        // Whether a WR may come beside another write, and how long two wait.
+        7 => (n[T_RTR], n[T_CC]) = (random.pick(&[4, 8, 64]), random.pick(&[4, 16])),
         _ => {}
     }
     n[DEVICE] = random.pick(&[0, 15, 16, 31, n[DEVICE]]);
@@ -59,12 +62,17 @@ pub fn rule_numbers(random: &mut Random) -> [u16; 16] {
 
 /// How many settings were of each kind that matters.
 #[derive(Default)]
-pub struct SettingsSeen([u64; 10]);
+pub struct SettingsSeen([u64; 15]);
 
 impl SettingsSeen {
-    const NAMES: [&'static str; 10] = [
+    const NAMES: [&'static str; 15] = [
         "tRR above tRC",
+        "tRTR 4",
+        "tRTR 64",
+        "tCC 4",
+        "tCC 16",
         "tRTR below tCWD",
+        "tRTR above tCWD",
         "tRCD below tRTR",
         "rows 1",
         "columns 1",
@@ -79,7 +87,12 @@ impl SettingsSeen {
         let device = n[DEVICE];
         let kinds = [
             n[T_RR] > n[T_RC],
+            n[T_RTR] == 4,
+            n[T_RTR] == 64,
+            n[T_CC] == 4,
+            n[T_CC] == 16,
             n[T_RTR] < n[T_CWD],
+            n[T_RTR] > n[T_CWD],
             n[T_RCD] < n[T_RTR],
             n[ROWS] == 1,
             n[COLUMNS] == 1,
@@ -156,7 +169,13 @@ impl Maker {
         if (p.command == PRER || p.command == REFP) && !open.is_empty() && random.chance(2) {
             p.bank = (random.pick(&open) + random.pick(&[0, 0, 1, 31])) % 32;
         }
-        let retires = p.command != RD && rules::waiting(&self.steps).is_some();
+        let waiting = rules::waiting(&self.steps).len();
+        // A WR beside a single write may retire that one or not.
+        let retires = match p.command {
+            RD => false,
+            WR if waiting == 1 => random.chance(2),
+            _ => waiting > 0,
+        };
         if p.command >= NOCOP && !retires && !random.chance(16) {
             p.mask = 0xFFFF;
         }
@@ -181,7 +200,7 @@ impl Maker {
 
     /// Adds the record if it breaks no rule.
     fn push(&mut self, at: u64, packet: Option<Fields>) -> bool {
-        let step = Step::new(&self.steps, at, packet);
+        let step = Step::new(&self.t, &self.steps, at, packet);
         let legal = rules::broken(&self.t, &self.steps, &step).none();
         if legal {
             self.steps.push(step);

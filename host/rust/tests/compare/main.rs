@@ -34,5 +34,6 @@ mod tuned_plan;
 mod tuned_records;
 mod tuned_requests;
 mod tuned_state;
+mod two_writes;
 mod whole_runs;
 mod words;

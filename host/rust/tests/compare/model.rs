@@ -6,7 +6,7 @@ use crate::lists::{any_items, change, half_legal, legal, list_bytes, Item, Setti
 use crate::model_calls::{any_store, compare, fresh, small_numbers, Case, Run, Seen};
 use crate::random::{bytes, rounds, set_h, Random};
 use crate::reference::{number, COLUMNS, NOCOP, ROWS, T_CWD};
-use crate::reference_state::{instant, put, DUE, WRITE_AT};
+use crate::reference_state::{newest, put, DUE};
 
 /// Gives some masks another number of ones, so that each number comes often.
 fn remask(random: &mut Random, items: &mut [Item]) {
@@ -69,7 +69,7 @@ fn damaged(random: &mut Random, record: &[u8]) -> Vec<u8> {
 
 /// The D that is due, if any.
 fn due_data(random: &mut Random, run: &Run) -> Option<Vec<u8>> {
-    let at = instant(&run.state, WRITE_AT) + number(&run.settings[2 * T_CWD..2 * T_CWD + 2]);
+    let at = newest(&run.state) + number(&run.settings[2 * T_CWD..2 * T_CWD + 2]);
     let mut record = vec![0; 32];
     put(&mut record, 0, 4, at);
     record[4] = 2;

@@ -5,8 +5,9 @@ use crate::buffers::{self, guarded, lent, pattern};
 use crate::calls::{typed, Seen as Numbers};
 use crate::lists::rule_numbers;
 use crate::random::{bytes, Random};
-use crate::reference::{figures, number, packet, COLUMNS, NOCOP, RD, REFA, ROWS, WR};
+use crate::reference::{figures, number, packet, COLUMNS, NOCOP, PRER, RD, REFA, ROWS, WR};
 use crate::reference_model::{self as reference, Event, STATE_BYTES};
+use crate::reference_state::WAITING;
 use crate::tuned_model;
 use crate::tuned_records;
 use rdram::{raw, Model, Refusal};
@@ -236,13 +237,17 @@ pub struct Seen {
 }
 
 impl Seen {
-    const SHAPES: [&'static str; 9] = [
+    const SHAPES: [&'static str; 13] = [
         "neither",
         "RD",
         "RD while a write waits",
         "RD of the waiting write's dualoct",
         "retire by NOCOP",
         "retire by WR",
+        "WR beside another write",
+        "retire of the older of two by NOCOP",
+        "retire of the older of two by WR",
+        "PRER while two wait",
         "D",
         "REFA",
         "REFR starts again",
@@ -262,17 +267,22 @@ impl Seen {
         let p = packet(&f, record[4].into(), number(&record[8..16]));
         let is = |command| p.is_some_and(|p| p.command == command);
         let waiting = run.reference.waiting();
-        let own = p.is_some_and(|p| waiting == Some((p.bank, p.place)));
+        let own = p.is_some_and(|p| waiting.iter().any(|w| (w.0, w.1) == (p.bank, p.place)));
+        let (now, then) = (waiting.len(), before[WAITING]);
         let retires = matches!(event, Event::Retired(_));
         let refr = |state: &[u8]| number(&state[752..754]);
         let starts_again = refr(before) == f.rows - 1 && refr(&run.state) == 0;
         let shapes = [
             *event == Event::Neither,
             is(RD),
-            is(RD) && waiting.is_some(),
+            is(RD) && now > 0,
             is(RD) && own,
             is(NOCOP) && retires,
             is(WR) && retires,
+            is(WR) && !retires && now == 2,
+            is(NOCOP) && retires && then == 2,
+            is(WR) && retires && then == 2,
+            is(PRER) && now == 2,
             p.is_none(),
             is(REFA),
             is(REFA) && p.is_some_and(|p| p.bank == 31) && starts_again,

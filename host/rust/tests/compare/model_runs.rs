@@ -21,17 +21,37 @@ use Becomes::{Breaks, Neither, Reads, Retires};
 type Lines = &'static [(&'static str, Becomes)];
 
 #[rustfmt::skip]
-const RUNS: [Lines; 12] = [
+const RUNS: [Lines; 15] = [
     // Run 1 of the paper.
     &[("4 ACT 0 0", Neither), ("13 RD 0 1", Reads(&[])), ("19 WR 0 1", Neither), ("25 D", Neither),
       ("27 NOCOP 0 0 0003", Retires(2)), ("31 RD 0 1", Reads(&[(3, 25)])), ("35 PRER 0", Neither),
       ("43 ACT 1 0", Neither), ("52 RD 1 0", Reads(&[])), ("63 PRER 1", Neither)],
+    // Two writes to one dualoct wait, older first; no RD comes while they do.
+    &[("4 ACT 0", Neither), ("5 WR 0", Neither), ("11 D", Neither), ("9 WR 0 0 0003", Breaks(16)),
+      ("9 WR 0", Neither), ("11 D", Breaks(15)), ("15 D", Neither), ("13 RD 0", Breaks(12)),
+      ("13 NOCOP 0 0 0003", Retires(2)), ("16 NOCOP 0 0 0006", Breaks(3)),
+      ("17 RD 0", Reads(&[(3, 11)])), ("21 NOCOP 0 0 0006", Retires(2)),
+      ("25 RD 0", Reads(&[(3, 11), (6, 15)])), ("29 NOCOP", Neither)],
+    // A WR every tCC: from the third on each retires the write before the last.
+    &[("4 ACT 0", Neither), ("5 WR 0 0", Neither), ("11 D", Neither), ("9 WR 0 1", Neither),
+      ("15 D", Neither), ("13 WR 0 2 00FF", Retires(8)), ("19 D", Neither), ("17 WR 0 3", Retires(16)),
+      ("23 D", Neither), ("24 PRER 1", Breaks(14)), ("24 NOCOP 0 0 0000", Retires(0)),
+      ("28 RD 0 0", Reads(&[(0x00FF, 11)])), ("32 RD 0 1", Reads(&[(0xFFFF, 15)])),
+      ("36 RD 0 2", Reads(&[])), ("40 RD 0 3", Reads(&[])), ("44 NOCOP", Retires(16)),
+      ("48 RD 0 3", Reads(&[(0xFFFF, 23)]))],
+    // Writes of two banks: neither is closed under its write, and each is retired to its own.
+    &[("4 ACT 0 1", Neither), ("12 ACT 20", Neither), ("14 WR 20 3", Neither), ("20 D", Neither),
+      ("18 WR 0 3", Neither), ("24 D", Neither), ("32 PRER 0", Breaks(14)), ("32 PRER 20", Breaks(14)),
+      ("32 NOCOP", Retires(16)), ("32 PRER 1", Breaks(14)), ("36 RD 20 3", Reads(&[(0xFFFF, 20)])),
+      ("40 PRER 20", Neither), ("40 NOCOP 0 0 F000", Retires(4)),
+      ("44 RD 0 3", Reads(&[(0xF000, 24)])), ("48 PRER 1", Neither)],
     // Two writes to one dualoct: the second WR carries the first's mask, the NOCOP its own.
     &[("4 ACT 0", Neither), ("5 WR 0", Neither), ("11 D", Neither), ("13 WR 0 0 0003", Retires(2)),
       ("19 D", Neither), ("21 NOCOP 0 0 0006", Retires(2)),
       ("25 RD 0", Reads(&[(3, 11), (6, 19)]))],
-    // An RD past its own waiting write reads the old bytes.
-    &[("4 ACT 0", Neither), ("5 WR 0 2", Neither), ("11 D", Neither), ("13 RD 0 2", Reads(&[])),
+    // An RD past its own waiting write reads the old bytes; an early NOCOP is refused.
+    &[("4 ACT 0", Neither), ("5 WR 0 2", Neither), ("11 D", Neither), ("12 NOCOP", Breaks(12)),
+      ("13 RD 0 2", Reads(&[])),
       ("17 NOCOP", Retires(16)), ("21 RD 0 2", Reads(&[(0xFFFF, 11)])), ("25 RD 0 3", Reads(&[]))],
     // A write is retired to the row of its WR: PRER under the buffer is refused.
     &[("4 ACT 5 0", Neither), ("13 WR 5 3", Neither), ("19 D", Neither), ("24 PRER 5", Breaks(14)),

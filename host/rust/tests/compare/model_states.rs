@@ -9,7 +9,7 @@ use crate::random::{bytes, rounds, set_h, Random};
 use crate::reference::{Fields, ACT, COLUMNS, NOCOP, PRER, REFA, ROWS, T_CWD, WR};
 use crate::reference_model::{state_fits, STATE_BYTES};
 use crate::reference_rules::near;
-use crate::reference_state::{instant, put, put_write, tag, DUE, WAITING, WRITE_AT};
+use crate::reference_state::{instant, newest, put, put_writes, tag, DUE, WAITING};
 use crate::state_bytes::{
     any_counts, assert_every_byte, ends, fields, unused, Field, Instants, UNUSED,
 };
@@ -67,19 +67,16 @@ fn reached(random: &mut Random, numbers: &[u16; 16]) -> Run {
     run
 }
 
-// What a model has after the bytes that it has in common with a planner: REFR, the data, and bytes
-// that are 0.
+// What a model has after the bytes that it has in common with a planner: REFR, bytes that are 0, and
+// the data of two writes.
 const REFR: usize = 752;
 const DATA: usize = 760;
-const DATA_HALVES: [usize; 2] = [DATA, DATA + 8];
-const OWN_UNUSED: [Range<usize>; 2] = [754..DATA, 776..STATE_BYTES];
+const DATA_HALVES: [usize; 4] = [DATA, DATA + 8, DATA + 16, DATA + 24];
+const OWN_UNUSED: Range<usize> = 754..DATA;
 
 fn own() -> Vec<Field> {
-    let [before, after] = OWN_UNUSED.map(unused);
-    let refr = [(REFR, 2)].into_iter().chain(before);
-    refr.chain(DATA_HALVES.map(|at| (at, 8)))
-        .chain(after)
-        .collect()
+    let refr = [(REFR, 2)].into_iter().chain(unused(OWN_UNUSED));
+    refr.chain(DATA_HALVES.map(|at| (at, 8))).collect()
 }
 
 #[test]
@@ -127,7 +124,7 @@ fn unused_bytes() {
     for _ in 0..20 {
         let numbers = small_numbers(&mut random);
         let (run, record) = (reached(&mut random, &numbers), late_prer(&numbers, 9));
-        for at in UNUSED.into_iter().chain(OWN_UNUSED).flatten() {
+        for at in UNUSED.into_iter().flatten().chain(OWN_UNUSED) {
             for bit in 0..8 {
                 let mut damaged = run.state.clone();
                 damaged[at] = 1 << bit;
@@ -196,9 +193,9 @@ fn neighbours_not_closed() {
     seen.report("model, two banks not closed", &[0, 1]);
 }
 
-/// A waiting write needs its bank open by ACT.
+/// Each waiting write needs its bank open by ACT. Bank 9 is open.
 #[test]
-fn bank_of_the_waiting_write() {
+fn banks_of_the_waiting_writes() {
     let (numbers, store) = (set_h(2, 4, 0), vec![3; 4096]);
     let nocop = Fields {
         command: NOCOP,
@@ -206,42 +203,45 @@ fn bank_of_the_waiting_write() {
         place: 0,
         mask: 0x1234,
     };
-    for bank in 0..=255u8 {
+    let record = record(&numbers, 900, Some(nocop));
+    for bank in 0..=255u32 {
         for (due, tag) in [false, true]
             .into_iter()
             .flat_map(|due| [0, 1, 2, 3, 65_535].map(|t| (due, t)))
         {
-            let mut state = fresh();
-            put_write(&mut state, bank, 0, 4, due);
-            put(&mut state, 640 + 2 * usize::from(bank % 32), 2, tag);
-            let record = record(&numbers, 900, Some(nocop));
-            let answer = call(&numbers, &state, &store, &record);
-            let open = bank < 32 && (tag == 1 || tag == 2);
-            let want = if due { Err((11, 15)) } else { Ok(0) };
-            assert_eq!(answer, if open { want } else { Err((1, 0)) });
+            let (write, other) = ((bank, 0, 4), (9, 3, 8));
+            for writes in [vec![write], vec![write, other], vec![other, write]] {
+                let mut state = fresh();
+                put_writes(&mut state, &writes, due);
+                put(&mut state, 640 + 18, 2, 1);
+                put(&mut state, 640 + 2 * (bank as usize % 32), 2, tag);
+                let answer = call(&numbers, &state, &store, &record);
+                let alone = bank != 8 && bank != 10;
+                let open = bank < 32 && (tag == 1 || tag == 2) && alone;
+                let want = if due { Err((11, 15)) } else { Ok(0) };
+                assert_eq!(answer, if open { want } else { Err((1, 0)) });
+            }
         }
     }
 }
 
-/// One write waits, its data due or not, or none and its fields are 0.
+/// Two writes wait at most, the data of the newest due or not, and the fields of others are 0.
 #[test]
 fn counts_of_writes() {
     let (numbers, store) = (set_h(2, 4, 0), vec![3; 4096]);
-    for (count, due, write) in any_counts() {
+    for (count, due, writes) in any_counts() {
         let mut state = fresh();
         put(&mut state, 640, 2, 1);
-        if write {
-            put_write(&mut state, 0, 3, 4, false);
-        }
+        put_writes(&mut state, &[(0, 3, 4), (0, 2, 8)][..writes], false);
         (state[WAITING], state[DUE]) = (count, due);
         let answer = call(&numbers, &state, &store, &late_prer(&numbers, 9));
         let want = match (count, due) {
-            (0, 0) if !write => Ok(0),
-            (1, 0) if write => Ok(0),
-            (1, 1) if write => Err((11, 15)),
+            _ if usize::from(count) != writes => Err((1, 0)),
+            (_, 0) => Ok(0),
+            (1 | 2, 1) => Err((11, 15)),
             _ => Err((1, 0)),
         };
-        assert_eq!(answer, want, "{count} writes, due {due}, {write}");
+        assert_eq!(answer, want, "{count} writes, due {due}, {writes}");
     }
 }
 
@@ -269,15 +269,12 @@ fn any_state(random: &mut Random, numbers: &[u16; 16]) -> Vec<u8> {
     let instants = Instants::new(random, 300, 60);
     instants.put_lasts(random, &mut state);
     let open = any_banks(random, numbers, &mut state);
-    if !open.is_empty() && random.below(3) > 0 {
-        let column = random.below(numbers[COLUMNS].into());
-        let due = random.pick(&[false, false, true]);
-        let (bank, at) = (random.pick(&open), instants.instant(random, false));
-        put_write(&mut state, bank as u8, column as u8, at, due);
-    }
+    let writes = instants.writes(random, &open, numbers[COLUMNS]);
+    let due = !writes.is_empty() && random.chance(3);
+    put_writes(&mut state, &writes, due);
     let refr = random.below(numbers[ROWS].into());
     put(&mut state, REFR, 2, refr as u64);
-    state[DATA..DATA + 16].copy_from_slice(&random.bytes(16));
+    state[DATA..].copy_from_slice(&random.bytes(32));
     state
 }
 
@@ -304,11 +301,11 @@ fn any_record(random: &mut Random, numbers: &[u16; 16], state: &[u8]) -> Vec<u8>
     }
     let t_cwd = u32::from(numbers[T_CWD]);
     if state[DUE] == 1 && !random.chance(8) {
-        let at = field(WRITE_AT).wrapping_add(t_cwd);
+        let at = (newest(state) as u32).wrapping_add(t_cwd);
         return record(numbers, at.wrapping_add(u32::from(random.chance(8))), None);
     }
     if packet.command == WR && random.chance(16) {
-        return record(numbers, field(WRITE_AT).wrapping_add(t_cwd), None);
+        return record(numbers, (newest(state) as u32).wrapping_add(t_cwd), None);
     }
     let late = latest.wrapping_add(random.below(80) as u32);
     let any = field(4 * random.below(160));

@@ -7,7 +7,7 @@ use crate::plan_streams::{DRAIN, READ, REFRESH, WAIT, WRITE};
 use crate::random::bytes;
 use crate::reference::{NOCOP, PRER, RD, WR};
 use crate::reference_plan::{self as reference, STATE_BYTES};
-use crate::reference_state::instant;
+use crate::reference_state::{instant, WAITING};
 use crate::tuned_plan;
 use rdram::{raw, Planner, Refusal, Request};
 
@@ -166,20 +166,26 @@ pub struct Seen {
     /// Accepted requests by kind.
     kinds: [u64; 5],
     /// Accepted requests by the number of their records.
-    records: [u64; 18],
-    /// NOCOP before RD, NOCOP before PRER, two PRER before ACT or REFA, a WR with a mask.
-    shapes: [u64; 4],
+    records: [u64; 19],
+    /// NOCOP before RD, NOCOP before PRER, two PRER before ACT or REFA, a WR with a mask; two NOCOP
+    /// before RD, two NOCOP before PRER, a WR that leaves two writes waiting.
+    shapes: [u64; 7],
 }
 
 impl Seen {
     fn add(&mut self, request: &[u8], want: &Want, commands: &[Option<u32>]) {
         self.numbers.add(want.as_ref().err().copied().unwrap_or(0));
-        let Ok((list, _)) = want else {
+        let Ok((list, next)) = want else {
             return;
         };
         self.kinds[usize::from(request[0])] += 1;
         self.records[commands.len()] += 1;
         let pair = |a, b| commands.windows(2).any(|w| w == [Some(a), Some(b)]);
+        let flushed = |c| {
+            commands
+                .windows(3)
+                .any(|w| w == [Some(NOCOP), Some(NOCOP), Some(c)])
+        };
         let closings = commands.iter().filter(|c| **c == Some(PRER)).count();
         let mut records = list.chunks(32).zip(commands);
         self.shapes[0] += u64::from(pair(NOCOP, RD));
@@ -187,6 +193,9 @@ impl Seen {
         self.shapes[2] += u64::from(closings == 2 && request[0] != DRAIN);
         // M is bit 16 of the word.
         self.shapes[3] += u64::from(records.any(|(r, c)| *c == Some(WR) && r[10] & 1 == 1));
+        self.shapes[4] += u64::from(flushed(RD));
+        self.shapes[5] += u64::from(flushed(PRER));
+        self.shapes[6] += u64::from(request[0] == WRITE && next[WAITING] == 2);
     }
 
     /// Prints the counts; fails unless exactly these numbers were seen.
@@ -196,10 +205,11 @@ impl Seen {
         let [read, write, refresh, wait, drain] =
             [READ, WRITE, REFRESH, WAIT, DRAIN].map(|kind| self.kinds[usize::from(kind)]);
         println!("{name}: accepted: {read} read, {write} write, {refresh} refresh, {wait} wait, {drain} drain");
-        let [own, lost, two, masked] = self.shapes;
+        let [own, lost, two, masked, both, both_lost, beside] = self.shapes;
         println!(
             "{name}: {own} with NOCOP RD, {lost} with NOCOP PRER, {two} with two PRER, \
-             {masked} with a masked WR; most records {most}"
+             {masked} with a masked WR, {both} with NOCOP NOCOP RD, {both_lost} with NOCOP NOCOP \
+             PRER, {beside} writes beside another; most records {most}"
         );
     }
 
@@ -230,7 +240,7 @@ pub struct Run {
 }
 
 /// Room for any request.
-pub const ENOUGH: usize = 17 * 32;
+pub const ENOUGH: usize = 18 * 32;
 
 impl Run {
     pub fn new(numbers: &[u16; 16]) -> Run {

@@ -7,6 +7,7 @@ use crate::plan_streams::{bare, read, wait, write, DRAIN, REFRESH};
 use crate::random::{bytes, set_h};
 use crate::reference::{figures, number, packet, word, NOCOP};
 use crate::reference_plan::Planner;
+use crate::two_writes;
 
 const NAMES: [&str; 7] = ["ACT", "PRER", "REFA", "REFP", "NOCOP", "WR", "RD"];
 
@@ -30,13 +31,15 @@ fn listing(settings: &[u8], list: &[u8]) -> Vec<String> {
     list.chunks(32).map(line).collect()
 }
 
-const ONES: [u8; 16] = [1; 16];
-const TWOS: [u8; 16] = [2; 16];
+pub const ONES: [u8; 16] = [1; 16];
+pub const TWOS: [u8; 16] = [2; 16];
 
-type Requests = Vec<Vec<u8>>;
+pub type Requests = Vec<Vec<u8>>;
 
 /// Requests and the lines that they must make.
-fn runs() -> Vec<(Requests, Vec<&'static str>)> {
+pub type Runs = Vec<(Requests, Vec<&'static str>)>;
+
+fn runs() -> Runs {
     vec![
         (
             vec![
@@ -99,17 +102,6 @@ fn runs() -> Vec<(Requests, Vec<&'static str>)> {
                 "52 REFP 1 0 -",
             ],
         ),
-        // The second WR carries the first write's mask.
-        (
-            vec![write(0, 0, 0, 0x0003, &ONES), write(0, 0, 0, 0x0006, &TWOS)],
-            vec![
-                "4 ACT 0 0 -",
-                "5 WR 0 0 -",
-                "11 D 0 0 -",
-                "13 WR 0 0 0003",
-                "19 D 0 0 -",
-            ],
-        ),
         // Mask 0 is legal.
         (
             vec![write(0, 0, 0, 0, &ONES), bare(DRAIN)],
@@ -134,7 +126,7 @@ fn runs() -> Vec<(Requests, Vec<&'static str>)> {
 #[test]
 fn runs_of_the_paper_by_the_reference() {
     let settings = bytes(&set_h(2, 4, 0));
-    for (requests, lines) in runs() {
+    for (requests, lines) in runs().into_iter().chain(two_writes::runs()) {
         let mut planner = Planner::fresh(&settings).unwrap();
         let records = requests.iter().map(|q| planner.plan(q, ENOUGH).unwrap());
         let list: Vec<u8> = records.flatten().collect();
@@ -145,7 +137,7 @@ fn runs_of_the_paper_by_the_reference() {
 #[test]
 fn runs_of_the_paper_by_the_library() {
     let mut seen = Seen::default();
-    for (requests, lines) in runs() {
+    for (requests, lines) in runs().into_iter().chain(two_writes::runs()) {
         let mut run = Run::new(&set_h(2, 4, 0));
         for request in &requests {
             run.call(&mut seen, request, ENOUGH).unwrap();

@@ -9,7 +9,7 @@ use crate::plan_streams::{bare, read, wait, write, Maker, DRAIN};
 use crate::random::{bytes, rounds, set_h, Random};
 use crate::reference::{COLUMNS, ROWS};
 use crate::reference_plan::{state_fits, STATE_BYTES};
-use crate::reference_state::{put, put_instant, put_write, DUE, WAITING};
+use crate::reference_state::{put, put_instant, put_writes, DUE, WAITING};
 use crate::state_bytes::{
     any_counts, assert_every_byte, ends, fields, unused, Field, Instants, UNUSED,
 };
@@ -45,17 +45,17 @@ fn reached(random: &mut Random, numbers: &[u16; 16]) -> Vec<u8> {
     run.state
 }
 
-// What a planner has after the bytes that it has in common with a model: now, the refresh bank, the
-// mask, and bytes that are 0.
+// What a planner has after the bytes that it has in common with a model: now, the refresh bank, two
+// masks, and bytes that are 0.
 const NOW: usize = 752;
 const REFRESH: usize = 756;
-const MASK: usize = 760;
-const OWN_UNUSED: [Range<usize>; 2] = [758..MASK, 762..STATE_BYTES];
+const MASKS: [usize; 2] = [760, 762];
+const OWN_UNUSED: [Range<usize>; 2] = [758..760, 764..STATE_BYTES];
 
 fn own() -> Vec<Field> {
     let [before, after] = OWN_UNUSED.map(unused);
     let first = [(NOW, 4), (REFRESH, 2)].into_iter().chain(before);
-    first.chain([(MASK, 2)]).chain(after).collect()
+    first.chain(MASKS.map(|at| (at, 2))).chain(after).collect()
 }
 
 #[test]
@@ -85,7 +85,7 @@ fn damaged_field_by_field() {
     seen.report("plan, states damaged field by field", &[0, 1]);
     for (at, _) in fields(&own()) {
         // Any mask will do.
-        assert_eq!(refused[at] == 0, at == MASK, "the field at {at}");
+        assert_eq!(refused[at] == 0, MASKS.contains(&at), "the field at {at}");
     }
 }
 
@@ -127,13 +127,13 @@ fn damaged_bytes() {
                 let late = 640 + random.below(STATE_BYTES - 640);
                 let at = random.pick(&[any, late]);
                 let flipped = damaged[at] ^ 1 << random.below(8);
-                damaged[at] = random.pick(&[0, 1, flipped]);
+                damaged[at] = random.pick(&[0, 1, 2, flipped]);
             }
             let request = maker.request(&mut random);
             seen.add(call(&numbers, &damaged, &request, ENOUGH));
         }
     }
-    let numbers = [0, 1, 2, 3, 4, 5, 6, 13];
+    let numbers = [0, 1, 2, 3, 4, 5, 6, 7, 13];
     seen.report("plan, states with damaged bytes", &numbers);
 }
 
@@ -195,39 +195,42 @@ fn open_neighbours() {
     seen.report("plan, two open banks", &[0, 1]);
 }
 
-/// A waiting write needs its bank open by ACT.
+/// Each waiting write needs its bank open by ACT. Bank 9 is open.
 #[test]
-fn bank_of_the_waiting_write() {
+fn banks_of_the_waiting_writes() {
     let numbers = set_h(2, 4, 0);
-    for bank in 0..=255u8 {
+    for bank in 0..=255u32 {
         for tag in [0, 1, 2, 3, 65_535] {
-            let mut state = fresh();
-            put_write(&mut state, bank, 0, 4, false);
-            put(&mut state, 640 + 2 * usize::from(bank % 32), 2, tag);
-            let number = call(&numbers, &state, &bare(DRAIN), ENOUGH);
-            let open = bank < 32 && (tag == 1 || tag == 2);
-            assert_eq!(number == 0, open, "bank {bank}, {tag}");
+            let (write, other) = ((bank, 0, 4), (9, 3, 8));
+            for writes in [vec![write], vec![write, other], vec![other, write]] {
+                let mut state = fresh();
+                put_writes(&mut state, &writes, false);
+                put(&mut state, 640 + 18, 2, 1);
+                put(&mut state, 640 + 2 * (bank as usize % 32), 2, tag);
+                let number = call(&numbers, &state, &bare(DRAIN), ENOUGH);
+                let alone = bank != 8 && bank != 10;
+                let open = bank < 32 && (tag == 1 || tag == 2) && alone;
+                assert_eq!(number == 0, open, "{writes:?}, {tag}");
+            }
         }
     }
 }
 
-/// One write waits, or none and its fields are 0; no data are due.
+/// Two writes wait at most, the fields of others are 0, and no data are due.
 #[test]
 fn counts_of_writes() {
     let numbers = set_h(2, 4, 0);
-    for (count, due, write) in any_counts() {
+    for (count, due, writes) in any_counts() {
         let mut state = fresh();
         put(&mut state, 640, 2, 1);
-        if write {
-            put_write(&mut state, 0, 3, 4, false);
-        }
+        put_writes(&mut state, &[(0, 3, 4), (0, 2, 8)][..writes], false);
         (state[WAITING], state[DUE]) = (count, due);
         let number = call(&numbers, &state, &bare(DRAIN), ENOUGH);
-        let fits = (count, due) == (write.into(), 0);
+        let fits = (usize::from(count), due) == (writes, 0);
         assert_eq!(
             number,
             u32::from(!fits),
-            "{count} writes, due {due}, {write}"
+            "{count} writes, due {due}, {writes}"
         );
     }
 }
@@ -246,15 +249,14 @@ fn any_state(random: &mut Random, numbers: &[u16; 16]) -> Vec<u8> {
             open.push(bank);
         }
     }
-    if !open.is_empty() && random.chance(2) {
-        let (bank, column) = (random.pick(&open), random.below(numbers[COLUMNS].into()));
-        let at = instants.instant(random, false);
-        put_write(&mut state, bank as u8, column as u8, at, false);
-    }
+    let writes = instants.writes(random, &open, numbers[COLUMNS]);
+    put_writes(&mut state, &writes, false);
     let now = instants.instant(random, false);
     put_instant(&mut state, NOW, now);
     put(&mut state, REFRESH, 2, random.below(32) as u64);
-    put(&mut state, MASK, 2, random.below(0x10000) as u64);
+    for at in MASKS {
+        put(&mut state, at, 2, random.below(0x10000) as u64);
+    }
     state
 }
 
@@ -285,14 +287,19 @@ fn any_states() {
     seen.report("plan, any states", &numbers);
 }
 
-/// The write waits, is read by its own place and by others, and a copy of the state goes on alike.
+/// Two writes wait, are read by their own place and by others, and a copy of the state goes on alike.
 #[test]
 fn a_copy_goes_on_alike() {
     let numbers = set_h(2, 4, 0);
     let mut run = Run::new(&numbers);
     let mut seen = Seen::default();
-    run.call(&mut seen, &write(7, 1, 3, 0x0FF0, &[3; 16]), ENOUGH)
-        .unwrap();
+    for request in [
+        write(7, 1, 3, 0x0FF0, &[3; 16]),
+        write(7, 1, 1, 3, &[4; 16]),
+    ] {
+        run.call(&mut seen, &request, ENOUGH).unwrap();
+    }
+    assert_eq!(run.state[WAITING], 2);
     let mut copy = run.clone();
     for request in [read(7, 1, 2), read(7, 1, 3), bare(DRAIN)] {
         run.call(&mut seen, &request, ENOUGH).unwrap();

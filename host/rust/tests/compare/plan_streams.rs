@@ -47,6 +47,8 @@ pub struct Maker {
     column_choice: [u8; 3],
     /// One in so many requests is damaged, or none where it is 0.
     damaged: usize,
+    /// Most requests are writes to one row.
+    fills: bool,
 }
 
 impl Maker {
@@ -63,6 +65,7 @@ impl Maker {
             row_choice: [0, rows - 1, row],
             column_choice: [0, (columns - 1) as u8, column],
             damaged: random.pick(&[0, 0, 0, 8]),
+            fills: random.chance(3),
         }
     }
 
@@ -87,6 +90,10 @@ impl Maker {
     /// A request with right fields.
     fn right(&self, random: &mut Random) -> Vec<u8> {
         let (bank, row, column) = self.place(random);
+        if self.fills && !random.chance(3) {
+            let (mask, data) = (Self::mask(random), random.bytes(16));
+            return write(self.banks[0], self.row_choice[0], column, mask, &data);
+        }
         match random.below(20) {
             0..8 => read(bank, row, column),
             8..15 => {

@@ -1,10 +1,12 @@
-//! The device model as plain Rust, written from document 01 alone, by history. It keeps every record
-//! that it has taken, judges the next by the rules of `reference_rules` against all of them, and
-//! reads banks, the waiting write, its data and REFR off that list.
+//! The device model as plain Rust, written from documents 01 and 02 (a) alone, by history. It keeps
+//! every record that it has taken, judges the next by the rules of `reference_rules` against all of
+//! them, and reads banks, the waiting writes, their data and REFR off that list.
 
 use crate::reference::{figures, number, packet, record_fits, Figures, RD, REFA, ROWS};
 use crate::reference_rules::{self as rules, Rules, Step, Timings};
-use crate::reference_state::{channel_bytes, channel_fits, open_row, put, waiting, zero};
+use crate::reference_state::{
+    channel_bytes, channel_fits, kept, open_row, put, waiting, write_number, zero, Write,
+};
 
 pub const STATE_BYTES: usize = 792;
 
@@ -59,9 +61,11 @@ impl Model {
         16 * ((bank as usize * rows + row as usize) * columns + column as usize)
     }
 
-    /// Writes the bytes of a waiting write that its mask governs, and counts them.
-    fn retire(&mut self, bank: u32, column: u32, mask: u32) -> u32 {
-        let (at, data) = (self.dualoct(bank, column), *self.data.last().unwrap());
+    /// Writes the bytes of the waiting write at a place that a mask governs, and counts them.
+    fn retire(&mut self, place: usize, mask: u32) -> u32 {
+        let wr = self.steps[place].packet.expect("a WR");
+        let data = self.data[write_number(&self.steps, place)];
+        let at = self.dualoct(wr.bank, wr.place);
         let governed = (0..16).filter(|i| mask >> i & 1 == 1);
         governed.map(|i| self.store[at + i] = data[i]).count() as u32
     }
@@ -80,7 +84,8 @@ impl Model {
             return refused(10);
         }
         let packet = packet(&self.figures, record[4].into(), number(&record[8..16]));
-        let new = Step::new(&self.steps, number(&record[..4]), packet);
+        let at = number(&record[..4]);
+        let new = Step::new(&self.timings, &self.steps, at, packet);
         let broken = rules::broken(&self.timings, &self.steps, &new);
         if !broken.none() {
             return Err(Refused { number: 11, broken });
@@ -95,19 +100,19 @@ impl Model {
                 let at = self.dualoct(p.bank, p.place);
                 event = Event::Read(self.store[at..at + 16].try_into().unwrap());
             }
-            Some(p) if new.retired().is_some() => {
-                let (bank, column, _) = waiting(&self.steps).expect("a waiting write");
-                event = Event::Retired(self.retire(bank, column, p.mask));
+            Some(p) => {
+                if let Some((place, _)) = new.retired() {
+                    event = Event::Retired(self.retire(place, p.mask));
+                }
             }
-            Some(_) => {}
         }
         self.steps.push(new);
         Ok(event)
     }
 
-    /// Bank and column of the waiting write.
-    pub fn waiting(&self) -> Option<(u32, u32)> {
-        waiting(&self.steps).map(|(bank, column, _)| (bank, column))
+    /// The waiting writes, oldest first.
+    pub fn waiting(&self) -> Vec<Write> {
+        waiting(&self.steps)
     }
 
     /// The model's state in the layout of `rdram.h`, read off the list.
@@ -117,8 +122,10 @@ impl Model {
         let packets = self.steps.iter().filter_map(|step| step.packet);
         let rises = packets.filter(|p| p.command == REFA && p.bank == 31);
         put(&mut state, 752, 2, rises.count() as u64 % self.figures.rows);
-        if let Some(data) = self.data.last() {
-            state[760..776].copy_from_slice(data);
+        for (i, write) in kept(&self.steps, self.data.len()).into_iter().enumerate() {
+            if let Some(n) = write {
+                state[760 + 16 * i..776 + 16 * i].copy_from_slice(&self.data[n]);
+            }
         }
         state
     }
@@ -130,5 +137,4 @@ pub fn state_fits(numbers: &[u16; 16], state: &[u8]) -> bool {
         && channel_fits(numbers, state)
         && number(&state[752..754]) < numbers[ROWS].into()
         && zero(&state[754..760])
-        && zero(&state[776..])
 }

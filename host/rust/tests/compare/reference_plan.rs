@@ -1,14 +1,15 @@
-//! The planner as plain Rust, written from document 01 alone, by trying. It keeps every record that
-//! it has made, reads banks and the waiting write off that list, and tries each packet at now,
-//! now + 1, .. until it breaks none of the rules of `reference_rules` against all earlier records.
+//! The planner as plain Rust, written from documents 01 and 02 (a) alone, by trying. It keeps every
+//! record that it has made, reads banks and the waiting writes off that list, and tries each packet
+//! at now, now + 1, .. until it breaks none of the rules of `reference_rules` against all earlier
+//! records.
 
 use crate::reference::{
     figures, number, word, Fields, Figures, ACT, NOCOP, PRER, RD, REFA, REFP, WR,
 };
 use crate::reference_rules::{self as rules, near, Step, Timings};
 use crate::reference_state::{
-    channel_bytes, channel_fits, instant, open_row, put, put_instant, tag, waiting, zero, DUE,
-    LAST, UNDER_REFRESH,
+    channel_bytes, channel_fits, instant, kept, open_row, put, put_instant, tag, waiting,
+    write_number, zero, Write, DUE, LAST, UNDER_REFRESH,
 };
 
 pub const STATE_BYTES: usize = 768;
@@ -133,24 +134,31 @@ impl Planner {
         self.now
     }
 
-    /// The mask that a packet carries which retires the waiting write, or M = 0 where none waits.
-    fn carried(&self) -> u32 {
-        match waiting(&self.steps) {
-            Some(_) => *self.masks.last().expect("a mask of the waiting write"),
-            None => 0xFFFF,
-        }
+    /// The mask that a packet carries: that of the write which it retires, or M = 0.
+    fn carried(&self, step: &Step) -> u32 {
+        step.retired().map_or(0xFFFF, |(place, _)| {
+            self.masks[write_number(&self.steps, place)]
+        })
     }
 
-    /// Sends a packet at the first instant, from now on, at which it breaks no rule.
-    fn send(&mut self, command: u32, bank: u32, place: u32, mask: u32) -> Result<(), Refused> {
-        let packet = Fields {
+    /// Sends a packet at the first instant, from now on, at which it breaks no rule under the mask
+    /// that it then carries.
+    fn send(&mut self, command: u32, bank: u32, place: u32) -> Result<(), Refused> {
+        let mut packet = Fields {
             command,
             bank,
             place,
-            mask,
+            mask: 0,
         };
-        let mut step = Step::new(&self.steps, self.now, Some(packet));
-        while !rules::broken(&self.timings, &self.steps, &step).none() {
+        let mut step = Step::new(&self.timings, &self.steps, self.now, Some(packet));
+        loop {
+            if command >= NOCOP {
+                packet.mask = self.carried(&step);
+                step.packet = Some(packet);
+            }
+            if rules::broken(&self.timings, &self.steps, &step).none() {
+                break;
+            }
             step.at += 1;
             if step.at > LAST {
                 return Err(7);
@@ -163,16 +171,18 @@ impl Planner {
         Ok(())
     }
 
-    fn nocop(&mut self) -> Result<(), Refused> {
-        self.send(NOCOP, 0, 0, self.carried())
+    /// NOCOPs until the waiting writes are not such any more.
+    fn nocops(&mut self, such: impl Fn(&[Write]) -> bool) -> Result<(), Refused> {
+        while such(&waiting(&self.steps)) {
+            self.send(NOCOP, 0, 0)?;
+        }
+        Ok(())
     }
 
-    /// PRER, with a NOCOP before it where it would lose the waiting write.
+    /// PRER, with NOCOPs before it while it would lose a waiting write.
     fn close(&mut self, bank: u32) -> Result<(), Refused> {
-        if waiting(&self.steps).is_some_and(|(b, ..)| near(b, bank)) {
-            self.nocop()?;
-        }
-        self.send(PRER, bank, 0, 0)
+        self.nocops(|writes| writes.iter().any(|(b, ..)| near(*b, bank)))?;
+        self.send(PRER, bank, 0)
     }
 
     fn close_open(&mut self, pick: impl Fn(u32) -> bool) -> Result<(), Refused> {
@@ -189,23 +199,22 @@ impl Planner {
             return Ok(());
         }
         self.close_open(|b| near(b, at.bank))?;
-        self.send(ACT, at.bank, at.row, 0)
+        self.send(ACT, at.bank, at.row)
     }
 
     fn read(&mut self, at: Place) -> Result<(), Refused> {
         self.reach(at)?;
-        let own = |(bank, column, _)| (bank, column) == (at.bank, at.column);
-        if waiting(&self.steps).is_some_and(own) {
-            self.nocop()?;
-        }
-        self.send(RD, at.bank, at.column, 0xFFFF)
+        let own = |(bank, column, _): &Write| (*bank, *column) == (at.bank, at.column);
+        self.nocops(|writes| writes.len() == 2 || writes.iter().any(own))?;
+        self.send(RD, at.bank, at.column)
     }
 
     fn write(&mut self, at: Place, mask: u32, data: [u8; 16]) -> Result<(), Refused> {
         self.reach(at)?;
-        self.send(WR, at.bank, at.column, self.carried())?;
+        self.send(WR, at.bank, at.column)?;
         self.masks.push(mask);
-        let d = Step::new(&self.steps, self.now + self.timings.cwd, None);
+        let at = self.now + self.timings.cwd;
+        let d = Step::new(&self.timings, &self.steps, at, None);
         assert!(rules::broken(&self.timings, &self.steps, &d).none());
         self.steps.push(d);
         self.data.push(data);
@@ -215,8 +224,8 @@ impl Planner {
     fn refresh(&mut self) -> Result<(), Refused> {
         let bank = self.refresh;
         self.close_open(|b| near(b, bank))?;
-        self.send(REFA, bank, 0, 0)?;
-        self.send(REFP, bank, 0, 0)?;
+        self.send(REFA, bank, 0)?;
+        self.send(REFP, bank, 0)?;
         self.refresh = (bank + 1) % 32;
         Ok(())
     }
@@ -230,9 +239,7 @@ impl Planner {
     }
 
     fn drain(&mut self) -> Result<(), Refused> {
-        if waiting(&self.steps).is_some() {
-            self.nocop()?;
-        }
+        self.nocops(|writes| !writes.is_empty())?;
         self.close_open(|_| true)
     }
 
@@ -297,8 +304,10 @@ impl Planner {
         state.resize(STATE_BYTES, 0);
         put_instant(&mut state, 752, self.now);
         put(&mut state, 756, 2, self.refresh.into());
-        let mask = self.masks.last().copied().unwrap_or(0);
-        put(&mut state, 760, 2, mask.into());
+        for (i, write) in kept(&self.steps, self.masks.len()).into_iter().enumerate() {
+            let mask = write.map_or(0, |n| self.masks[n]);
+            put(&mut state, 760 + 2 * i, 2, mask.into());
+        }
         state
     }
 }
@@ -313,5 +322,5 @@ pub fn state_fits(numbers: &[u16; 16], state: &[u8]) -> bool {
         && (4..=LAST).contains(&instant(state, 752))
         && number(&state[756..758]) < 32
         && zero(&state[758..760])
-        && zero(&state[762..])
+        && zero(&state[764..])
 }

@@ -1,6 +1,6 @@
-//! The sixteen rules as plain Rust, written from document 01 alone. A record is judged against
-//! each earlier record; no state is carried along: banks and the waiting write are found by
-//! looking back through the list.
+//! The sixteen rules as plain Rust, written from documents 01 and 02 (a) alone. A record is judged
+//! against each earlier record; no state is carried along: banks and the waiting writes are found
+//! by looking back through the list.
 
 use crate::reference::{
     figures, first_bad_block, first_bad_record, number, packet, records, Fields, ACT, NOCOP, PRER,
@@ -78,30 +78,45 @@ pub struct Step {
     pub at: u64,
     /// None: a D.
     pub packet: Option<Fields>,
-    /// The place and bank of the write that waits when the record comes.
-    waiting: Option<(usize, u32)>,
+    /// The oldest write that waits when the record comes.
+    oldest: Option<Oldest>,
     /// The banks that a PRER or REFP closes, one bit each.
     pub closes: u32,
 }
 
+/// A waiting write: its place and bank, and the instant from which on a packet retires it.
+#[derive(Clone, Copy, Debug)]
+struct Oldest {
+    place: usize,
+    bank: u32,
+    from: u64,
+}
+
 impl Step {
-    pub fn new(earlier: &[Step], at: u64, packet: Option<Fields>) -> Step {
+    pub fn new(t: &Timings, earlier: &[Step], at: u64, packet: Option<Fields>) -> Step {
         let closes = match packet {
             Some(p) if is_prer(p) => closed_by(earlier, p.bank),
             _ => 0,
         };
+        let oldest = waiting(earlier).first().map(|(place, bank)| Oldest {
+            place: *place,
+            bank: *bank,
+            from: earlier[*place].at + t.rtr,
+        });
         Step {
             at,
             packet,
-            waiting: waiting(earlier),
+            oldest,
             closes,
         }
     }
 
-    /// The place and bank of the write that this record retires.
+    /// The place and bank of the write that this record retires: the oldest, by a COL packet other
+    /// than RD, if tRTR has passed since its WR.
     pub fn retired(&self) -> Option<(usize, u32)> {
         let p = self.packet?;
-        self.waiting.filter(|_| is_col(p) && p.command != RD)
+        let w = self.oldest?;
+        (is_col(p) && p.command != RD && self.at >= w.from).then_some((w.place, w.bank))
     }
 
     fn follows_wr(earlier: &[Step]) -> Option<u64> {
@@ -154,13 +169,15 @@ pub fn bank(earlier: &[Step], bank: u32) -> Bank {
     Bank::Closed
 }
 
-/// The place and bank of the waiting write: the last COL packet other than RD, if that is a WR.
-pub fn waiting(earlier: &[Step]) -> Option<(usize, u32)> {
-    let place = earlier
-        .iter()
-        .rposition(|step| step.packet.is_some_and(|p| is_col(p) && p.command != RD))?;
-    let p = earlier[place].packet?;
-    (p.command == WR).then_some((place, p.bank))
+/// The place and bank of each waiting write, oldest first: the WRs that no later record retired.
+pub fn waiting(earlier: &[Step]) -> Vec<(usize, u32)> {
+    let retires = |step: &Step, place| step.retired().is_some_and(|(write, _)| write == place);
+    let stays = |place: usize| !earlier[place..].iter().any(|step| retires(step, place));
+    let writes = earlier.iter().enumerate().filter_map(|(place, step)| {
+        let p = step.packet.filter(|p| p.command == WR)?;
+        Some((place, p.bank))
+    });
+    writes.filter(|(place, _)| stays(*place)).collect()
 }
 
 /// A PRER closes its bank and any neighbour that is open or under refresh.
@@ -171,8 +188,8 @@ fn closed_by(earlier: &[Step], prer: u32) -> u32 {
 
 // ---- Rules ----
 
-/// Every distance that `b` must keep from the earlier record `a` at `place`: its rule and cycles.
-fn distances(t: &Timings, place: usize, a: &Step, b: &Step, mut need: impl FnMut(u32, u64)) {
+/// Every distance that `b` must keep from the earlier record `a`: its rule and cycles.
+fn distances(t: &Timings, a: &Step, b: &Step, mut need: impl FnMut(u32, u64)) {
     let (Some(p), Some(q)) = (a.packet, b.packet) else {
         return;
     };
@@ -209,9 +226,6 @@ fn distances(t: &Timings, place: usize, a: &Step, b: &Step, mut need: impl FnMut
     if p.command == RD && q.command == WR {
         need(11, t.cc + t.cac - t.cwd);
     }
-    if b.retired().is_some_and(|(write, _)| write == place) {
-        need(12, t.rtr);
-    }
     if is_prer(q) && p.command == RD && near_banks {
         need(13, t.rdp);
     }
@@ -230,7 +244,18 @@ fn out_of_range(t: &Timings, new: &Step) -> bool {
     new.at < FIRST || data > LAST
 }
 
-/// Rules 9, 14 and 16 and, of an ACT, 4.
+/// Rule 12: a COL packet other than RD retires a waiting write, or is a WR beside a single one; no
+/// RD comes while two wait.
+fn leaves_writes(new: &Step, p: Fields, waiting: usize) -> bool {
+    match (waiting, p.command) {
+        (0, _) => false,
+        (_, RD) => waiting > 1,
+        (1, WR) => false,
+        _ => is_col(p) && new.retired().is_none(),
+    }
+}
+
+/// Rules 9, 12, 14 and 16 and, of an ACT, 4.
 fn breaks_by_state(earlier: &[Step], new: &Step, p: Fields, broken: &mut Rules) {
     let not_closed = |b: u32| bank(earlier, b) != Bank::Closed;
     let not_open = |b: u32| bank(earlier, b) != Bank::Open;
@@ -240,8 +265,10 @@ fn breaks_by_state(earlier: &[Step], new: &Step, p: Fields, broken: &mut Rules) 
     );
     let used = (p.command == RD || p.command == WR) && not_open(p.bank);
     broken.add_if(9, used || new.retired().is_some_and(|(_, b)| not_open(b)));
-    let lost = new.waiting.is_some_and(|(_, b)| new.closes >> b & 1 == 1);
-    broken.add_if(14, lost);
+    let waiting = waiting(earlier);
+    broken.add_if(12, leaves_writes(new, p, waiting.len()));
+    let lost = |(_, b): &(usize, u32)| new.closes >> b & 1 == 1;
+    broken.add_if(14, waiting.iter().any(lost));
     let masked = is_col(p) && p.mask != 0xFFFF;
     broken.add_if(16, masked && new.retired().is_none());
 }
@@ -250,8 +277,8 @@ fn breaks_by_state(earlier: &[Step], new: &Step, p: Fields, broken: &mut Rules) 
 pub fn broken(t: &Timings, earlier: &[Step], new: &Step) -> Rules {
     let mut broken = Rules::default();
     broken.add_if(1, out_of_range(t, new));
-    for (place, a) in earlier.iter().enumerate() {
-        distances(t, place, a, new, |rule, cycles| {
+    for a in earlier {
+        distances(t, a, new, |rule, cycles| {
             broken.add_if(rule, new.at < a.at + cycles);
         });
     }
@@ -264,16 +291,23 @@ pub fn broken(t: &Timings, earlier: &[Step], new: &Step) -> Rules {
     broken
 }
 
-/// The least instant at which a packet keeps every distance.
+/// The least instant at which a packet keeps every distance and rule 12, if it can.
 pub fn least(t: &Timings, earlier: &[Step], packet: Fields) -> u64 {
-    let new = Step::new(earlier, 0, Some(packet));
-    let mut least = FIRST;
-    for (place, a) in earlier.iter().enumerate() {
-        distances(t, place, a, &new, |_, cycles| {
-            least = least.max(a.at + cycles)
-        });
+    let mut new = Step::new(t, earlier, FIRST, Some(packet));
+    let asked = |new: &Step| {
+        let mut least = new.at;
+        for a in earlier {
+            distances(t, a, new, |_, cycles| least = least.max(a.at + cycles));
+        }
+        least
+    };
+    new.at = asked(&new);
+    let from = new.oldest.map_or(0, |w| w.from);
+    if leaves_writes(&new, packet, waiting(earlier).len()) {
+        new.at = new.at.max(from);
     }
-    least
+    // What a retire asks besides.
+    asked(&new)
 }
 
 // ---- Calls ----
@@ -302,6 +336,7 @@ fn judge(settings: &[u8], list: &[u8]) -> Answer {
     for (place, record) in list.chunks(32).enumerate() {
         let word = number(&record[8..16]);
         let new = Step::new(
+            &t,
             &earlier,
             number(&record[..4]),
             packet(&f, record[4].into(), word),

@@ -8,13 +8,11 @@ pub const LAST: u64 = 1_000_000_000;
 pub const CHANNEL_BYTES: usize = 752;
 pub const UNDER_REFRESH: u64 = 65_535;
 
-// The bytes of the write buffer: how many writes wait, whether data are due, and bank, column and
-// instant of the waiting write.
+// The bytes of the write buffer: how many writes wait, whether data are due, and the places of the
+// older and the newer write.
 pub const WAITING: usize = 728;
 pub const DUE: usize = 729;
-pub const WRITE_BANK: usize = 736;
-pub const WRITE_COLUMN: usize = 737;
-pub const WRITE_AT: usize = 740;
+pub const WRITES: [usize; 2] = [736, 744];
 
 /// Writes a number, low byte first.
 pub fn put(bytes: &mut [u8], at: usize, width: usize, number: u64) {
@@ -35,11 +33,22 @@ pub fn instant(state: &[u8], at: usize) -> u64 {
     }
 }
 
-/// Writes a waiting write whose data are due or not.
-pub fn put_write(state: &mut [u8], bank: u8, column: u8, at: u64, due: bool) {
-    (state[WAITING], state[DUE]) = (1, due.into());
-    (state[WRITE_BANK], state[WRITE_COLUMN]) = (bank, column);
-    put_instant(state, WRITE_AT, at);
+/// A waiting write: bank, column and the instant of its WR.
+pub type Write = (u32, u32, u64);
+
+/// Writes the waiting writes, oldest first; the data of the newest are due or not.
+pub fn put_writes(state: &mut [u8], writes: &[Write], due: bool) {
+    (state[WAITING], state[DUE]) = (writes.len() as u8, due.into());
+    for ((bank, column, at), place) in writes.iter().zip(WRITES) {
+        (state[place], state[place + 1]) = (*bank as u8, *column as u8);
+        put_instant(state, place + 4, *at);
+    }
+}
+
+/// The instant of the WR of the newest waiting write.
+pub fn newest(state: &[u8]) -> u64 {
+    let place = if state[WAITING] == 2 { 1 } else { 0 };
+    instant(state, WRITES[place] + 4)
 }
 
 /// The row on which a bank is open: that of the last ACT to it, if it is not closed since.
@@ -53,11 +62,38 @@ pub fn open_row(steps: &[Step], bank: u32) -> Option<u32> {
         .map(|p| p.place)
 }
 
-/// Bank, column and instant of the WR of the waiting write.
-pub fn waiting(steps: &[Step]) -> Option<(u32, u32, u64)> {
-    let (place, bank) = rules::waiting(steps)?;
-    let step = &steps[place];
-    Some((bank, step.packet?.place, step.at))
+/// The waiting writes, oldest first.
+pub fn waiting(steps: &[Step]) -> Vec<Write> {
+    let write = |(place, bank): (usize, u32)| {
+        let step = &steps[place];
+        (bank, step.packet.expect("a WR").place, step.at)
+    };
+    rules::waiting(steps).into_iter().map(write).collect()
+}
+
+/// The number of the WR at a place, from 0, or of those before it.
+pub fn write_number(steps: &[Step], place: usize) -> usize {
+    let is_wr = |step: &&Step| step.packet.is_some_and(|p| p.command == WR);
+    steps[..place].iter().filter(is_wr).count()
+}
+
+/// The numbers of the writes whose masks or data stand in the two places of a state; those of the
+/// first `come` writes have come. The second place keeps what came last while an older write
+/// waited. The first has what is the older waiting write's; where that has not come, or none waits,
+/// it is the same as the second.
+pub fn kept(steps: &[Step], come: usize) -> [Option<usize>; 2] {
+    let (mut writes, mut retires, mut second) = (0, 0, None);
+    for step in steps {
+        retires += usize::from(step.retired().is_some());
+        if step.packet.is_some_and(|p| p.command == WR) {
+            if writes > retires && writes < come {
+                second = Some(writes);
+            }
+            writes += 1;
+        }
+    }
+    let older = (retires < writes.min(come)).then_some(retires);
+    [older.or(second), second]
 }
 
 /// Whether the list ends with a WR, so that its D is due.
@@ -81,9 +117,7 @@ pub fn channel_bytes(steps: &[Step]) -> Vec<u8> {
         };
         put(&mut state, 640 + 2 * bank as usize, 2, tag);
     }
-    if let Some((bank, column, at)) = waiting(steps) {
-        put_write(&mut state, bank as u8, column as u8, at, data_due(steps));
-    }
+    put_writes(&mut state, &waiting(steps), data_due(steps));
     state
 }
 
@@ -124,7 +158,7 @@ pub fn zero(bytes: &[u8]) -> bool {
 
 /// Whether bytes 0 to 751 are not refused under 1.
 pub fn channel_fits(numbers: &[u16; 16], state: &[u8]) -> bool {
-    let unused = [724..728, 730..736, 738..740, 744..CHANNEL_BYTES];
+    let unused = [724..728, 730..736];
     let mut lasts = (0..640).chain(704..724).step_by(4);
     let row_fits = |tag: u64| tag <= numbers[ROWS].into() || tag == UNDER_REFRESH;
     let both = |a: usize, b: usize| tag(state, a) != 0 && tag(state, b) != 0;
@@ -135,15 +169,26 @@ pub fn channel_fits(numbers: &[u16; 16], state: &[u8]) -> bool {
         && buffer_fits(numbers, state)
 }
 
+/// Two writes wait at most, and data are due only of one that waits.
 fn buffer_fits(numbers: &[u16; 16], state: &[u8]) -> bool {
-    let bank = usize::from(state[WRITE_BANK]);
-    let column = u16::from(state[WRITE_COLUMN]);
-    match (state[WAITING], state[DUE]) {
-        (0, 0) => bank == 0 && column == 0 && instant(state, WRITE_AT) == 0,
-        (1, 0 | 1) => {
-            let open = bank < 32 && (1..UNDER_REFRESH).contains(&tag(state, bank));
-            open && column < numbers[COLUMNS] && (4..=LAST).contains(&instant(state, WRITE_AT))
+    let count = usize::from(state[WAITING]);
+    let place_fits = |(i, at): (usize, usize)| {
+        if i < count {
+            write_fits(numbers, state, at)
+        } else {
+            zero(&state[at..at + 8])
         }
-        _ => false,
-    }
+    };
+    count <= 2
+        && state[DUE] <= u8::from(count > 0)
+        && WRITES.into_iter().enumerate().all(place_fits)
+}
+
+/// The bank of a waiting write is open by ACT.
+fn write_fits(numbers: &[u16; 16], state: &[u8], at: usize) -> bool {
+    let (bank, column) = (usize::from(state[at]), u16::from(state[at + 1]));
+    let open = bank < 32 && (1..UNDER_REFRESH).contains(&tag(state, bank));
+    open && column < numbers[COLUMNS]
+        && zero(&state[at + 2..at + 4])
+        && (4..=LAST).contains(&instant(state, at + 4))
 }

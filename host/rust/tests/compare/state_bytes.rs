@@ -3,14 +3,14 @@
 
 use crate::random::Random;
 use crate::reference::{COLUMNS, ROWS};
-use crate::reference_state::{put_instant, DUE, LAST, WAITING, WRITE_AT, WRITE_BANK, WRITE_COLUMN};
+use crate::reference_state::{put_instant, Write, DUE, LAST, WAITING, WRITES};
 use std::ops::Range;
 
 /// Offset and width.
 pub type Field = (usize, usize);
 
 /// Bytes that no field uses, which are 0.
-pub const UNUSED: [Range<usize>; 4] = [724..728, 730..736, 738..740, 744..752];
+pub const UNUSED: [Range<usize>; 4] = [724..728, 730..736, 738..740, 746..748];
 
 /// Such bytes, each as a field.
 pub fn unused(bytes: Range<usize>) -> impl Iterator<Item = Field> {
@@ -24,8 +24,11 @@ pub fn fields(own: &[Field]) -> Vec<Field> {
     let lasts = (0..5).map(|i| (704 + 4 * i, 4));
     let [a, b, c, d] = UNUSED.map(unused);
     let count = a.chain([(WAITING, 1), (DUE, 1)]).chain(b);
-    let write = [(WRITE_BANK, 1), (WRITE_COLUMN, 1)].into_iter().chain(c);
-    let buffer = count.chain(write).chain([(WRITE_AT, 4)]).chain(d);
+    let write = |at: usize, zeros| {
+        let place = [(at, 1), (at + 1, 1)].into_iter().chain(zeros);
+        place.chain([(at + 4, 4)])
+    };
+    let buffer = count.chain(write(WRITES[0], c)).chain(write(WRITES[1], d));
     let channel = instants.chain(banks).chain(lasts).chain(buffer);
     channel.chain(own.iter().copied()).collect()
 }
@@ -51,14 +54,14 @@ pub fn ends(numbers: &[u16; 16]) -> Vec<u64> {
     [&small[..], &places, &instants, &large].concat()
 }
 
-/// How many writes wait and whether data are due, also what is out of range, and whether the fields of
-/// a write are there.
-pub fn any_counts() -> impl Iterator<Item = (u8, u8, bool)> {
+/// How many writes wait and whether data are due, also what is out of range, and of how many writes
+/// the fields are there.
+pub fn any_counts() -> impl Iterator<Item = (u8, u8, usize)> {
     let counts = [0, 1, 2, 3, 4, 16, 128, 255];
     let pairs = counts
         .into_iter()
         .flat_map(move |n| counts.map(|due| (n, due)));
-    pairs.flat_map(|(n, due)| [(n, due, false), (n, due, true)])
+    pairs.flat_map(|(n, due)| [0, 1, 2].map(|writes| (n, due, writes)))
 }
 
 /// Fields follow each other and end with the state.
@@ -101,6 +104,17 @@ impl Instants {
             2 => random.pick(&[4, about, about, rare]),
             _ => rare,
         }
+    }
+
+    /// Up to two waiting writes in open banks, of any order in time.
+    pub fn writes(&self, random: &mut Random, open: &[usize], columns: u16) -> Vec<Write> {
+        let count = if open.is_empty() { 0 } else { random.below(3) };
+        let mut write = || {
+            let column = random.below(columns.into()) as u32;
+            let bank = random.pick(open) as u32;
+            (bank, column, self.instant(random, false))
+        };
+        (0..count).map(|_| write()).collect()
     }
 
     /// Writes all last instants of a state.

@@ -1,5 +1,5 @@
-//! The device model in plain Rust, written for speed from document 01: banks, write buffer and last
-//! instants in a struct of numbers, and no list (the rival "tuned" of the benches). It goes on from
+//! The device model in plain Rust, written for speed from documents 01 and 02 (a): banks, write
+//! buffer and last instants in a struct of numbers, and no list (the rival "tuned" of the benches). It goes on from
 //! any state that is not refused, also one that no run reaches.
 
 use super::tuned_records::{dualoct, received, refused, Dualoct, Record, Refused};
@@ -20,7 +20,9 @@ pub enum Event {
 pub struct Model {
     channel: Channel,
     refr: u16,
+    /// The data of the older and the newer waiting write.
     data: Dualoct,
+    second: Dualoct,
 }
 
 /// The first broken one of some rules, in rising order.
@@ -38,6 +40,7 @@ impl Model {
             channel: Channel::FRESH,
             refr: 0,
             data: [0; 16],
+            second: [0; 16],
         }
     }
 
@@ -64,7 +67,7 @@ impl Model {
             6: at < since(near(&ch.opened, bank), f.ras),
             8: at < since(ch.last_pre, f.pp),
             13: at < since(near(&ch.rd, bank), f.rdp) || at < since(near(&ch.retire, bank), f.rtp),
-            14: ch.waiting.is_some_and(|w| (below..=above).contains(&w.bank)),
+            14: ch.waiting().iter().any(|w| (below..=above).contains(&w.bank)),
             15: ch.due,
         }
         Ok(())
@@ -76,6 +79,7 @@ impl Model {
             3: at < since(ch.last_col, f.cc),
             9: !self.is_open(bank),
             10: at < since(ch.act[bank], f.rcd),
+            12: ch.count > 1,
             15: ch.due,
             16: mask != FULL,
         }
@@ -83,41 +87,46 @@ impl Model {
     }
 
     fn judge_wr(&self, f: &Figures, at: u32, bank: usize, mask: u16) -> Result<(), u32> {
-        let ch = &self.channel;
+        let (ch, retired) = (&self.channel, self.retires(f, at));
         rules! {
             3: at < since(ch.last_col, f.cc),
             9: !self.is_open(bank),
-            10: at < since(ch.act[bank], f.act_to_wr) || at < self.retire_asks(f),
+            10: at < since(ch.act[bank], f.act_to_wr) || at < self.retire_asks(f, retired),
             11: at < since(ch.last_rd, f.rd_to_wr),
-            12: ch.waiting.is_some_and(|w| at < w.at + f.rtr),
+            12: ch.count > 1 && retired.is_none(),
             15: ch.due,
-            16: mask != FULL && ch.waiting.is_none(),
+            16: mask != FULL && retired.is_none(),
         }
         Ok(())
     }
 
     fn judge_nocop(&self, f: &Figures, at: u32, mask: u16) -> Result<(), u32> {
-        let ch = &self.channel;
+        let (ch, retired) = (&self.channel, self.retires(f, at));
         rules! {
             3: at < since(ch.last_col, f.cc),
-            10: at < self.retire_asks(f),
-            12: ch.waiting.is_some_and(|w| at < w.at + f.rtr),
+            10: at < self.retire_asks(f, retired),
+            12: ch.count > 0 && retired.is_none(),
             15: ch.due,
-            16: mask != FULL && ch.waiting.is_none(),
+            16: mask != FULL && retired.is_none(),
         }
         Ok(())
     }
 
     fn judge_data(&self, f: &Figures, at: u32) -> Result<(), u32> {
         let ch = &self.channel;
-        rules! { 15: !(ch.due && ch.waiting.is_some_and(|w| at == w.at + f.cwd)) }
+        rules! { 15: !(ch.due && ch.waiting().last().is_some_and(|w| at == w.at + f.cwd)) }
         Ok(())
     }
 
+    /// The write that a COL packet other than RD retires.
+    fn retires(&self, f: &Figures, at: u32) -> Option<Write> {
+        let w = self.channel.writes[0];
+        (self.channel.count > 0 && at >= w.at + f.rtr).then_some(w)
+    }
+
     /// Rule 10 for the bank that is retired to.
-    fn retire_asks(&self, f: &Figures) -> u32 {
-        let w = self.channel.waiting;
-        w.map_or(0, |w| since(self.channel.act[w.bank & 31], f.rcd))
+    fn retire_asks(&self, f: &Figures, retired: Option<Write>) -> u32 {
+        retired.map_or(0, |w| since(self.channel.act[w.bank & 31], f.rcd))
     }
 
     fn is_open(&self, bank: usize) -> bool {
@@ -174,22 +183,17 @@ impl Model {
 
     /// A COL packet other than RD.
     fn retire(&mut self, f: &Figures, at: u32, mask: u16, store: &mut [u8]) -> Event {
-        let ch = &mut self.channel;
-        (ch.last, ch.last_col) = (at, at);
-        let Some(w) = ch.waiting.take() else {
+        (self.channel.last, self.channel.last_col) = (at, at);
+        let Some(w) = self.retires(f, at) else {
             return Event::Neither;
         };
-        ch.retire[w.bank & 31] = at;
-        let dualoct = dualoct(
-            f,
-            store,
-            w.bank & 31,
-            row_of(ch.tags[w.bank & 31]),
-            w.column,
-        );
+        self.channel.retired(at);
+        let row = row_of(self.channel.tags[w.bank & 31]);
+        let dualoct = dualoct(f, store, w.bank & 31, row, w.column);
         for (i, (byte, new)) in dualoct.iter_mut().zip(&self.data).enumerate() {
             *byte = if mask >> i & 1 == 1 { *new } else { *byte };
         }
+        self.data = self.second;
         Event::Retired(mask.count_ones())
     }
 
@@ -240,11 +244,17 @@ impl Model {
             }
             Record::Refa { bank } => self.refresh(f, at, bank),
             Record::Prer { bank } => self.close(at, bank),
-            Record::D { data } => (self.data, self.channel.due) = (data, false),
+            Record::D { data } => {
+                match self.channel.count {
+                    2 => self.second = data,
+                    _ => self.data = data,
+                }
+                self.channel.due = false;
+            }
             Record::Nocop { mask } => return Ok(self.retire(f, at, mask, store)),
             Record::Wr { bank, column, mask } => {
                 let event = self.retire(f, at, mask, store);
-                self.channel.waiting = Some(Write { bank, column, at });
+                self.channel.joined(Write { bank, column, at });
                 self.channel.due = true;
                 return Ok(event);
             }
@@ -268,6 +278,7 @@ impl Model {
             channel: Channel::decode(state.first_chunk().unwrap()),
             refr: u16::from_le_bytes([state[752], state[753]]),
             data: state[760..776].try_into().unwrap(),
+            second: state[776..].try_into().unwrap(),
         }
     }
 
@@ -275,14 +286,12 @@ impl Model {
     fn fits(&self, f: &Figures, state: &[u8; MODEL_BYTES]) -> bool {
         let ch = &self.channel;
         let refr = u64::from_le_bytes(state[752..760].try_into().unwrap());
-        let after = u128::from_le_bytes(state[776..].try_into().unwrap());
         // A bank under refresh comes before 0.
         let most = ch.tags.iter().fold(0, |m, tag| tag.wrapping_add(1).max(m));
         ch.lasts_are(MOST)
             & (most <= f.rows as u16 + 1)
             & ch.apart()
             & (refr < f.rows.into())
-            & (after == 0)
             & ch.buffer_fits(f, state.first_chunk().unwrap())
     }
 
@@ -290,7 +299,7 @@ impl Model {
         self.channel.encode(state.first_chunk_mut().unwrap());
         state[752..760].copy_from_slice(&u64::from(self.refr).to_le_bytes());
         state[760..776].copy_from_slice(&self.data);
-        state[776..].fill(0);
+        state[776..].copy_from_slice(&self.second);
     }
 }
 

@@ -1,5 +1,5 @@
-//! The planner in plain Rust, written for speed from document 01: last instants in a struct of
-//! numbers, and no list (the rival "tuned" of the benches). It plans from any state that is not
+//! The planner in plain Rust, written for speed from documents 01 and 02 (a): last instants in a
+//! struct of numbers, and no list (the rival "tuned" of the benches). It plans from any state that is not
 //! refused, also one that no run reaches.
 
 use super::tuned_requests::{Asked, Out, Refused, Request, RECORDS};
@@ -8,7 +8,7 @@ use super::tuned_state::{
     REFP, WR,
 };
 
-/// No request gets from here past the last instant: it makes at most 17 packets, each at most 64
+/// No request gets from here past the last instant: it makes at most 18 packets, each at most 64
 /// after the latest instant before it, and data come at most 12 later.
 const SAFE: u32 = MOST - 4_096;
 pub const STATE_BYTES: usize = 768;
@@ -19,7 +19,9 @@ pub struct Planner {
     /// Counted from `BASE`, as the channel's instants.
     now: u32,
     refresh: u16,
+    /// The masks of the older and the newer waiting write.
     mask: u16,
+    second: u16,
     /// Whether the planner came with an instant past `SAFE`.
     far: bool,
 }
@@ -31,6 +33,7 @@ impl Planner {
             now: 4 - BASE,
             refresh: 0,
             mask: 0,
+            second: 0,
             far: false,
         }
     }
@@ -90,27 +93,22 @@ impl Planner {
         out.row(f, at + BASE, bank, code);
     }
 
-    /// The mask that a packet other than RD carries, and the instant that rules 10 and 12 ask.
-    fn retires(&self, f: &Figures) -> (u16, u32) {
-        match self.channel.waiting {
-            Some(w) => (
-                self.mask,
-                since(self.channel.act[w.bank], f.rcd).max(w.at + f.rtr),
-            ),
-            None => (FULL, 0),
-        }
+    /// The least instant at which the older write retires.
+    fn retire_from(&self, f: &Figures) -> u32 {
+        let w = self.channel.writes[0];
+        since(self.channel.act[w.bank & 31], f.rcd).max(w.at + f.rtr)
     }
 
-    fn retired(&mut self, at: u32) {
-        if let Some(w) = self.channel.waiting.take() {
-            self.channel.retire[w.bank] = at;
-        }
+    /// Retires the older write; answers its mask.
+    fn retire(&mut self, at: u32) -> u16 {
+        self.channel.retired(at);
+        std::mem::replace(&mut self.mask, self.second)
     }
 
+    /// NOCOP where a write waits.
     fn nocop(&mut self, f: &Figures, out: &mut Out) {
-        let (mask, from) = self.retires(f);
-        let at = self.col_from(f).max(from);
-        self.retired(at);
+        let at = self.col_from(f).max(self.retire_from(f));
+        let mask = self.retire(at);
         self.col_sent(at);
         out.col(f, at + BASE, NOCOP, 0, 0, mask);
     }
@@ -118,7 +116,7 @@ impl Planner {
     /// Closes a bank if it is open.
     fn close(&mut self, f: &Figures, out: &mut Out, bank: usize) {
         if self.channel.tags[bank] != 0 {
-            if self.channel.waiting.is_some_and(|w| w.bank == bank) {
+            while self.channel.waiting().iter().any(|w| w.bank == bank) {
                 self.nocop(f, out);
             }
             self.precharge(f, out, bank, PRER);
@@ -150,8 +148,8 @@ impl Planner {
     fn read(&mut self, f: &Figures, out: &mut Out, asked: &Asked) {
         let (bank, column) = (asked.bank & 31, asked.column);
         self.reach(f, out, asked);
-        let own = |w: Write| (w.bank, w.column) == (bank, column);
-        if self.channel.waiting.is_some_and(own) {
+        let own = |w: &Write| (w.bank, w.column) == (bank, column);
+        while self.channel.count > 1 || self.channel.waiting().iter().any(own) {
             self.nocop(f, out);
         }
         let at = self.col_from(f).max(since(self.channel.act[bank], f.rcd));
@@ -164,15 +162,23 @@ impl Planner {
     fn write(&mut self, f: &Figures, out: &mut Out, asked: &Asked) {
         let (bank, column) = (asked.bank & 31, asked.column);
         self.reach(f, out, asked);
-        let (mask, from) = self.retires(f);
-        let at = self
+        let from = self
             .col_from(f)
             .max(since(self.channel.act[bank], f.act_to_wr))
-            .max(since(self.channel.last_rd, f.rd_to_wr))
-            .max(from);
-        self.retired(at);
-        self.channel.waiting = Some(Write { bank, column, at });
-        self.mask = asked.mask;
+            .max(since(self.channel.last_rd, f.rd_to_wr));
+        // Beside a single write a WR need not wait until that one retires.
+        let early = self.channel.count == 1 && from < self.channel.writes[0].at + f.rtr;
+        let (at, mask) = if self.channel.count == 0 || early {
+            (from, FULL)
+        } else {
+            let at = from.max(self.retire_from(f));
+            (at, self.retire(at))
+        };
+        match self.channel.count {
+            0 => self.mask = asked.mask,
+            _ => self.second = asked.mask,
+        }
+        self.channel.joined(Write { bank, column, at });
         self.col_sent(at);
         out.col(f, at + BASE, WR, bank, column, mask);
         out.add(at + BASE + f.cwd, 2, 0, asked.low, asked.high);
@@ -188,7 +194,7 @@ impl Planner {
     }
 
     fn drain(&mut self, f: &Figures, out: &mut Out) {
-        if self.channel.waiting.is_some() {
+        while self.channel.count > 0 {
             self.nocop(f, out);
         }
         for bank in 0..32 {
@@ -278,6 +284,7 @@ impl Planner {
             now: u32::from_le_bytes(state[752..756].try_into().unwrap()),
             refresh: half(756),
             mask: half(760),
+            second: half(762),
             far: false,
         }
     }
@@ -294,7 +301,7 @@ impl Planner {
             & (ch.tags.iter().fold(0, |most, tag| *tag.max(&most)) <= f.rows as u16)
             & ch.apart()
             & (number(752) >> 32 < 32) // the refresh bank and zeros
-            & (number(760) >> 16 == 0)
+            & (number(760) >> 32 == 0)
             & !ch.due
             & ch.buffer_fits(f, state.first_chunk().unwrap())
     }
@@ -303,7 +310,8 @@ impl Planner {
         self.channel.encode(state.first_chunk_mut().unwrap());
         state[752..756].copy_from_slice(&self.now.to_le_bytes());
         state[756..760].copy_from_slice(&u32::from(self.refresh).to_le_bytes());
-        state[760..].copy_from_slice(&u64::from(self.mask).to_le_bytes());
+        state[760..762].copy_from_slice(&self.mask.to_le_bytes());
+        state[762..].copy_from_slice(&[self.second.to_le_bytes(), [0; 2], [0; 2]].concat());
     }
 }
 

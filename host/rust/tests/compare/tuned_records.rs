@@ -1,5 +1,5 @@
-//! What a device model in plain Rust takes, written for speed from document 01: records of bytes, and
-//! the dualocts of a store.
+//! What a device model in plain Rust takes, written for speed from documents 01 and 02 (a): records of
+//! bytes, and the dualocts of a store.
 
 use super::tuned_state::{Figures, ACT, FULL, NOCOP, PRER, RD, REFA, REFP, WR};
 

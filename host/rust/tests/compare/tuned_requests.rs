@@ -1,10 +1,10 @@
-//! What a planner in plain Rust takes and makes, written for speed from document 01: requests of
-//! bytes, and the records of a call.
+//! What a planner in plain Rust takes and makes, written for speed from documents 01 and 02 (a):
+//! requests of bytes, and the records of a call.
 
 use super::tuned_state::{Figures, FULL};
 
 /// The most records that a request makes.
-pub const RECORDS: usize = 17;
+pub const RECORDS: usize = 18;
 
 /// A refusal number.
 pub type Refused = u32;

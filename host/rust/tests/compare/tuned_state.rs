@@ -1,5 +1,5 @@
-//! What the tuned planner and the tuned model have in common, written for speed from document 01:
-//! settings, the words' codes, and banks, write buffer and last instants as a struct of numbers.
+//! What the tuned planner and the tuned model have in common, written for speed from documents 01
+//! and 02 (a): settings, the words' codes, and banks, write buffer and last instants as a struct of numbers.
 
 pub const LAST: u32 = 1_000_000_000;
 /// Instants of states are counted from here.
@@ -95,6 +95,27 @@ pub struct Write {
     pub at: u32,
 }
 
+impl Write {
+    pub const NONE: Write = Write {
+        bank: 0,
+        column: 0,
+        at: 0,
+    };
+
+    /// The write of 8 bytes.
+    fn of(bytes: u64) -> Write {
+        Write {
+            bank: (bytes & 0xFF) as usize,
+            column: (bytes >> 8 & 0xFF) as u32,
+            at: (bytes >> 32) as u32,
+        }
+    }
+
+    fn bytes(self) -> u64 {
+        u64::from(self.at) << 32 | u64::from(self.column) << 8 | self.bank as u64
+    }
+}
+
 /// Banks, write buffer and last instants. Instants are counted from `BASE`, and 0 for never; a tag is
 /// 0 for a closed bank, 1 + row for an open one and `UNDER_REFRESH`.
 #[derive(Clone)]
@@ -110,8 +131,10 @@ pub struct Channel {
     pub last_col: u32,
     pub last_pre: u32,
     pub last_rd: u32,
-    pub waiting: Option<Write>,
-    /// Whether the data of the waiting write have not come.
+    /// How many writes wait, and these, oldest first.
+    pub count: usize,
+    pub writes: [Write; 2],
+    /// Whether the data of the newest have not come.
     pub due: bool,
     /// The largest of `opened`, or none before it was needed.
     pub last_opened: Option<u32>,
@@ -160,10 +183,32 @@ impl Channel {
         last_col: 0,
         last_pre: 0,
         last_rd: 0,
-        waiting: None,
+        count: 0,
+        writes: [Write::NONE; 2],
         due: false,
         last_opened: None,
     };
+
+    // ---- Write buffer ----
+
+    pub fn waiting(&self) -> &[Write] {
+        &self.writes[..self.count.min(2)]
+    }
+
+    /// The older write leaves, at an instant.
+    pub fn retired(&mut self, at: u32) -> Write {
+        let [older, newer] = self.writes;
+        self.retire[older.bank & 31] = at;
+        self.writes = [newer, Write::NONE];
+        self.count -= 1;
+        older
+    }
+
+    /// A write joins, where at most one waits.
+    pub fn joined(&mut self, write: Write) {
+        self.writes[self.count & 1] = write;
+        self.count += 1;
+    }
 
     /// Rule 5 for banks that are not near. Where tRR is at most tRC the last ACT decides.
     pub fn others_ask(&mut self, f: &Figures, bank: usize) -> u32 {
@@ -183,11 +228,8 @@ impl Channel {
     /// The channel of bytes that need not be one.
     pub fn decode(state: &[u8; CHANNEL_BYTES]) -> Channel {
         let number = |at: usize| u32::from_le_bytes(state[at..at + 4].try_into().unwrap());
-        let write = Write {
-            bank: state[736].into(),
-            column: state[737].into(),
-            at: number(740),
-        };
+        let write =
+            |at: usize| Write::of(u64::from_le_bytes(state[at..at + 8].try_into().unwrap()));
         Channel {
             opened: plane(state, 0),
             act: plane(state, 128),
@@ -200,7 +242,8 @@ impl Channel {
             last_col: number(712),
             last_pre: number(716),
             last_rd: number(720),
-            waiting: (state[728] != 0).then_some(write),
+            count: state[728].into(),
+            writes: [write(736), write(744)],
             due: state[729] != 0,
             last_opened: None,
         }
@@ -227,22 +270,24 @@ impl Channel {
         beside.fold(0, |both, (tag, above)| both | tag.min(above)) == 0
     }
 
-    /// Whether the bytes from 724 on are of a buffer, and the bank of a waiting write is open by ACT.
+    /// Whether the bytes from 724 on are of a buffer, and the banks of waiting writes are open by ACT.
     pub fn buffer_fits(&self, f: &Figures, state: &[u8; CHANNEL_BYTES]) -> bool {
         let number = |at: usize| u64::from_le_bytes(state[at..at + 8].try_into().unwrap());
-        let (counts, write) = (number(728), number(736));
-        if number(720) >> 32 | number(744) != 0 {
-            return false;
-        }
-        let Some(w) = self.waiting else {
-            return counts | write == 0;
+        let (counts, writes) = (number(728), [number(736), number(744)]);
+        // So many writes, due or not, and zeros.
+        let counted = match counts & !0x100 {
+            0 => counts | writes[0] | writes[1] == 0,
+            1 => writes[0] & 0xFFFF_0000 | writes[1] == 0,
+            2 => (writes[0] | writes[1]) & 0xFFFF_0000 == 0,
+            _ => false,
         };
         let open = |tag: &u16| (1..UNDER_REFRESH).contains(tag);
-        // One write, due or not, and zeros.
-        counts & !0x100 | write & 0xFFFF_0000 == 1
-            && self.tags.get(w.bank).is_some_and(open)
-            && w.column < f.columns
-            && w.at.wrapping_sub(1) < MOST
+        let fits = |w: &Write| {
+            self.tags.get(w.bank).is_some_and(open)
+                && w.column < f.columns
+                && w.at.wrapping_sub(1) < MOST
+        };
+        number(720) >> 32 == 0 && counted && self.waiting().iter().all(fits)
     }
 
     pub fn encode(&self, state: &mut [u8; CHANNEL_BYTES]) {
@@ -265,14 +310,11 @@ impl Channel {
         for (bytes, at) in state[704..724].as_chunks_mut::<4>().0.iter_mut().zip(lasts) {
             *bytes = at.to_le_bytes();
         }
-        let (counts, write) = self.waiting.map_or((0, 0), |w| {
-            let place = u64::from(w.column) << 8 | w.bank as u64;
-            (1 | u64::from(self.due) << 8, u64::from(w.at) << 32 | place)
-        });
+        let counts = u64::from(self.due) << 8 | self.count as u64;
         state[724..728].fill(0);
         state[728..736].copy_from_slice(&counts.to_le_bytes());
-        state[736..744].copy_from_slice(&write.to_le_bytes());
-        state[744..].fill(0);
+        state[736..744].copy_from_slice(&self.writes[0].bytes().to_le_bytes());
+        state[744..].copy_from_slice(&self.writes[1].bytes().to_le_bytes());
     }
 }
 

@@ -6,6 +6,7 @@ use crate::calls::typed;
 use crate::flat_memory::FlatMemory;
 use crate::lists::{rule_numbers, SettingsSeen};
 use crate::model_calls::{any_store, small_numbers};
+use crate::plan_calls::ENOUGH;
 use crate::plan_streams::{bare, read, wait, write, Maker, DRAIN, READ, REFRESH, WRITE};
 use crate::random::{bytes, rounds, set_h, Random};
 use crate::reference::{COLUMNS, ROWS};
@@ -27,8 +28,8 @@ struct Seen {
     retires: u64,
     /// The bytes that retires wrote.
     written: u64,
-    /// Runs in which a write waited before the last drain.
-    drained: u64,
+    /// Runs by the number of writes that waited before the last drain.
+    drained: [u64; 3],
     /// Turns of REFR from rows - 1 to 0.
     refr_again: u64,
 }
@@ -42,8 +43,8 @@ impl Seen {
             self.runs, self.refused
         );
         println!(
-            "{name}: {} records, {} reads, {} calls refused 8, {} retires of {} bytes, {} writes \
-             drained, REFR started again {} times",
+            "{name}: {} records, {} reads, {} calls refused 8, {} retires of {} bytes, {:?} writes \
+             before the last drain, REFR started again {} times",
             self.records,
             self.reads,
             self.full,
@@ -64,9 +65,10 @@ impl Seen {
             "{:?}",
             self.refused
         );
-        for count in [self.full, self.written, self.drained, self.refr_again] {
+        for count in [self.full, self.written, self.refr_again] {
             assert!(count > 0);
         }
+        assert!(self.drained.iter().all(|n| *n > 0), "{:?}", self.drained);
     }
 }
 
@@ -192,10 +194,10 @@ impl Run {
     /// The last drain, after which store and flat memory are the same.
     fn finish(mut self, random: &mut Random, seen: &mut Seen) {
         self.take(random, seen, 0);
-        seen.drained += u64::from(self.model.to_bytes()[WAITING] == 1);
-        if self.plan(seen, &bare(DRAIN), 17 * 32).is_err() {
-            // At the end of time the last write still waits.
-            self.compare_but_for_the_waiting_write();
+        seen.drained[usize::from(self.model.to_bytes()[WAITING])] += 1;
+        if self.plan(seen, &bare(DRAIN), ENOUGH).is_err() {
+            // At the end of time the last writes still wait.
+            self.compare_but_for_the_waiting_writes();
             return;
         }
         self.take(random, seen, 0);
@@ -205,8 +207,8 @@ impl Run {
         seen.runs += 1;
     }
 
-    /// Before a drain the store differs from flat memory in one dualoct at most.
-    fn compare_but_for_the_waiting_write(&self) {
+    /// Before a drain the store differs from flat memory in the dualocts of the waiting writes at most.
+    fn compare_but_for_the_waiting_writes(&self) {
         let pairs = self.store.chunks(16).zip(self.memory.bytes.chunks(16));
         let differ = pairs.filter(|(a, b)| a != b).count();
         assert!(differ <= usize::from(self.model.to_bytes()[WAITING]));
@@ -218,14 +220,14 @@ fn stream(random: &mut Random, seen: &mut Seen, run: &mut Run, maker: &Maker, re
     for _ in 0..requests {
         let request = maker.request(random);
         let some = random.below(5 * 32);
-        let room = random.pick(&[17 * 32, 17 * 32, 17 * 32, some]);
+        let room = random.pick(&[ENOUGH, ENOUGH, ENOUGH, some]);
         _ = run.plan(seen, &request, room);
         if random.chance(4) {
             let left = random.below(run.list.len() + 1);
             run.take(random, seen, left);
         }
         if run.list.is_empty() && run.store.len() <= SMALL {
-            run.compare_but_for_the_waiting_write();
+            run.compare_but_for_the_waiting_writes();
         }
     }
 }
@@ -288,7 +290,7 @@ fn large_stores() {
                 write(bank, row, column, 0xFFFF, &data),
                 read(bank, row, column),
             ] {
-                run.plan(&mut seen, &request, 17 * 32).unwrap();
+                run.plan(&mut seen, &request, ENOUGH).unwrap();
             }
         }
         run.finish(&mut random, &mut seen);
@@ -337,7 +339,8 @@ fn refresh_rows() {
     seen.report("whole runs, refresh rows");
 }
 
-/// The traps of the paper: a masked write, a read of it, another row of its bank, another write.
+/// The traps of the paper: a masked write, a read of it, another row of its bank, another write; and
+/// two writes in flight.
 #[test]
 fn traps() {
     let (mut seen, mut random) = (Seen::default(), Random::new(106));
@@ -354,14 +357,22 @@ fn traps() {
                 write(1, 1, 3, second, &[0x44; 16]),
                 read(2, 0, 0),
                 read(1, 1, 3),
+                write(1, 1, 2, first, &[0x55; 16]),
+                write(1, 1, 3, second, &[0x66; 16]),
+                read(1, 1, 3),
+                write(1, 1, 2, second, &[0x77; 16]),
+                write(9, 0, 2, first, &[0x88; 16]),
+                read(1, 0, 2),
+                read(9, 0, 2),
+                read(1, 1, 2),
             ];
             let mut run = Run::new(&numbers, any_store(&mut random, &numbers));
             for request in &requests {
-                run.plan(&mut seen, request, 17 * 32).unwrap();
+                run.plan(&mut seen, request, ENOUGH).unwrap();
             }
             run.finish(&mut random, &mut seen);
         }
     }
-    assert_eq!(seen.accepted[usize::from(READ)], 5 * 12);
+    assert_eq!(seen.accepted[usize::from(READ)], 9 * 12);
     seen.report("whole runs, traps");
 }

@@ -78,8 +78,10 @@ pub struct Checker {
     act_5: u64,
     prer_8: u64,
     wr_11: u64,
-    /// The bank of the waiting write, and the first instant that rule 12 allows.
-    waiting: Option<(usize, u64)>,
+    /// The banks of the waiting writes, oldest first, and the instants from which on a packet retires
+    /// them.
+    older: Option<(usize, u64)>,
+    newer: Option<(usize, u64)>,
     /// The instant of the D that is due.
     due: Option<u64>,
 }
@@ -110,7 +112,8 @@ impl Checker {
             act_5: 0,
             prer_8: 0,
             wr_11: 0,
-            waiting: None,
+            older: None,
+            newer: None,
             due: None,
         })
     }
@@ -218,7 +221,8 @@ impl Checker {
         if at < self.banks[bank].prer_13 {
             return 13;
         }
-        if self.waiting.is_some_and(|(b, _)| near(bank).contains(&b)) {
+        let lost = |(b, _): (usize, u64)| near(bank).contains(&b);
+        if self.older.is_some_and(lost) || self.newer.is_some_and(lost) {
             return 14;
         }
         if self.due.is_some() {
@@ -250,6 +254,9 @@ impl Checker {
         if at < self.banks[bank].rd_10 {
             return 10;
         }
+        if self.newer.is_some() {
+            return 12;
+        }
         if self.due.is_some() {
             return 15;
         }
@@ -276,7 +283,7 @@ impl Checker {
         if wr.is_some_and(|b| self.banks[b].state != State::Open) {
             return 9;
         }
-        let retired = self.waiting;
+        let retired = self.older.filter(|(_, from)| at >= *from);
         if wr.is_some_and(|b| at < self.banks[b].wr_10)
             || retired.is_some_and(|(b, _)| at < self.banks[b].rd_10)
         {
@@ -285,7 +292,8 @@ impl Checker {
         if wr.is_some() && at < self.wr_11 {
             return 11;
         }
-        if retired.is_some_and(|(_, from)| at < from) {
+        let stays = self.newer.is_none() && (wr.is_some() || self.older.is_none());
+        if retired.is_none() && !stays {
             return 12;
         }
         if self.due.is_some() {
@@ -298,8 +306,16 @@ impl Checker {
             for b in &mut self.banks[near(bank)] {
                 b.prer_13 = b.prer_13.max(at + t[RTP]);
             }
+            (self.older, self.newer) = (self.newer, None);
         }
-        self.waiting = wr.map(|bank| (bank, at + t[RTR]));
+        if let Some(bank) = wr {
+            let write = Some((bank, at + t[RTR]));
+            if self.older.is_none() {
+                self.older = write;
+            } else {
+                self.newer = write;
+            }
+        }
         self.due = wr.map(|_| at + t[CWD]);
         (self.now, self.col_3) = (at, at + t[CC]);
         0

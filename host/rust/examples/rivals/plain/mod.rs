@@ -34,12 +34,12 @@ pub struct Track {
     pub retire: u32,
 }
 
+/// The waiting writes, oldest first.
 #[derive(Clone, Copy)]
 pub enum Buffer {
     Empty,
-    Waiting(Write),
-    /// A write whose data have not come.
-    Due(Write),
+    One(Write),
+    Two(Write, Write),
 }
 
 /// Banks, last instants and write buffer.
@@ -52,6 +52,8 @@ pub struct Channel {
     pub last_pre: u32,
     pub last_rd: u32,
     pub buffer: Buffer,
+    /// Whether the data of the newest write have not come.
+    pub due: bool,
 }
 
 /// The latest that some last instants and a distance ask.
@@ -69,6 +71,7 @@ impl Channel {
             last_pre: 0,
             last_rd: 0,
             buffer: Buffer::Empty,
+            due: false,
         }
     }
 
@@ -78,11 +81,9 @@ impl Channel {
         &self.banks[below..=above]
     }
 
-    pub fn waiting(&self) -> Option<Write> {
-        match self.buffer {
-            Buffer::Empty => None,
-            Buffer::Waiting(w) | Buffer::Due(w) => Some(w),
-        }
+    /// The write that a COL packet other than RD retires at an instant.
+    pub fn retires(&self, f: &Figures, at: u32) -> Option<Write> {
+        self.buffer.older().filter(|w| at >= w.at + f.rtr)
     }
 
     // ---- The least instants that the rules allow ----
@@ -122,16 +123,13 @@ impl Channel {
         since(self.banks[bank].act, f.act_to_wr)
     }
 
-    pub fn rule_10_retire(&self, f: &Figures) -> u32 {
-        self.waiting().map_or(0, |w| self.rule_10_rd(f, w.bank))
-    }
-
     pub fn rule_11(&self, f: &Figures) -> u32 {
         since(self.last_rd, f.rd_to_wr)
     }
 
-    pub fn rule_12(&self, f: &Figures) -> u32 {
-        self.waiting().map_or(0, |w| w.at + f.rtr)
+    /// Rules 10 and 12 of the retire of a write.
+    pub fn retire_from(&self, f: &Figures, w: Write) -> u32 {
+        self.rule_10_rd(f, w.bank).max(w.at + f.rtr)
     }
 
     pub fn rule_13(&self, f: &Figures, bank: usize) -> u32 {
@@ -169,14 +167,12 @@ impl Channel {
     }
 
     /// A COL packet other than RD; answers the write that it retires.
-    pub fn retire(&mut self, at: u32) -> Option<Write> {
-        let retired = self.waiting();
-        if let Some(w) = retired {
-            self.banks[w.bank].retire = at;
-        }
-        self.buffer = Buffer::Empty;
+    pub fn retire(&mut self, f: &Figures, at: u32) -> Option<Write> {
         (self.last, self.last_col) = (at, at);
-        retired
+        let retired = self.retires(f, at)?;
+        self.banks[retired.bank].retire = at;
+        self.buffer = self.buffer.left();
+        Some(retired)
     }
 
     // ---- Bytes ----
@@ -202,6 +198,7 @@ impl Channel {
             last_pre: word(bytes, 716),
             last_rd: word(bytes, 720),
             buffer: Buffer::of(bytes.last_chunk().unwrap())?,
+            due: bytes[729] == 1,
         })
     }
 
@@ -216,7 +213,8 @@ impl Channel {
             && is_last(self.last_rd)
             && self.banks.iter().all(|t| t.valid(f))
             && self.banks.chunks(16).all(|half| half.windows(2).all(apart))
-            && self.waiting().is_none_or(|w| self.write_valid(f, w))
+            && !self.buffer.any(|w| !self.write_valid(f, w))
+            && !(self.due && self.buffer.older().is_none())
     }
 
     fn write_valid(&self, f: &Figures, w: Write) -> bool {
@@ -240,7 +238,7 @@ impl Channel {
         put_word(bytes, 712, self.last_col);
         put_word(bytes, 716, self.last_pre);
         put_word(bytes, 720, self.last_rd);
-        *bytes.last_chunk_mut().unwrap() = self.buffer.bytes();
+        *bytes.last_chunk_mut().unwrap() = self.buffer.bytes(self.due);
     }
 }
 
@@ -287,33 +285,81 @@ impl Track {
 }
 
 impl Buffer {
+    pub fn older(self) -> Option<Write> {
+        match self {
+            Buffer::Empty => None,
+            Buffer::One(x) | Buffer::Two(x, _) => Some(x),
+        }
+    }
+
+    pub fn newest(self) -> Option<Write> {
+        match self {
+            Buffer::Empty => None,
+            Buffer::One(x) | Buffer::Two(_, x) => Some(x),
+        }
+    }
+
+    /// Whether some write that waits passes a test.
+    pub fn any(self, test: impl Fn(Write) -> bool) -> bool {
+        match self {
+            Buffer::Empty => false,
+            Buffer::One(x) => test(x),
+            Buffer::Two(x, y) => test(x) || test(y),
+        }
+    }
+
+    /// Without the older write.
+    fn left(self) -> Buffer {
+        match self {
+            Buffer::Empty | Buffer::One(_) => Buffer::Empty,
+            Buffer::Two(_, y) => Buffer::One(y),
+        }
+    }
+
+    /// With one more; no third write waits.
+    pub fn joined(self, w: Write) -> Buffer {
+        match self {
+            Buffer::Empty => Buffer::One(w),
+            Buffer::One(x) | Buffer::Two(x, _) => Buffer::Two(x, w),
+        }
+    }
+
     /// None where the numbers of writes and of data due are of no buffer, or a byte that is not used
     /// is not 0.
     fn of(bytes: &[u8; 28]) -> Option<Buffer> {
-        let w = Write {
-            bank: bytes[12].into(),
-            column: bytes[13].into(),
-            at: word(bytes, 16),
+        let write = |at: usize| Write {
+            bank: bytes[at].into(),
+            column: bytes[at + 1].into(),
+            at: word(bytes, at + 4),
         };
-        let buffer = match bytes[4..6] {
-            [0, 0] => Buffer::Empty,
-            [1, 0] => Buffer::Waiting(w),
-            [1, 1] => Buffer::Due(w),
+        let buffer = match bytes[4] {
+            0 => Buffer::Empty,
+            1 => Buffer::One(write(12)),
+            2 => Buffer::Two(write(12), write(20)),
             _ => return None,
         };
-        (buffer.bytes() == *bytes).then_some(buffer)
+        (buffer.bytes(bytes[5] == 1) == *bytes).then_some(buffer)
     }
 
-    fn bytes(self) -> [u8; 28] {
+    fn bytes(self, due: bool) -> [u8; 28] {
         let mut bytes = [0; 28];
-        let (due, w) = match self {
-            Buffer::Empty => return bytes,
-            Buffer::Waiting(w) => (0, w),
-            Buffer::Due(w) => (1, w),
+        let mut put = |at: usize, w: Write| {
+            (bytes[at], bytes[at + 1]) = (w.bank as u8, w.column as u8);
+            put_word(&mut bytes, at + 4, w.at);
         };
-        (bytes[4], bytes[5]) = (1, due);
-        (bytes[12], bytes[13]) = (w.bank as u8, w.column as u8);
-        put_word(&mut bytes, 16, w.at);
+        let count = match self {
+            Buffer::Empty => 0,
+            Buffer::One(x) => {
+                put(12, x);
+                1
+            }
+            Buffer::Two(x, y) => {
+                put(12, x);
+                put(20, y);
+                2
+            }
+        };
+        (bytes[4], bytes[5]) = (count, due.into());
         bytes
     }
 }

@@ -9,7 +9,9 @@ use crate::rivals::tuned_state::{beside, Figures, Write, BASE, FULL, MOST};
 pub struct Model {
     channel: Channel,
     refr: u16,
+    /// The data of the older and the newer waiting write.
     data: [u8; 16],
+    second: [u8; 16],
 }
 
 fn rule(number: u32, holds: bool) -> Result<(), u32> {
@@ -26,6 +28,7 @@ impl Model {
             channel: Channel::fresh(),
             refr: 0,
             data: [0; 16],
+            second: [0; 16],
         }
     }
 
@@ -63,10 +66,10 @@ impl Model {
             Record::Rd { bank, mask, .. } => self.judge_rd(f, at, bank, mask),
             Record::Wr { bank, mask, .. } => self.judge_other(f, at, Some(bank), mask),
             Record::Nocop { mask } => self.judge_other(f, at, None, mask),
-            Record::D { .. } => match self.channel.buffer {
-                Buffer::Due(w) => rule(15, at == w.at + f.cwd),
-                _ => Err(15),
-            },
+            Record::D { .. } => {
+                let newest = self.channel.buffer.newest().filter(|_| self.due());
+                rule(15, newest.is_some_and(|w| at == w.at + f.cwd))
+            }
         }
     }
 
@@ -86,7 +89,7 @@ impl Model {
         rule(6, at >= ch.rule_6(f, bank))?;
         rule(8, at >= ch.rule_8(f))?;
         rule(13, at >= ch.rule_13(f, bank))?;
-        rule(14, !ch.waiting().is_some_and(near))?;
+        rule(14, !ch.buffer.any(near))?;
         rule(15, !self.due())
     }
 
@@ -95,6 +98,7 @@ impl Model {
         rule(3, at >= ch.rule_3(f))?;
         rule(9, self.row(bank).is_some())?;
         rule(10, at >= ch.rule_10_rd(f, bank))?;
+        rule(12, !matches!(ch.buffer, Buffer::Two(..)))?;
         rule(15, !self.due())?;
         rule(16, mask == FULL)
     }
@@ -107,15 +111,21 @@ impl Model {
             rule(9, self.row(bank).is_some())?;
             rule(10, at >= ch.rule_10_wr(f, bank))?;
         }
-        rule(10, at >= ch.rule_10_retire(f))?;
+        let retired = ch.retires(f, at);
+        rule(10, retired.is_none_or(|w| at >= ch.rule_10_rd(f, w.bank)))?;
         rule(11, wr.is_none() || at >= ch.rule_11(f))?;
-        rule(12, at >= ch.rule_12(f))?;
+        let stays = match ch.buffer {
+            Buffer::Empty => true,
+            Buffer::One(_) => wr.is_some(),
+            Buffer::Two(..) => false,
+        };
+        rule(12, retired.is_some() || stays)?;
         rule(15, !self.due())?;
-        rule(16, mask == FULL || ch.waiting().is_some())
+        rule(16, mask == FULL || retired.is_some())
     }
 
     fn due(&self) -> bool {
-        matches!(self.channel.buffer, Buffer::Due(_))
+        self.channel.due
     }
 
     /// The row that a bank is open on.
@@ -129,7 +139,7 @@ impl Model {
     // ---- What a record does that breaks no rule ----
 
     fn retire(&mut self, f: &Figures, at: u32, mask: u16, store: &mut [u8]) -> Event {
-        let Some(w) = self.channel.retire(at) else {
+        let Some(w) = self.channel.retire(f, at) else {
             return Event::Neither;
         };
         let row = self.row(w.bank).unwrap(); // rule 9
@@ -139,6 +149,7 @@ impl Model {
                 *byte = *new;
             }
         }
+        self.data = self.second;
         Event::Retired(mask.count_ones())
     }
 
@@ -162,7 +173,9 @@ impl Model {
             Record::Nocop { mask } => return Ok(self.retire(f, at, mask, store)),
             Record::Wr { bank, column, mask } => {
                 let event = self.retire(f, at, mask, store);
-                self.channel.buffer = Buffer::Due(Write { bank, column, at });
+                let write = Write { bank, column, at };
+                self.channel.buffer = self.channel.buffer.joined(write);
+                self.channel.due = true;
                 return Ok(event);
             }
             Record::Rd { bank, column, .. } => {
@@ -175,10 +188,11 @@ impl Model {
                 return Ok(Event::Read);
             }
             Record::D { data } => {
-                self.data = data;
-                if let Buffer::Due(w) = self.channel.buffer {
-                    self.channel.buffer = Buffer::Waiting(w);
+                match self.channel.buffer {
+                    Buffer::Two(..) => self.second = data,
+                    _ => self.data = data,
                 }
+                self.channel.due = false;
             }
         }
         Ok(Event::Neither)
@@ -192,8 +206,9 @@ impl Model {
             channel: Channel::decode(state.first_chunk().unwrap())?,
             refr: half(state, 752),
             data: state[760..776].try_into().unwrap(),
+            second: state[776..].try_into().unwrap(),
         };
-        (state[754..760] == [0; 6] && state[776..] == [0; 16]).then_some(model)
+        (state[754..760] == [0; 6]).then_some(model)
     }
 
     /// Whether refusal 1 has nothing against the model.
@@ -206,6 +221,7 @@ impl Model {
         state[752..].fill(0);
         put_half(state, 752, self.refr);
         state[760..776].copy_from_slice(&self.data);
+        state[776..].copy_from_slice(&self.second);
     }
 }
 

@@ -12,7 +12,9 @@ pub struct Planner {
     channel: Channel,
     now: u32,
     refresh: u16,
+    /// The masks of the older and the newer waiting write.
     mask: u16,
+    second: u16,
 }
 
 impl Planner {
@@ -22,6 +24,7 @@ impl Planner {
             now: 4 - BASE,
             refresh: 0,
             mask: 0,
+            second: 0,
         }
     }
 
@@ -91,24 +94,27 @@ impl Planner {
         out.row(f, at + BASE, bank, code);
     }
 
-    /// The mask of the waiting write, which a packet other than RD carries.
-    fn carried(&self) -> u16 {
-        match self.channel.waiting() {
-            Some(_) => self.mask,
+    /// Retires the write, if any, that a packet other than RD retires at an instant; answers the mask
+    /// that the packet carries for it.
+    fn retire(&mut self, f: &Figures, at: u32) -> u16 {
+        self.now = at;
+        match self.channel.retire(f, at) {
+            Some(_) => std::mem::replace(&mut self.mask, self.second),
             None => FULL,
         }
     }
 
-    fn nocop(&mut self, f: &Figures, out: &mut Out) {
-        let (ch, mask) = (&self.channel, self.carried());
-        let at = self
-            .from()
-            .max(ch.rule_3(f))
-            .max(ch.rule_10_retire(f))
-            .max(ch.rule_12(f));
-        self.channel.retire(at);
-        self.now = at;
-        out.col(f, at + BASE, NOCOP, 0, 0, mask);
+    /// NOCOPs while the waiting writes are such.
+    fn nocops(&mut self, f: &Figures, out: &mut Out, such: impl Fn(Buffer) -> bool) {
+        while let Some(w) = self.channel.buffer.older() {
+            if !such(self.channel.buffer) {
+                return;
+            }
+            let ch = &self.channel;
+            let at = self.from().max(ch.rule_3(f)).max(ch.retire_from(f, w));
+            let mask = self.retire(f, at);
+            out.col(f, at + BASE, NOCOP, 0, 0, mask);
+        }
     }
 
     // ---- Requests: each answers now ----
@@ -117,9 +123,7 @@ impl Planner {
     fn close(&mut self, f: &Figures, out: &mut Out, banks: std::ops::RangeInclusive<usize>) {
         for bank in banks {
             if self.channel.banks[bank].bank != Bank::Closed {
-                if self.channel.waiting().is_some_and(|w| w.bank == bank) {
-                    self.nocop(f, out);
-                }
+                self.nocops(f, out, |buffer| buffer.any(|w| w.bank == bank));
                 self.precharge(f, out, bank, PRER);
             }
         }
@@ -143,9 +147,8 @@ impl Planner {
         let (bank, column) = (asked.bank, asked.column);
         self.reach(f, out, asked);
         let own = |w: Write| (w.bank, w.column) == (bank, column);
-        if self.channel.waiting().is_some_and(own) {
-            self.nocop(f, out);
-        }
+        let two = |buffer: Buffer| matches!(buffer, Buffer::Two(..));
+        self.nocops(f, out, |buffer| two(buffer) || buffer.any(own));
         let ch = &self.channel;
         let at = self.from().max(ch.rule_3(f)).max(ch.rule_10_rd(f, bank));
         self.channel.read(at, bank);
@@ -157,17 +160,25 @@ impl Planner {
     fn write(&mut self, f: &Figures, out: &mut Out, asked: &Asked) -> u32 {
         let (bank, column) = (asked.bank, asked.column);
         self.reach(f, out, asked);
-        let (ch, mask) = (&self.channel, self.carried());
-        let at = self
+        let ch = &self.channel;
+        let from = self
             .from()
             .max(ch.rule_3(f))
             .max(ch.rule_10_wr(f, bank))
-            .max(ch.rule_10_retire(f))
-            .max(ch.rule_11(f))
-            .max(ch.rule_12(f));
-        self.channel.retire(at);
-        self.channel.buffer = Buffer::Waiting(Write { bank, column, at });
-        (self.now, self.mask) = (at, asked.mask);
+            .max(ch.rule_11(f));
+        // Beside a single write a WR need not wait until that one retires.
+        let at = match ch.buffer {
+            Buffer::Empty => from,
+            Buffer::One(x) if from < x.at + f.rtr => from,
+            Buffer::One(x) | Buffer::Two(x, _) => from.max(ch.retire_from(f, x)),
+        };
+        let mask = self.retire(f, at);
+        match self.channel.buffer {
+            Buffer::Empty => self.mask = asked.mask,
+            _ => self.second = asked.mask,
+        }
+        let write = Write { bank, column, at };
+        self.channel.buffer = self.channel.buffer.joined(write);
         out.col(f, at + BASE, WR, bank, column, mask);
         out.add(at + BASE + f.cwd, 2, 0, asked.low, asked.high);
         at
@@ -184,9 +195,7 @@ impl Planner {
     }
 
     fn drain(&mut self, f: &Figures, out: &mut Out) -> u32 {
-        if self.channel.waiting().is_some() {
-            self.nocop(f, out);
-        }
+        self.nocops(f, out, |_| true);
         self.close(f, out, 0..=31);
         self.now
     }
@@ -205,8 +214,9 @@ impl Planner {
             now: word(state, 752),
             refresh: half(state, 756),
             mask: half(state, 760),
+            second: half(state, 762),
         };
-        (state[758..760] == [0; 2] && state[762..] == [0; 6]).then_some(planner)
+        (state[758..760] == [0; 2] && state[764..] == [0; 4]).then_some(planner)
     }
 
     /// Whether refusal 1 has nothing against the planner.
@@ -214,7 +224,7 @@ impl Planner {
         let ch = &self.channel;
         ch.valid(f)
             && ch.banks.iter().all(|t| t.bank != Bank::Refresh)
-            && !matches!(ch.buffer, Buffer::Due(_))
+            && !ch.due
             && is_instant(self.now)
             && self.refresh < 32
     }
@@ -225,6 +235,7 @@ impl Planner {
         put_word(state, 752, self.now);
         put_half(state, 756, self.refresh);
         put_half(state, 760, self.mask);
+        put_half(state, 762, self.second);
     }
 }
 
