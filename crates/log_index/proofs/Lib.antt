@@ -1,0 +1,3 @@
+pub mod IndexLaws
+pub mod ListLaws
+pub mod QueryLaws
