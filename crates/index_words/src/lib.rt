@@ -1,7 +1,7 @@
 // The word of a block of a log, and the number of banks in it.
 ghost use mathlib.Core.Path.{_≡_};
-ghost use mathlib.Core.Bool.{_&&_};
-ghost use Prim.Native.Nat.{_+_, _*_, _<_, _≤_};
+ghost use mathlib.Core.Bool.{_&&_, cond};
+ghost use Prim.Native.Nat.{_+_, _*_, _/_, _%_, _^_, _<_, _≤_};
 ghost use lib.Dec.{eqb};
 ghost use lib.ListN.{length};
 ghost use Rattle.marks.specs.Marks.{bit, countUpTo, word};
@@ -16,6 +16,13 @@ fn one_bit(on: bool, bank: u32) -> u32
     if on { 1 << bank } else { 0 }
 }
 
+// The bank field of a ROW word, or of a COL word.
+fn bank_field(row: bool, w: u64) -> u32
+    ensures { λ r. ⌜ (r ≡ cond row (w / 2 ^ 13 % 32) (w / 2 ^ 29 % 32)) × (r < 32) ⌝ }
+{
+    if row { (w / 0x2000 % 32) as u32 } else { (w / 0x2000_0000 % 32) as u32 }
+}
+
 // The bit of the bank that the record at a place names, or 0.
 fn record_word(b: &[u8], at: usize) -> u32
     requires { ⌜ at + 16 ≤ length (now b) ⌝ }
@@ -25,8 +32,7 @@ fn record_word(b: &[u8], at: usize) -> u32
     let w = num::u64_at(b, at + 8);
     let row = head == 0;
     let col = (head == 1) & (w / 0x2_0000 % 16 != 0);
-    let bank = if row { w / 0x2000 % 32 } else { w / 0x2000_0000 % 32 };
-    one_bit(row | col, bank as u32)
+    one_bit(row | col, bank_field(row, w))
 }
 
 // The word of the first n records of a block.
