@@ -16,9 +16,9 @@ use Rattle.marks.specs.Marks.{bit, countUpTo}
 use Rattle.marks.proofs.BitLaws.{bit-word}
 use Rattle.marks.proofs.CountLaws.{count-same}
 use Rattle.log_index.specs.Touched.{touches, touchedWord}
-use Rattle.log_index.specs.Index.{indexUpTo, indexOf, wordsIn}
+use Rattle.log_index.specs.Index.{wordsUpTo, indexOf, wordsIn}
 use Rattle.log_index.specs.Query.{listed, hasBit, queried, scanned, Lists}
-use Rattle.log_index.proofs.IndexLaws.{length-index, index-word, index-next}
+use Rattle.log_index.proofs.IndexLaws.{length-words, index-word, words-next}
 use Rattle.log_index.proofs.ListLaws.{listed-same, lists}
 
 -- bit b of a block's word is 1 where the block names bank b
@@ -34,7 +34,7 @@ index-bit s log b k h l = ap (λ (w : ℕ). bit w b) (index-word s log (blocksIn
 pub query-is-scan : (s : Settings) (log : List ℕ) (b : ℕ) → b < 32 → queried (indexOf s log) b ≡ scanned s log b
 unfolding queried scanned indexOf
 query-is-scan s log b h =
-    let l = length-index s log (blocksIn log) in
+    let l = length-words (touchedWord s) log (blocksIn log) in
     let n : wordsIn (indexOf s log) ≡ blocksIn log = omega arith in
     ap (listed (hasBit (indexOf s log) b)) n
     ∙ listed-same (hasBit (indexOf s log) b) (λ k. touches s (blockAt log k) b) (blocksIn log) (λ k m. index-bit s log b k h m)
@@ -52,8 +52,8 @@ banks-are s block = count-same (bit (touchedWord s block)) (touches s block) 32 
 -- ---- blocks that are added
 
 -- logs with the same first blocks have the same first words: filling up a short last block changes its word alone
-pub words-same : (s : Settings) (a b : List ℕ) (n : ℕ) → ((k : ℕ) → k < n → blockAt a k ≡ blockAt b k) → indexUpTo s a n ≡ indexUpTo s b n
-unfolding indexUpTo
+pub words-same : (s : Settings) (a b : List ℕ) (n : ℕ) → ((k : ℕ) → k < n → blockAt a k ≡ blockAt b k) → wordsUpTo (touchedWord s) a n ≡ wordsUpTo (touchedWord s) b n
+unfolding wordsUpTo
 words-same s a b zero h = refl
 words-same s a b (suc n) h =
     ap₂ (λ (l block : List ℕ). l ++ bytes 4 (touchedWord s block)) (words-same s a b n (λ k l. h k (omega arith))) (h n (omega arith))
@@ -66,6 +66,6 @@ block-added s log block h l =
     let n : blocksIn (log ++ block) ≡ blocksIn log + 1 = simp length-append (omega arith) in
     let e : length log ≡ 512 * blocksIn log = omega arith in
     let b : blockAt (log ++ block) (blocksIn log) ≡ block = part-seam log block (512 * blocksIn log) 512 e ∙ take-all 512 block (omega arith) in
-    rw (n, index-next s (log ++ block) (blocksIn log), b)
+    rw (n, words-next (touchedWord s) (log ++ block) (blocksIn log), b)
     (ap (λ (x : List ℕ). x ++ bytes 4 (touchedWord s block))
     (words-same s (log ++ block) log (blocksIn log) (λ k m. part-left log block (512 * k) 512 (omega arith))))
