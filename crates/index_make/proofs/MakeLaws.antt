@@ -96,11 +96,11 @@ module _ (s : Settings) (log : List ℕ) (w : Bytes log) (p : Passed s log) wher
 
 -- ---- an accepted call
 
-pick : (t : Bool) (x : Indexed) (r : Refusal) (n : ℕ) → cond t x (Refused r) ≡ Count n → (t ≡ true) × (x ≡ Count n)
+pub pick : (t : Bool) (x : Indexed) (r : Refusal) (n : ℕ) → cond t x (Refused r) ≡ Count n → (t ≡ true) × (x ≡ Count n)
 pick true x r n e = (refl, e)
 pick false x r n e = absurd (let z : _≡_ {A = ℕ} 0 1 = cc in omega arith)
 
-pick-same : (t : Bool) (x : Indexed) (k n : ℕ) → cond t x (Differs k) ≡ Count n → (t ≡ true) × (x ≡ Count n)
+pub pick-same : (t : Bool) (x : Indexed) (k n : ℕ) → cond t x (Differs k) ≡ Count n → (t ≡ true) × (x ≡ Count n)
 pick-same true x k n e = (refl, e)
 pick-same false x k n e = absurd (let z : _≡_ {A = ℕ} 0 1 = cc in omega arith)
 

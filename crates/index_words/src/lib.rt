@@ -20,7 +20,11 @@ fn one_bit(on: bool, bank: u32) -> u32
 fn bank_field(row: bool, w: u64) -> u32
     ensures { λ r. ⌜ (r ≡ cond row (w / 2 ^ 13 % 32) (w / 2 ^ 29 % 32)) × (r < 32) ⌝ }
 {
-    if row { (w / 0x2000 % 32) as u32 } else { (w / 0x2000_0000 % 32) as u32 }
+    if row {
+        (w / 0x2000 % 32) as u32
+    } else {
+        (w / 0x2000_0000 % 32) as u32
+    }
 }
 
 // The bit of the bank that the record at a place names, or 0.

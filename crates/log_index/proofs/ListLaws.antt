@@ -37,7 +37,7 @@ length-listed f zero = refl
 length-listed f (suc n) = simp (length-append, length-listed f n, length-one (f n) n) (omega arith)
 
 -- there are more below a number the greater it is
-count-mono : (f : ℕ → Bool) (n k : ℕ) → k ≤ n → countUpTo f k ≤ countUpTo f n
+pub count-mono : (f : ℕ → Bool) (n k : ℕ) → k ≤ n → countUpTo f k ≤ countUpTo f n
 unfolding countUpTo
 count-mono f zero k h = let e : k ≡ 0 = omega arith in rw e (omega arith)
 count-mono f (suc n) k h =

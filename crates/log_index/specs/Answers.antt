@@ -35,10 +35,13 @@ unfoldable pub addAnswer : Settings → List ℕ → ℕ → List ℕ → Indexe
 addAnswer s log kept index =
     wholeIn Refused 512 log (rightLog Refused s log (indexRight s log index kept (fits (blocksIn log) (length index))))
 
+-- 12 and 10 of a log of whole blocks, then 14 of an index beside it
+abbrev pub rightBeside : Settings → List ℕ → List ℕ → Indexed → Indexed
+rightBeside s log index next = rightLog Refused s log (indexRight s log index (wordsOf log index) next)
+
 -- a log with its index: 13 (log, then index), 12, 10, 14, and then the answer of further tests
 unfoldable pub besideAnswer : Settings → List ℕ → List ℕ → Indexed → Indexed
-besideAnswer s log index next =
-    wholeIn Refused 512 log (wholeIn Refused 4 index (rightLog Refused s log (indexRight s log index (wordsOf log index) next)))
+besideAnswer s log index next = wholeIn Refused 512 log (wholeIn Refused 4 index (rightBeside s log index next))
 
 -- a query into so many bytes: 13 (log, then index), 4, 12, 10, 14, 8
 unfoldable pub queryAnswer : Settings → List ℕ → List ℕ → ℕ → ℕ → Indexed
@@ -46,6 +49,5 @@ queryAnswer s log index bank room =
     wholeIn Refused 512 log
     (wholeIn Refused 4 index
     (cond (ltb bank 32)
-    (rightLog Refused s log
-    (indexRight s log index (wordsOf log index) (fits (countUpTo (hasBit index bank) (wordsIn index)) room)))
+    (rightBeside s log index (fits (countUpTo (hasBit index bank) (wordsIn index)) room))
     (Refused Bank)))

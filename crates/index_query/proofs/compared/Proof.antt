@@ -1,0 +1,29 @@
+-- `compared` meets its contract.
+use mathlib.Core.Path.{_∙_, sym}
+use borrow.Author.Tests.{eq-eqb, ne-eqb}
+use Rattle.index_query.specs.form.Beside.{besideFields}
+use borrow.Author.Needs.{needs}
+use Rattle.index_query.proofs.compared.Statement.{statement}
+use Rattle.index_query.proofs.compared.Tie as tie
+
+greater-requires : tie.Need-greater-requires
+greater-requires c κs = search needs
+
+first-wrong-requires : tie.Need-first-wrong-requires
+first-wrong-requires c κs = search needs
+
+returns : tie.Need-returns
+unfolding besideFields
+returns c =
+    let g = c .before .before .greater .ensures in
+    rw (eq-eqb _ _ (sym (rw g at (c .before .first-wrong .ensures)) ∙ c .if1 .taken ∙ g))
+
+returns-2 : tie.Need-returns-2
+unfolding besideFields
+returns-2 c =
+    let g = c .before .before .greater .ensures in
+    let e = rw g at (c .before .first-wrong .ensures) in
+    rw (ne-eqb _ _ (λ z. c .if1 .left (e ∙ z ∙ sym g)), e)
+
+pub compared-spec : {M : Type 1} → statement M
+compared-spec = tie.close (tie.spec greater-requires first-wrong-requires returns returns-2)
