@@ -62,7 +62,7 @@ extern "C" {
 #define RDRAM_REQUEST_RECORDS 17
 
 /*
- * Planner, 740 bytes: the state of a planner between two requests. A program need not look inside;
+ * Planner, 768 bytes: the state of a planner between two requests. A program need not look inside;
  * it may keep a copy and go on from that.
  *    0  32 x 4  instant of each bank's last ACT or REFA
  *  128  32 x 4  of its last ACT
@@ -71,17 +71,17 @@ extern "C" {
  *  512  32 x 4  of the last retire to it
  *  640  32 x 2  each bank: 0 closed, 1 + row open
  *  704  5 x 4   instants of the last packet, ROW packet, COL packet, PRER or REFP, and RD
- *  724  1       write buffer: 0 empty, 1 a write waits
- *  725  3 x 1   bank and column of the waiting write, and 0
- *  728  4       instant of its WR
- *  732  4       now
- *  736  2       bank of the next refresh, 0 to 31
- *  738  2       mask of the last write, which is the one that waits, if any
- * An instant is 0, for never, or 4 to 1,000,000,000. Now and the instant of a waiting write are
- * never 0. In an empty buffer bytes 724 to 731 are 0. A bank under refresh (65535) and a write
- * whose data are due (2) have a number but do not occur between requests.
+ *  728  1       how many writes wait, 0 or 1
+ *  736  2 x 1   bank and column of the waiting write, 0 where none waits
+ *  740  4       instant of its WR, 0 where none waits
+ *  752  4       now
+ *  756  2       bank of the next refresh, 0 to 31
+ *  760  2       mask of the last write, which is the one that waits, if any
+ * All other bytes are 0. An instant is stored less 3, and 0 stands for never: 4 is stored as 1, and
+ * 1,000,000,000 as 999,999,997. Now and the instant of a waiting write are not 0. A bank under
+ * refresh (65535) and a write whose data are due (1 at byte 729) do not occur between requests.
  */
-#define RDRAM_PLANNER_BYTES 740
+#define RDRAM_PLANNER_BYTES 768
 
 /*
  * Store, rows x columns x 512 bytes: bank, then row, then column, then byte. A dualoct is the 16
@@ -92,17 +92,16 @@ extern "C" {
 #define RDRAM_DUALOCT_BYTES 16
 
 /*
- * Model, 752 bytes: the state of a device model between two records. A program need not look
+ * Model, 792 bytes: the state of a device model between two records. A program need not look
  * inside; it may keep a copy, with one of the store, and go on from that.
- *    0  732     as in a planner, but that a bank may be under refresh (65535) and a write may wait
- *               whose data are due (2 at byte 724)
- *  732  2       REFR, the row that a refresh is due for, below rows
- *  734  2       0
- *  736  16      the data of the last D record, which are those of the waiting write, if any, once
+ *    0  752     as in a planner, but that a bank may be under refresh (65535) and the data of the
+ *               waiting write may be due (1 at byte 729)
+ *  752  2       REFR, the row that a refresh is due for, below rows
+ *  760  16      the data of the last D record, which are those of the waiting write, if any, once
  *               they have come
- * The instants are those of the records that the model has taken.
+ * All other bytes are 0. The instants are those of the records that the model has taken.
  */
-#define RDRAM_MODEL_BYTES 752
+#define RDRAM_MODEL_BYTES 792
 
 /* The mask of a COL packet that is sent without one (M = 0). */
 #define RDRAM_MASK_FULL 0xFFFFu
@@ -302,7 +301,7 @@ rdram_judged rdram_check_log(const uint8_t *settings, size_t settings_len,
 
 /*
  * Writes a fresh planner: banks closed, write buffer empty, refresh bank 0, now 4. Answers 0, or
- * refusal 1 where planner_len is not 740: pass RDRAM_PLANNER_BYTES bytes.
+ * refusal 1 where planner_len is not 768: pass RDRAM_PLANNER_BYTES bytes.
  */
 uint32_t rdram_planner_fresh(uint8_t *planner, size_t planner_len);
 
@@ -328,10 +327,11 @@ uint32_t rdram_planner_fresh(uint8_t *planner, size_t planner_len);
  * instant of the latest packet, and what waits add to it. Data bytes alter no instant and no word.
  *
  * Refusals, in this order:
- *    1  settings: correct the settings bytes. Or planner is not 740 bytes, or not a state between
- *       requests under these settings: a field is out of its range, two neighbours are both open,
- *       the bank of the waiting write is not open, a bank is under refresh, or data are due. Pass
- *       the bytes that the last call left, with the same settings, or a fresh planner.
+ *    1  settings: correct the settings bytes. Or planner is not 768 bytes, or not a state between
+ *       requests under these settings: a field is out of its range, another byte is not 0, two
+ *       neighbours are both open, the bank of the waiting write is not open, a bank is under
+ *       refresh, or data are due. Pass the bytes that the last call left, with the same settings,
+ *       or a fresh planner.
  *   13  request_len is not 24: pass one whole request.
  *    2  the kind is above 4: correct the kind.
  *    3  a byte that the kind does not use is not 0: clear it.
@@ -350,7 +350,7 @@ rdram_planned rdram_plan(const uint8_t *settings, size_t settings_len,
 
 /*
  * Writes a fresh model: banks closed, write buffer empty, no earlier record, REFR 0. Answers 0, or
- * refusal 1 where model_len is not 752: pass RDRAM_MODEL_BYTES bytes.
+ * refusal 1 where model_len is not 792: pass RDRAM_MODEL_BYTES bytes.
  */
 uint32_t rdram_model_fresh(uint8_t *model, size_t model_len);
 
@@ -374,10 +374,10 @@ uint32_t rdram_model_fresh(uint8_t *model, size_t model_len);
  * store's size would that each write sets at once, and after a drain the store is that array.
  *
  * Refusals, in this order:
- *    1  settings: correct the settings bytes. Or model is not 752 bytes, or no state under these
- *       settings: a field is out of its range, two neighbours are both not closed, or the bank of
- *       the waiting write is not open by ACT. Pass the bytes that the last call left, with the same
- *       settings, or a fresh model.
+ *    1  settings: correct the settings bytes. Or model is not 792 bytes, or no state under these
+ *       settings: a field is out of its range, another byte is not 0, two neighbours are both not
+ *       closed, or the bank of the waiting write is not open by ACT. Pass the bytes that the last
+ *       call left, with the same settings, or a fresh model.
  *    9  store_len is not rows x columns x 512: pass the whole store.
  *   13  record_len is not 32: pass one whole record.
  *   10  the record has no coding: correct it, or pass the settings under which it was written.

@@ -1,19 +1,7 @@
 //! Links librdram.a from RDRAM_LIB_DIR, or else from target/staticlib of the repository.
 
 use std::env;
-use std::path::{Path, PathBuf};
-
-/// The archive of a crate, which must be there.
-fn watch(dir: &Path, name: &str) {
-    let archive = dir.join(format!("lib{name}.a"));
-    println!("cargo:rerun-if-changed={}", archive.display());
-    if !archive.exists() {
-        panic!(
-            "{} is missing: run `rt staticlib {name}` first, or set RDRAM_LIB_DIR",
-            archive.display()
-        );
-    }
-}
+use std::path::PathBuf;
 
 fn main() {
     println!("cargo:rerun-if-env-changed=RDRAM_LIB_DIR");
@@ -23,10 +11,14 @@ fn main() {
             PathBuf::from(env::var_os("CARGO_MANIFEST_DIR").unwrap()).join("../../target/staticlib")
         }
     };
-    watch(&dir, "rdram");
+    let archive = dir.join("librdram.a");
+    println!("cargo:rerun-if-changed={}", archive.display());
+    if !archive.exists() {
+        panic!(
+            "{} is missing: run `rt staticlib rdram` first, or set RDRAM_LIB_DIR",
+            archive.display()
+        );
+    }
     println!("cargo:rustc-link-search=native={}", dir.display());
     println!("cargo:rustc-link-lib=static=rdram");
-    if env::var_os("CARGO_FEATURE_BY_VALUE").is_some() {
-        watch(&dir, "stream"); // bench_plan links it
-    }
 }

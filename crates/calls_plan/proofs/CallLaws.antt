@@ -1,14 +1,15 @@
 -- A plan call under accepted settings: what it answers and leaves, by whether the planner's bytes are right and by what the request says.
 -- Assumes nothing.
-use Prim.Native.Nat.{ℕ, _/_, _≤_}
+use Prim.Native.Nat.{ℕ, zero, suc, _+_, _*_, _/_, _≤_, _<_}
 use mathlib.Core.Path.{_≡_, refl, ap}
-use mathlib.Core.Bool.{true, false, _&&_, cond}
+use mathlib.Core.Bool.{Bool, true, false, _&&_, cond}
 use mathlib.Core.List.{List}
-use lib.Dec.{eqb}
+use lib.Dec.{eqb, leb}
 use lib.ListN.{length}
 use borrow.Author.Tests.{eqb-true, le-leb}
 use native.Mathlib.Omega.{arith}
-use Rattle.num.specs.Bytes.{splice}
+use Rattle.num.specs.Bytes.{number, part, splice}
+use Rattle.num.proofs.SearchLaws.{all-intro}
 use Rattle.settings.specs.declared.Settings.{Settings}
 use Rattle.settings.specs.Settings.{valid}
 use Rattle.record.specs.declared.Request.{Request}
@@ -29,6 +30,11 @@ use Rattle.spec_plan.specs.Call.{listBytes, timely, outcomeOf, outcomeBy, planO
 use Rattle.spec_plan.proofs.Bound.{most}
 use Rattle.spec_plan.proofs.Refused.{refused-room}
 use Rattle.plan_by_value.specs.Call.{planning}
+use Rattle.plan_bytes.specs.form.Numbers.{word, Tops, Below}
+use Rattle.plan_calm.specs.form.Calm.{isCalm}
+use Rattle.plan_calm.proofs.CalmLaws.{calm-below}
+use Rattle.state_bytes.specs.form.Stored.{latest}
+use Rattle.state_bytes.specs.form.Tested.{allStored}
 use Rattle.spec_calls.specs.declared.PlanAnswer.{PlanAnswer}
 use Rattle.spec_calls.specs.Plans.{planAnswer, PlanResult, planBy, planUnder}
 use Rattle.calls_plan.specs.form.Served.{servedBy, served}
@@ -36,6 +42,31 @@ use Rattle.calls_plan.specs.form.Served.{servedBy, served}
 -- what a call answers and leaves, by its result
 abbrev pub Leaves : PlanResult → PlanAnswer → List ℕ → List ℕ → Type 0
 Leaves x r after left = (r ≡ x .answer) × ((after ≡ x .planner) × (left ≡ x .room))
+
+-- the instants of a calm state are in range
+pub calm-stored : (b : List ℕ) → isCalm b ≡ true → allStored b 0 160 && allStored b 704 5 ≡ true
+unfolding Below
+calm-stored b h = rw (all-intro (test 0) 160 banks, all-intro (test 704) 5 lasts)
+  where
+    t : Tops 999990000 b
+    t = calm-below b h
+
+    test : ℕ → ℕ → Bool
+    test at k = leb (number (part b (at + 4 * k) 4)) latest
+
+    low : (n : ℕ) → n ≤ 999990000 → leb n latest ≡ true
+    low n l = le-leb n latest (omega arith)
+
+    banks : (k : ℕ) → k < 160 → test 0 k ≡ true
+    banks k l = let e : 0 + 4 * k ≡ 4 * k = omega arith in rw e (low (word b (4 * k)) (t .banks k l))
+
+    lasts : (k : ℕ) → k < 5 → test 704 k ≡ true
+    lasts zero l = low (word b 704) (t .packet)
+    lasts (suc zero) l = low (word b 708) (t .row)
+    lasts (suc (suc zero)) l = low (word b 712) (t .col)
+    lasts (suc (suc (suc zero))) l = low (word b 716) (t .pre)
+    lasts (suc (suc (suc (suc zero)))) l = low (word b 720) (t .rd)
+    lasts (suc (suc (suc (suc (suc k))))) l = absurd (omega arith)
 
 module _ (s : Settings) (planner : List ℕ) where
   pub right-length : plannerRight (contextOf s) planner ≡ true → length planner ≡ 768

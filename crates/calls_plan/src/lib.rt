@@ -3,8 +3,12 @@ mod ways;
 
 ghost use mathlib.Core.Path.{_≡_};
 ghost use mathlib.Core.Bool.{true};
+ghost use lib.ListN.{length};
 ghost use Rattle.settings.specs.Settings.{valid};
+ghost use Rattle.spec_rules.specs.Neighbour.{contextOf};
+ghost use Rattle.spec_plan.specs.PlannerBytes.{plannerRight};
 ghost use Rattle.spec_calls.specs.Plans.{plannerFresh, planUnder, planCall};
+ghost use Rattle.plan_calm.specs.form.Calm.{isCalm};
 use crate::ways::answer;
 use crate::ways::by_value;
 use crate::ways::in_place;
@@ -12,18 +16,34 @@ use record::Refusal;
 use settings::Settings;
 use settings::SettingsRead;
 use spec_calls::PlanAnswer;
+use spec_plan::MOST_BYTES;
 use spec_plan::Outcome;
+use spec_plan::PLANNER_BYTES;
+use state_bytes::planners::planner_rest_right;
+use state_bytes::planners::planner_right;
 
 // Puts a fresh planner into a buffer of its length.
 pub fn planner_fresh(planner: &mut [u8]) -> u32
     ensures { λ r. ⌜ r ≡ plannerFresh (now (planner .entry)) .number ⌝ }
     ensures { λ _. ⌜ now (planner .exit) ≡ plannerFresh (now (planner .entry)) .state ⌝ }
 {
-    if planner.len() != 768 {
+    if planner.len() != PLANNER_BYTES {
         return 1;
     }
     state_whole::fresh::put_fresh_planner(planner);
     0
+}
+
+// Whether refusal 1 has nothing against a planner's bytes, of which is known whether they are calm: then no instant is out of range.
+fn right(s: Settings, b: &[u8], quick: bool) -> bool
+    requires { ⌜ length (now b) ≡ 768 ⌝ }
+    requires { ⌜ quick ≡ isCalm (now b) ⌝ }
+    ensures { λ r. ⌜ r ≡ plannerRight (contextOf s) (now (b .entry)) ⌝ }
+{
+    if quick {
+        return planner_rest_right(s, b);
+    }
+    planner_right(s, b)
 }
 
 // A plan call under settings that are accepted: on the lent bytes where no packet can be late and the room has the most records.
@@ -33,11 +53,14 @@ fn plan_under(s: Settings, planner: &mut [u8], request: &[u8], room: &mut [u8]) 
     ensures { λ _. ⌜ now (planner .exit) ≡ planUnder (now (planner .entry)) (now (request .entry)) (now (room .entry)) s .planner ⌝ }
     ensures { λ _. ⌜ now (room .exit) ≡ planUnder (now (planner .entry)) (now (request .entry)) (now (room .entry)) s .room ⌝ }
 {
-    if !state_bytes::planners::planner_right(s, planner) {
+    if planner.len() != PLANNER_BYTES {
         return answer(Outcome::Refused(Refusal::Settings));
     }
-    let quick = plan_in_place::calm::calm(planner);
-    if quick & (544 <= room.len()) {
+    let quick = plan_calm::calm(planner);
+    if !right(s, planner, quick) {
+        return answer(Outcome::Refused(Refusal::Settings));
+    }
+    if quick & (MOST_BYTES <= room.len()) {
         return in_place(s, planner, request, room);
     }
     by_value(s, planner, request, room)

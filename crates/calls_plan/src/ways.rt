@@ -8,7 +8,7 @@ ghost use Rattle.record.proofs.RequestLaws.{InRange};
 ghost use Rattle.record.specs.declared.RequestRead.the-variants.{Accepted};
 ghost use Rattle.spec_rules.specs.Neighbour.{contextOf};
 ghost use Rattle.spec_plan.specs.PlannerBytes.{plannerRight};
-ghost use Rattle.plan_in_place.specs.form.Numbers.{isCalm};
+ghost use Rattle.plan_calm.specs.form.Calm.{isCalm};
 ghost use Rattle.spec_calls.specs.Plans.{planAnswer, planUnder};
 ghost use Rattle.calls_plan.specs.form.Served.{served};
 use plan_by_value::Planner;

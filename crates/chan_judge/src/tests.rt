@@ -20,6 +20,7 @@ use instants::read_arrival;
 use instants::write_arrival;
 use settings::Arrival;
 use settings::DataAt;
+use settings::HORIZON;
 use settings::PacketAt;
 use settings::Settings;
 
@@ -27,7 +28,7 @@ use settings::Settings;
 pub fn in_range(t: u32) -> bool
     ensures { λ r. ⌜ r ≡ isInstant t ⌝ }
 {
-    (4 <= t) & (t <= 1000000000)
+    (4 <= t) & (t <= HORIZON)
 }
 
 fn in_time(a: Arrival) -> bool

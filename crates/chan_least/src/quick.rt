@@ -21,6 +21,7 @@ use chan_view::neighbours::is_near;
 use instants::read_arrival;
 use instants::write_arrival;
 use packet::ColPacket;
+use packet::FULL;
 use packet::RowPacket;
 use record::Record;
 use settings::Arrival;
@@ -77,7 +78,7 @@ fn reads_well(s: Settings, at: PacketAt, k: Tracks, l: LastInstants, mask: u32) 
 {
     let own = k.own;
     match read_arrival(s, at) {
-        Arrival::At(_) => (mask == 0xFFFF)
+        Arrival::At(_) => (mask == FULL)
             & (is_open(own) & (read_bound(s, l, own.act) <= num::wide32(at.0))),
         Arrival::Late => false,
     }
@@ -102,7 +103,7 @@ fn leaves_well(s: Settings, at: PacketAt, k: Tracks, h: Held, mask: u32, out: bo
         let held = k.held;
         return is_open(held) & (retire_bound(s, h.at, held.act) <= num::wide32(at.0));
     }
-    mask == 0xFFFF
+    mask == FULL
 }
 
 fn row_well(

@@ -1,6 +1,5 @@
 // A bank's track in the array of all banks. Number 32 stands for no bank.
 ghost use mathlib.Core.Path.{_≡_};
-ghost use mathlib.Core.Bool.{cond};
 ghost use Prim.Native.Nat.{_<_};
 ghost use Rattle.spec_rules.specs.History.{isClosed, isOpen};
 ghost use Rattle.spec_rules.specs.Channel.{idle};
@@ -18,13 +17,6 @@ pub fn slot_of(b: u32) -> usize
     ensures { λ r. ⌜ (r ≡ slotOf b) × (r < 32) ⌝ }
 {
     if b < 32 { b as usize } else { 0 }
-}
-
-// One of two tracks.
-pub fn choose(first: bool, a: BankTrack, b: BankTrack) -> BankTrack
-    ensures { λ r. ⌜ r ≡ cond first a b ⌝ }
-{
-    if first { a } else { b }
 }
 
 // A bank that nothing was sent to.

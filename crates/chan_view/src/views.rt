@@ -5,6 +5,7 @@ use crate::Held;
 use crate::Seen;
 use crate::View;
 use packet::ColPacket;
+use packet::FULL;
 use packet::RowPacket;
 use record::Record;
 use settings::PacketAt;
@@ -77,7 +78,7 @@ fn col_view(at: PacketAt, p: ColPacket) -> View
     match p {
         ColPacket::Nocop { mask } => View {
             other: true,
-            masked: mask != 0xFFFF,
+            masked: mask != FULL,
             ..v
         },
         ColPacket::Wr { bank, column, mask } => View {
@@ -85,14 +86,14 @@ fn col_view(at: PacketAt, p: ColPacket) -> View
             column: column,
             writes: true,
             other: true,
-            masked: mask != 0xFFFF,
+            masked: mask != FULL,
             ..v
         },
         ColPacket::Rd { bank, column, mask } => View {
             bank: bank,
             column: column,
             reads: true,
-            masked: mask != 0xFFFF,
+            masked: mask != FULL,
             ..v
         },
     }

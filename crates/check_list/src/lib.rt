@@ -1,7 +1,55 @@
 // The checker of whole lists and whole logs.
+mod walked;
 
-// Where a walk over records stopped: its end with rule 0, a record that is none with rule 0, or one that breaks this rule.
-pub struct Stop {
-    pub at: usize,
-    pub rule: u32,
+ghost use mathlib.Core.Path.{_≡_};
+ghost use Rattle.spec_rules.specs.Neighbour.{contextOf};
+ghost use Rattle.spec_check.specs.Check.{listAnswer, logAnswer};
+use crate::walked::judge_all;
+use check_walk::walk;
+use record::Refusal;
+use settings::Settings;
+use spec_check::Judged;
+
+// Judges a list of records. One pass tests form and rules; a rule counts only where every record is well formed, so one that
+// breaks a rule asks for a second.
+pub fn check_list(s: Settings, list: &[u8]) -> Judged
+    ensures { λ r. ⌜ r ≡ listAnswer (contextOf s) (now (list .entry)) ⌝ }
+{
+    if list.len() % 32 != 0 {
+        return Judged::Refused(Refusal::Length);
+    }
+    let n = list.len() / 32;
+    let stop = walk(s, list, n, false);
+    let at = stop.at;
+    if at == n {
+        return Judged::Passed;
+    }
+    if stop.rule == 0 {
+        return Judged::Refused(Refusal::Word(at as u64));
+    }
+    let bad = record_bytes::first_bad(s, list);
+    if bad != n {
+        return Judged::Refused(Refusal::Word(bad as u64));
+    }
+    Judged::Refused(Refusal::Rule(stop.rule, at as u64))
+}
+
+// Judges the list that a log keeps.
+pub fn check_log(s: Settings, log: &[u8]) -> Judged
+    ensures { λ r. ⌜ r ≡ logAnswer (contextOf s) (now (log .entry)) ⌝ }
+{
+    if log.len() % 512 != 0 {
+        return Judged::Refused(Refusal::Length);
+    }
+    let found = log::copy::faults(s, log);
+    let block = found.block;
+    if block != log.len() / 512 {
+        return Judged::Refused(Refusal::Block(block as u64));
+    }
+    let n = kept::records_in(log);
+    let bad = found.record;
+    if bad != n {
+        return Judged::Refused(Refusal::Word(bad as u64));
+    }
+    judge_all(s, log, n, true)
 }

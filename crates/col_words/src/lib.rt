@@ -8,12 +8,10 @@ use num::wide32;
 use packet::Coded;
 use packet::ColDecoded;
 use packet::ColPacket;
+use packet::FULL;
 
 // Opcodes by command: NOCOP, WR, RD.
 const COP: [u32; 3] = [0, 1, 3];
-
-// The mask that is sent as M = 0.
-const FULL: u32 = 0xFFFF;
 
 // The lowest bit of each field; the gap is the zero below the bank, and the device stands again where M = 0.
 const S_BIT: u64 = 0x80_0000_0000;

@@ -4,6 +4,7 @@ ghost use Prim.Native.Nat.{_+_, _<_, _^_};
 ghost use Rattle.settings.specs.Instants.{arrival};
 use settings::Arrival;
 use settings::DataAt;
+use settings::HORIZON_WIDE;
 use settings::PacketAt;
 use settings::Settings;
 
@@ -12,7 +13,7 @@ fn arrival_after(t: PacketAt, delay: u32) -> Arrival
     ensures { λ r. ⌜ r ≡ arrival t delay ⌝ }
 {
     let sum = num::wide32(t.0) + num::wide32(delay);
-    if sum <= 1000000000 {
+    if sum <= HORIZON_WIDE {
         Arrival::At(DataAt(sum as u32))
     } else {
         Arrival::Late

@@ -8,13 +8,13 @@ ghost use Rattle.spec_check.specs.Check.{known, recordsUpTo};
 ghost use Rattle.text.specs.Text.{Put, lineRoom, rowLine, colLine, recordLine, mostRecords, requestRoom, writeBank, writeColumn, recordLines};
 ghost use Rattle.settings.specs.Bench.{setH};
 use packet::ColPacket;
+use packet::FULL;
 use packet::RowPacket;
 use record::Dualoct;
 use record::Record;
 use record::RecordRead;
 use settings::DataAt;
 use settings::Settings;
-use text::FULL;
 use text::put_line;
 
 // Set H of the bench.

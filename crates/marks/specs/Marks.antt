@@ -39,8 +39,8 @@ unfoldable pub alone : List ℕ → ℕ → Bool
 alone ws i = not (mark ws i && (mark ws (i + 1) || (mark ws (i + 2) || mark ws (i + 3))))
 
 -- whether no mark stands less than four after another
-unfoldable pub apart : List ℕ → Bool
-apart ws = allUpTo (alone ws) 1024
+unfoldable pub allApart : List ℕ → Bool
+allApart ws = allUpTo (alone ws) 1024
 
 -- whether mark i is not there or i is below n
 unfoldable pub aged : List ℕ → ℕ → ℕ → Bool

@@ -4,7 +4,7 @@ ghost use mathlib.Core.Path.{_≡_};
 ghost use Prim.Native.Nat.{_-_, _≤_, _<_};
 ghost use lib.ListN.{length};
 ghost use mathlib.Core.Bool.{cond};
-ghost use Rattle.marks.specs.Marks.{bit, mark, countUpTo, apart, below, pushed};
+ghost use Rattle.marks.specs.Marks.{bit, mark, countUpTo, allApart, below, pushed};
 ghost use Rattle.marks.specs.form.Across.{across, lone, under, back};
 
 // The 64 bits of a word and the next one of which the first r are the last of the low word.
@@ -26,7 +26,7 @@ fn lone(low: u64, high: u64) -> bool
 // Whether no mark stands less than four after another.
 pub fn apart(ws: &[u64]) -> bool
     requires { ⌜ length (now ws) ≡ 16 ⌝ }
-    ensures { λ r. ⌜ r ≡ apart (now (ws .entry)) ⌝ }
+    ensures { λ r. ⌜ r ≡ allApart (now (ws .entry)) ⌝ }
 {
     let mut right = true;
     let mut low = ws[0];

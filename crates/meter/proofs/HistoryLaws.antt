@@ -9,7 +9,7 @@ use lib.Dec.{eqb, leb, ltb}
 use borrow.Author.Tests.{eqb-true, eqb-false, leb-true, le-leb, ltb-true, lt-ltb}
 use native.Mathlib.Nat.{add-zero}
 use Rattle.marks.proofs.BitLaws.{same-truth}
-use Rattle.meter.specs.Window.{oneOf, carries}
+use Rattle.meter.specs.Window.{oneOf, hasData}
 
 pub oneOf-same : (f g : ℕ → Bool) (h : List ℕ) → ((t : ℕ) → f t ≡ g t) → oneOf f h ≡ oneOf g h
 unfolding oneOf
@@ -80,8 +80,8 @@ hits n i e t = eqb (t + i) (n + e)
 
 -- the cycle i before n + 3 carries data where one of four instants is in the history
 pub carries-hits : (h : List ℕ) (n i : ℕ)
-    → (oneOf (hits n i 0) h || (oneOf (hits n i 1) h || (oneOf (hits n i 2) h || oneOf (hits n i 3) h))) ≡ (leb i (n + 3) && carries h (n + 3 - i))
-unfolding carries
+    → (oneOf (hits n i 0) h || (oneOf (hits n i 1) h || (oneOf (hits n i 2) h || oneOf (hits n i 3) h))) ≡ (leb i (n + 3) && hasData h (n + 3 - i))
+unfolding hasData
 carries-hits h n i =
     rw (oneOf-or (hits n i 2) (hits n i 3) h, oneOf-or (hits n i 1) (λ t. hits n i 2 t || hits n i 3 t) h, oneOf-or (hits n i 0) (λ t. hits n i 1 t || (hits n i 2 t || hits n i 3 t)) h)
     (oneOf-same (λ t. hits n i 0 t || (hits n i 1 t || (hits n i 2 t || hits n i 3 t))) (λ t. leb i (n + 3) && (leb t (n + 3 - i) && ltb (n + 3 - i) (t + 4))) h (λ t. rw add-zero (near (t + i) n ∙ cycle-near t i n))

@@ -14,7 +14,7 @@ use Rattle.marks.proofs.BitLaws.{same-truth}
 use Rattle.marks.proofs.MarkLaws.{words-marks, words-same}
 use Rattle.meter.specs.declared.Meter.{Meter}
 use Rattle.meter.specs.declared.FeedAnswer.the-variants.{Accepted}
-use Rattle.meter.specs.Answer.{feedNumber, accepted}
+use Rattle.meter.specs.Answer.{feedNumber, feedAccepted}
 use Rattle.meter.specs.Window.{oneOf, overlaps, answerTo}
 use Rattle.meter.specs.Meter.{meterValid, feedAnswer}
 use Rattle.meter.specs.MeterBytes.{Held}
@@ -101,7 +101,7 @@ module _ (f : ℕ → Bool) (n : ℕ) where
           rw (le-leb 4 (n - a) (omega arith), le-leb (n - a) horizon (omega arith), clear (n - a) (a + 1) k (λ i b y. far a i e b y))
 
       all-heard : (a k : ℕ) → heard (instants a k) ≡ instants a k
-      unfolding instants heard accepted feedNumber
+      unfolding instants heard feedAccepted feedNumber
       all-heard a zero = refl
       all-heard a (suc k) = go (f a) refl (all-heard (a + 1) k)
         where

@@ -17,7 +17,7 @@ use Rattle.marks.proofs.CountLaws.{count-le}
 use Rattle.meter.specs.declared.Meter.{Meter}
 use Rattle.meter.specs.declared.CountAnswer.{CountAnswer}
 use Rattle.meter.specs.declared.FeedAnswer.the-variants.{Accepted, Settings, Horizon, Overlap}
-use Rattle.meter.specs.Answer.{feedNumber, accepted}
+use Rattle.meter.specs.Answer.{feedNumber, feedAccepted}
 use Rattle.meter.specs.Window.{metered, overlaps, answerTo}
 use Rattle.meter.specs.Meter.{freshMeter, meterValid, feedAnswer, advanced, feedMeter, busy, busyCount}
 use Rattle.meter.specs.Calls.{countAnswered, shareAnswered}
@@ -49,8 +49,8 @@ pub record Follows (m : Meter) (at : ℕ) : Type 0 where
   pub after : m .newest + 4 ≤ at
   pub in-time : at ≤ horizon
 
-pub accepted-follows : (m : Meter) (at : ℕ) → accepted (feedAnswer m at) ≡ true → Follows m at
-unfolding feedAnswer accepted feedNumber
+pub accepted-follows : (m : Meter) (at : ℕ) → feedAccepted (feedAnswer m at) ≡ true → Follows m at
+unfolding feedAnswer feedAccepted feedNumber
 accepted-follows m at h = go (meterValid m) (isInstant at) (ltb at (m .newest + 4)) refl refl h
   where
     go : (v i o : Bool) → isInstant at ≡ i → ltb at (m .newest + 4) ≡ o → eqb (feedNumber (cond v (cond i (cond o Overlap Accepted) Horizon) Settings)) 0 ≡ true → Follows m at
@@ -64,9 +64,9 @@ accepted-follows m at h = go (meterValid m) (isInstant at) (ltb at (m .newest + 
 pub run-tracks : (fed : List ℕ) → Tracks (heard fed) (meterAfter fed)
 unfolding meterAfter heard feedMeter
 run-tracks [] = tracks-fresh
-run-tracks (at ∷ fed) = go (accepted (feedAnswer (meterAfter fed) at)) refl (run-tracks fed)
+run-tracks (at ∷ fed) = go (feedAccepted (feedAnswer (meterAfter fed) at)) refl (run-tracks fed)
   where
-    go : (b : Bool) → accepted (feedAnswer (meterAfter fed) at) ≡ b → Tracks (heard fed) (meterAfter fed)
+    go : (b : Bool) → feedAccepted (feedAnswer (meterAfter fed) at) ≡ b → Tracks (heard fed) (meterAfter fed)
         → Tracks (cond b (at ∷ heard fed) (heard fed)) (cond b (advanced (meterAfter fed) at) (meterAfter fed))
     go true e t = let f = accepted-follows (meterAfter fed) at e in tracks-next (heard fed) (meterAfter fed) at t (f .after) (f .in-time)
     go false e t = t
@@ -90,9 +90,9 @@ word-pushed ws d k = go (ltb k 16) refl
 pub run-held : (fed : List ℕ) → Held (meterAfter fed)
 unfolding meterAfter feedMeter advanced
 run-held [] = held-fresh
-run-held (at ∷ fed) = go (accepted (feedAnswer (meterAfter fed) at)) refl (run-held fed)
+run-held (at ∷ fed) = go (feedAccepted (feedAnswer (meterAfter fed) at)) refl (run-held fed)
   where
-    go : (b : Bool) → accepted (feedAnswer (meterAfter fed) at) ≡ b → Held (meterAfter fed) → Held (cond b (advanced (meterAfter fed) at) (meterAfter fed))
+    go : (b : Bool) → feedAccepted (feedAnswer (meterAfter fed) at) ≡ b → Held (meterAfter fed) → Held (cond b (advanced (meterAfter fed) at) (meterAfter fed))
     go true e h =
         let f = accepted-follows (meterAfter fed) at e in
         record { words = length-pushed (meterAfter fed .marks) (at - meterAfter fed .newest); word = word-pushed (meterAfter fed .marks) (at - meterAfter fed .newest); newest = omega (arith, f .in-time) }

@@ -17,7 +17,7 @@ use Rattle.marks.proofs.BitLaws.{same-truth}
 use Rattle.marks.proofs.MarkLaws.{bit-zero}
 use Rattle.marks.proofs.CountLaws.{count-same, count-none}
 use Rattle.meter.specs.declared.Meter.{Meter}
-use Rattle.meter.specs.Window.{oneOf, carries, carried, metered}
+use Rattle.meter.specs.Window.{oneOf, hasData, dataCycles, metered}
 use Rattle.meter.specs.Meter.{freshMeter, advanced, busy, busyCount}
 use Rattle.meter.proofs.HistoryLaws.{oneOf-same, hits, carries-hits}
 use Rattle.meter.proofs.ValidLaws.{Valid, valid-pushed, mark-pushed, length-pushed, clash}
@@ -89,19 +89,19 @@ tracks-next h m at t l k =
     first i = same-truth (eqb i 0) (eqb (at + i) (at + 0)) (λ e. eq-eqb (at + i) (at + 0) (omega (arith, eqb-true))) (λ e. eq-eqb i 0 (omega (arith, eqb-true)))
 
 -- which cycles were busy
-busy-is : (h : List ℕ) (m : Meter) → Tracks h m → (i : ℕ) → i < 1024 → busy m i ≡ (leb i (m .newest + 3) && carries h (m .newest + 3 - i))
+busy-is : (h : List ℕ) (m : Meter) → Tracks h m → (i : ℕ) → i < 1024 → busy m i ≡ (leb i (m .newest + 3) && hasData h (m .newest + 3 - i))
 unfolding busy
 busy-is h m t i l =
     rw (t .marks i l, marks-later h m t 1 i l, marks-later h m t 2 i l, marks-later h m t 3 i l) (carries-hits h (m .newest) i)
 
-carries-none : (c : ℕ) → carries [] c ≡ false
-unfolding carries oneOf
+carries-none : (c : ℕ) → hasData [] c ≡ false
+unfolding hasData oneOf
 carries-none c = refl
 
 -- the count of a meter is that of its history
 pub tracks-count : (h : List ℕ) (m : Meter) → Tracks h m → busyCount m ≡ metered h
-unfolding busyCount metered carried newestOf
+unfolding busyCount metered dataCycles newestOf
 tracks-count [] m t = count-none (busy m) 1024 (λ i l. busy-is [] m t i l ∙ rw (carries-none (m .newest + 3 - i)) (and-false (leb i (m .newest + 3))))
 tracks-count (at ∷ h) m t =
-    count-same (busy m) (λ i. leb i (at + 3) && carries (at ∷ h) (at + 3 - i)) 1024
-    (λ i l. busy-is (at ∷ h) m t i l ∙ ap (λ (n : ℕ). leb i (n + 3) && carries (at ∷ h) (n + 3 - i)) (t .newest))
+    count-same (busy m) (λ i. leb i (at + 3) && hasData (at ∷ h) (at + 3 - i)) 1024
+    (λ i l. busy-is (at ∷ h) m t i l ∙ ap (λ (n : ℕ). leb i (n + 3) && hasData (at ∷ h) (n + 3 - i)) (t .newest))

@@ -12,7 +12,7 @@ use borrow.Author.Tests.{eqb-true, eq-eqb, leb-true, le-leb, ltb-true, ltb-false
 use Rattle.num.specs.Search.{allUpTo}
 use Rattle.num.proofs.SearchLaws.{all-at, all-intro}
 use Rattle.settings.specs.Instants.{horizon}
-use Rattle.marks.specs.Marks.{mark, later, alone, apart, aged, below, pushed}
+use Rattle.marks.specs.Marks.{mark, later, alone, allApart, aged, below, pushed}
 use Rattle.marks.proofs.MarkLaws.{mark-words, mark-past, length-words}
 use Rattle.meter.specs.declared.Meter.{Meter}
 use Rattle.meter.specs.Meter.{meterValid}
@@ -76,13 +76,13 @@ either-in true b h = inl refl
 either-in false b h = inr h
 
 pub valid-in : (m : Meter) → length (m .marks) ≡ 16 → meterValid m ≡ true → Valid (m .marks) (m .newest)
-unfolding meterValid apart below
+unfolding meterValid allApart below
 valid-in m l h =
     let ws = m .marks in
     let n = m .newest in
-    let p = and-eq-true-iff (leb n horizon) ((eqb n 0 || mark ws 0) && (apart ws && below ws (n - 3))) .0 h in
-    let q = and-eq-true-iff (eqb n 0 || mark ws 0) (apart ws && below ws (n - 3)) .0 (p .1) in
-    let r = and-eq-true-iff (apart ws) (below ws (n - 3)) .0 (q .1) in
+    let p = and-eq-true-iff (leb n horizon) ((eqb n 0 || mark ws 0) && (allApart ws && below ws (n - 3))) .0 h in
+    let q = and-eq-true-iff (eqb n 0 || mark ws 0) (allApart ws && below ws (n - 3)) .0 (p .1) in
+    let r = and-eq-true-iff (allApart ws) (below ws (n - 3)) .0 (q .1) in
     record {
       in-range = leb-true n horizon (p .0);
       first = ⊎-elim (λ e. inl (eqb-true n 0 e)) (λ e. inr e) (either-in (eqb n 0) (mark ws 0) (q .0));
@@ -91,7 +91,7 @@ valid-in m l h =
     }
 
 pub valid-out : (m : Meter) → Valid (m .marks) (m .newest) → meterValid m ≡ true
-unfolding meterValid apart below
+unfolding meterValid allApart below
 valid-out m v =
     let ws = m .marks in
     let n = m .newest in

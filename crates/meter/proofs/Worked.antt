@@ -4,9 +4,9 @@ use Prim.Native.Nat.{ℕ}
 use mathlib.Core.Path.{_≡_, refl}
 use mathlib.Core.List.{List, [], _∷_, map}
 use Rattle.num.specs.Search.{allUpTo}
-use Rattle.marks.specs.Marks.{bit, mark, word, words, countUpTo, alone, apart, aged, below, pushed}
-use Rattle.meter.specs.Answer.{feedNumber, accepted}
-use Rattle.meter.specs.Window.{oneOf, carries, carried, metered}
+use Rattle.marks.specs.Marks.{bit, mark, word, words, countUpTo, alone, allApart, aged, below, pushed}
+use Rattle.meter.specs.Answer.{feedNumber, feedAccepted}
+use Rattle.meter.specs.Window.{oneOf, hasData, dataCycles, metered}
 use Rattle.meter.specs.Meter.{freshMeter, meterValid, feedAnswer, advanced, feedMeter}
 use Rattle.meter.specs.Runs.{meterAfter, heard}
 
@@ -32,5 +32,5 @@ counts = 0 ∷ 4 ∷ 8 ∷ 8 ∷ 4 ∷ 8 ∷ 7 ∷ 6 ∷ 5 ∷ 4 ∷ 4 ∷ []
 
 -- over the instants that were accepted; `meter-run` says that the meter's counts are the same
 pub worked : map (λ fed. metered (heard fed)) runs ≡ counts
-unfolding heard meterAfter feedMeter feedAnswer freshMeter meterValid advanced accepted feedNumber mark bit word words alone apart aged below pushed allUpTo metered carried carries oneOf countUpTo
+unfolding heard meterAfter feedMeter feedAnswer freshMeter meterValid advanced feedAccepted feedNumber mark bit word words alone allApart aged below pushed allUpTo metered dataCycles hasData oneOf countUpTo
 worked = refl

@@ -14,5 +14,5 @@ feedNumber Horizon = 7
 feedNumber Overlap = 16
 
 -- "accepted means not refused"
-unfoldable pub accepted : FeedAnswer → Bool
-accepted a = eqb (feedNumber a) 0
+unfoldable pub feedAccepted : FeedAnswer → Bool
+feedAccepted a = eqb (feedNumber a) 0

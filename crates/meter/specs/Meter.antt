@@ -7,12 +7,12 @@ use mathlib.Core.List.{List}
 use lib.Dec.{eqb, leb, ltb}
 use Rattle.num.specs.Bytes.{zeros}
 use Rattle.settings.specs.Instants.{horizon, isInstant}
-use Rattle.marks.specs.Marks.{mark, countUpTo, later, apart, below, pushed}
+use Rattle.marks.specs.Marks.{mark, countUpTo, later, allApart, below, pushed}
 use Rattle.meter.specs.declared.Meter.{Meter}
 use Rattle.meter.specs.declared.Fed.{Fed}
 use Rattle.meter.specs.declared.FeedAnswer.{FeedAnswer}
 use Rattle.meter.specs.declared.FeedAnswer.the-variants.{Accepted, Settings, Horizon, Overlap}
-use Rattle.meter.specs.Answer.{accepted}
+use Rattle.meter.specs.Answer.{feedAccepted}
 
 -- a meter of its parts
 abbrev pub meterOf : List ℕ → ℕ → Meter
@@ -26,7 +26,7 @@ freshMeter = meterOf (zeros 16) 0
 -- apart, and each is 4 or later
 unfoldable pub meterValid : Meter → Bool
 meterValid m =
-    leb (m .newest) horizon && ((eqb (m .newest) 0 || mark (m .marks) 0) && (apart (m .marks) && below (m .marks) (m .newest - 3)))
+    leb (m .newest) horizon && ((eqb (m .newest) 0 || mark (m .marks) 0) && (allApart (m .marks) && below (m .marks) (m .newest - 3)))
 
 -- 1, then 7, then 16
 unfoldable pub feedAnswer : Meter → ℕ → FeedAnswer
@@ -38,7 +38,7 @@ advanced m at = meterOf (pushed (m .marks) (at - m .newest)) at
 
 -- a refused feed changes nothing
 unfoldable pub feedMeter : Meter → ℕ → Meter
-feedMeter m at = cond (accepted (feedAnswer m at)) (advanced m at) m
+feedMeter m at = cond (feedAccepted (feedAnswer m at)) (advanced m at) m
 
 -- one feed: the meter after it, and its answer
 unfoldable pub fedBy : Meter → ℕ → Fed

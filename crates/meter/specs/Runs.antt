@@ -6,7 +6,7 @@ use mathlib.Core.Bool.{false, cond}
 use mathlib.Core.List.{List, [], _∷_}
 use lib.Ieee.Exact.{HasValue}
 use Rattle.meter.specs.declared.Meter.{Meter}
-use Rattle.meter.specs.Answer.{feedNumber, accepted}
+use Rattle.meter.specs.Answer.{feedNumber, feedAccepted}
 use Rattle.meter.specs.Window.{metered, answerTo}
 use Rattle.meter.specs.Meter.{freshMeter, feedAnswer, feedMeter}
 use Rattle.meter.specs.Share.{share}
@@ -21,7 +21,7 @@ meterAfter (at ∷ fed) = feedMeter (meterAfter fed) at
 -- "all instants ever accepted": those whose feed answered 0
 unfoldable pub heard : List ℕ → List ℕ
 heard [] = []
-heard (at ∷ fed) = cond (accepted (feedAnswer (meterAfter fed) at)) (at ∷ heard fed) (heard fed)
+heard (at ∷ fed) = cond (feedAccepted (feedAnswer (meterAfter fed) at)) (at ∷ heard fed) (heard fed)
 
 -- the same on the bytes that the caller holds
 unfoldable pub bytesAfter : List ℕ → List ℕ

@@ -15,18 +15,18 @@ oneOf f [] = false
 oneOf f (t ∷ ts) = f t || oneOf f ts
 
 -- "Each dualoct fills four cycles": whether cycle c carries data
-unfoldable pub carries : List ℕ → ℕ → Bool
-carries history c = oneOf (λ t. leb t c && ltb c (t + 4)) history
+unfoldable pub hasData : List ℕ → ℕ → Bool
+hasData history c = oneOf (λ t. leb t c && ltb c (t + 4)) history
 
 -- how many of the n cycles that end with cycle `last` carry data; there is no cycle before 0
-unfoldable pub carried : List ℕ → ℕ → ℕ → ℕ
-carried history last n = countUpTo (λ i. leb i last && carries history (last - i)) n
+unfoldable pub dataCycles : List ℕ → ℕ → ℕ → ℕ
+dataCycles history last n = countUpTo (λ i. leb i last && hasData history (last - i)) n
 
 -- "how many of the 1,024 cycles ending with the newest dualoct's fourth cycle carried data", "cycles before the first feed count
 -- as idle", "Before any feed the count is 0"
 unfoldable pub metered : List ℕ → ℕ
 metered [] = 0
-metered (t ∷ ts) = carried (t ∷ ts) (t + 3) 1024
+metered (t ∷ ts) = dataCycles (t ∷ ts) (t + 3) 1024
 
 -- "an instant less than 4 after the newest"
 unfoldable pub overlaps : List ℕ → ℕ → Bool

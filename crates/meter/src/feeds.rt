@@ -11,6 +11,7 @@ use crate::FedNumber;
 use crate::FeedAnswer;
 use crate::Meter;
 use settings::DataAt;
+use settings::HORIZON_WIDE;
 
 // Before any feed.
 pub fn fresh() -> Meter
@@ -43,7 +44,7 @@ pub fn right(marks: &[u64], newest: u64) -> bool
 {
     let marked = (newest == 0) | marks::first(marks);
     let apart = marks::apart(marks) & from_4(marks, newest);
-    (newest <= 1000000000) & (marked & apart)
+    (newest <= HORIZON_WIDE) & (marked & apart)
 }
 
 // 1 for the meter, 7 and 16 for the instant.
@@ -57,7 +58,7 @@ fn answer_to(marks: &[u64], newest: u64, at: u64) -> FeedAnswer
     if at < 4 {
         return FeedAnswer::Horizon;
     }
-    if 1000000000 < at {
+    if HORIZON_WIDE < at {
         return FeedAnswer::Horizon;
     }
     if at < newest + 4 {

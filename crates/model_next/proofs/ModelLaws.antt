@@ -42,7 +42,7 @@ use Rattle.spec_model.specs.Store.{dualoctBytes}
 use Rattle.spec_model.specs.Model.{modelValid, refrBy, refrNext, bytesNext, modelNext}
 use Rattle.spec_model.specs.ModelBytes.{modelLength, modelBytes, modelIn, modelRight}
 use Rattle.spec_model.proofs.ModelRoundTrip.{model-encode-decode}
-use Rattle.model_next.specs.form.Next.{refaNext, rowNext, leftNext, colNext, dataNext}
+use Rattle.model_next.specs.form.Next.{HeldIn, refaNext, rowNext, leftNext, colNext, dataNext}
 use Rattle.model_next.proofs.FitLaws.{act-in, wr-in, rd-in}
 use Rattle.model_next.proofs.TakenLaws.{held-in, no-due, one-waits}
 use Rattle.model_next.proofs.NextLaws.{tailOf, refr-put, data-put, nocop-next, wr-next}
@@ -71,7 +71,7 @@ module _ (s : Settings) (b : List ℕ) (r : modelRight (contextOf s) b ≡ true)
   unfolding modelIn channelIn bufferIn
   buffer-said = refl
 
-  pub bank-in : eqb (getD b 728 0) 0 ≡ false → getD b 736 0 < 32
+  pub bank-in : HeldIn b
   bank-in = held-in (contextOf s) (modelIn b .channel) sound (eqb (getD b 728 0) 0) (writeIn b 736) buffer-said
 
   module _ (v : valid s ≡ true) (w : Bytes b) where
@@ -114,17 +114,21 @@ module _ (s : Settings) (b : List ℕ) (r : modelRight (contextOf s) b ≡ true)
         ap (λ (l : List ℕ). prerStored l x (lowOf s x) (highOf s x) (t .0 - 3)) exact
         ∙ refp-after s v (m .channel) channel-right tail (no-data (RowAt t (Refp x)) refl j) x (t .0) (ltb-true x 32 f)
 
+    -- the retire stored into other bytes
+    abbrev leftOn : List ℕ → ℕ → List ℕ
+    leftOn l v = cond (eqb (getD b 728 0) 0) l (emptyStored (retireStored l (getD b 736 0) v))
+
     pub col-next : (t : PacketAt) (p : ColPacket) → colFits (s .columns) p ≡ true → judged (contextOf s) (m .channel) (ColAt t p) ≡ 0
         → colNext b p (t .0 - 3) ≡ modelBytes (modelNext (contextOf s) m (ColAt t p))
     unfolding colNext leftNext modelBytes modelNext refrNext bytesNext isPacket
     col-next t (Nocop mask) f j =
         let d : m .channel .due ≡ false = no-data (ColAt t (Nocop mask)) refl j in
-        ap (λ (l : List ℕ). colStored (cond (eqb (getD b 728 0) 0) l (emptyStored (retireStored l (getD b 736 0) (t .0 - 3)))) (t .0 - 3)) exact
+        ap (λ (l : List ℕ). colStored (leftOn l (t .0 - 3)) (t .0 - 3)) exact
         ∙ nocop-next (contextOf s) (m .channel) size write d (t .0) tail (eqb (getD b 728 0) 0) (writeIn b 736) buffer-said bank-in mask
     col-next t (Wr x c mask) f j =
         let d : m .channel .due ≡ false = no-data (ColAt t (Wr x c mask)) refl j in
         let i = wr-in (s .columns) x c mask f in
-        ap (λ (l : List ℕ). colStored (writeStored (cond (eqb (getD b 728 0) 0) l (emptyStored (retireStored l (getD b 736 0) (t .0 - 3)))) 257 x c (t .0 - 3)) (t .0 - 3)) exact
+        ap (λ (l : List ℕ). colStored (writeStored (leftOn l (t .0 - 3)) 257 x c (t .0 - 3)) (t .0 - 3)) exact
         ∙ wr-next (contextOf s) (m .channel) size write d (t .0) tail (eqb (getD b 728 0) 0) (writeIn b 736) buffer-said bank-in x c mask (i .0) (omega (arith, bounds s v .columns-most))
     col-next t (Rd x c mask) f j =
         let d : m .channel .due ≡ false = no-data (ColAt t (Rd x c mask)) refl j in

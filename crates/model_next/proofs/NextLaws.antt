@@ -1,10 +1,9 @@
--- What is stored for a record that is taken is the model after it.
+-- The model's own numbers stored, and what is stored for NOCOP and WR, where a write waits or none.
 -- Assumes nothing.
 use Prim.Native.Nat.{ℕ, _+_, _-_, _<_}
 use mathlib.Core.Path.{_≡_, refl, sym, ap, _∙_}
 use mathlib.Core.Bool.{Bool, true, false, cond}
 use mathlib.Core.List.{List, _++_, append-assoc}
-use mathlib.Core.Option.{none}
 use native.Mathlib.Omega.{arith}
 use lib.ListN.{length, length-append}
 use Rattle.num.specs.Bytes.{bytes, splice, zeros}
@@ -85,17 +84,17 @@ module _ (cx : Context) (ch : Channel) (size : length (ch .banks) ≡ 32) (write
       go Empty = d
       go (One w) = d
 
-  module _ (q : List ℕ) (none : Bool) (w : Write) (z : ch .buffer ≡ cond none Empty (One w)) (l : none ≡ false → w .bank < 32) where
+  module _ (q : List ℕ) (empty : Bool) (w : Write) (z : ch .buffer ≡ cond empty Empty (One w)) (l : empty ≡ false → w .bank < 32) where
     -- these bytes with the retire stored
     abbrev left : List ℕ
-    left = cond none (channelBytes ch ++ q) (emptyStored (retireStored (channelBytes ch ++ q) (w .bank) (t - 3)))
+    left = cond empty (channelBytes ch ++ q) (emptyStored (retireStored (channelBytes ch ++ q) (w .bank) (t - 3)))
 
     left-stored : left ≡ channelBytes gone ++ q
     unfolding afterRetire waitingOf
-    left-stored = go none z l
+    left-stored = go empty z l
       where
-        go : (none : Bool) → ch .buffer ≡ cond none Empty (One w) → (none ≡ false → w .bank < 32)
-            → cond none (channelBytes ch ++ q) (emptyStored (retireStored (channelBytes ch ++ q) (w .bank) (t - 3))) ≡ channelBytes gone ++ q
+        go : (empty : Bool) → ch .buffer ≡ cond empty Empty (One w) → (empty ≡ false → w .bank < 32)
+            → cond empty (channelBytes ch ++ q) (emptyStored (retireStored (channelBytes ch ++ q) (w .bank) (t - 3))) ≡ channelBytes gone ++ q
         go true z l = ap (λ (b : Buffer). channelBytes (afterRetire t (first (waitingOf b)) ch) ++ q) (sym z)
         go false z l =
             retire-stored ch q size w z t (l refl) ((rw z at write) .1) d ∙ ap (λ (b : Buffer). channelBytes (afterRetire t (first (waitingOf b)) ch) ++ q) (sym z)

@@ -37,9 +37,9 @@ col-late cx ch t p j = in-time cx ch (ColAt t p) j refl .0
 
 module _ (cx : Context) (ch : Channel) (k : Sound cx ch) where
   -- a write waits for a bank
-  pub held-in : (none : Bool) (w : Write) → ch .buffer ≡ cond none Empty (One w) → none ≡ false → w .bank < 32
+  pub held-in : (empty : Bool) (w : Write) → ch .buffer ≡ cond empty Empty (One w) → empty ≡ false → w .bank < 32
   unfolding waitingOf writeValid bankCount
-  held-in none w z e =
+  held-in empty w z e =
       let h : allWrites (writeValid cx) (waitingOf (One w)) ≡ true = rw (z, e) at (k .write) in
       ltb-true (w .bank) 32 (and-left (ltb (w .bank) 32) _ (and-left (writeValid cx w) _ h))
 

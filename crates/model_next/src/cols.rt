@@ -1,12 +1,11 @@
 // What a COL packet and its D change.
-ghost use mathlib.Core.Bool.{true, false};
+ghost use mathlib.Core.Bool.{true};
 ghost use mathlib.Core.Path.{_≡_};
 ghost use Prim.Native.Nat.{_<_, _^_};
-ghost use lib.Dec.{eqb};
-ghost use lib.ListN.{length, getD};
+ghost use lib.ListN.{length};
 ghost use Rattle.packet.specs.Col.{colFits};
 ghost use Rattle.spec_state.specs.form.Stores.{colStored, writeStored};
-ghost use Rattle.model_next.specs.form.Next.{leftNext, colNext, dataNext};
+ghost use Rattle.model_next.specs.form.Next.{HeldIn, leftNext, colNext, dataNext};
 use model_store::dualocts::put_dualoct;
 use num::wide;
 use packet::ColPacket;
@@ -21,7 +20,7 @@ use state_stores::cols::store_write;
 // The waiting write is retired, where one waits.
 fn put_left(b: &mut [u8], t: u64)
     requires { ⌜ length (now b) ≡ 792 ⌝ }
-    requires { ⌜ (eqb (getD (now b) 728 0) 0 ≡ false → getD (now b) 736 0 < 32) ⌝ }
+    requires { ⌜ HeldIn (now b) ⌝ }
     ensures { λ _. ⌜ now (b .exit) ≡ leftNext (now (b .entry)) t ⌝ }
 {
     if b[728] == 0 {
@@ -35,7 +34,7 @@ fn put_left(b: &mut [u8], t: u64)
 // WR, whose data are due.
 fn put_wr(b: &mut [u8], bank: u32, column: u32, t: u64)
     requires { ⌜ length (now b) ≡ 792 ⌝ }
-    requires { ⌜ (eqb (getD (now b) 728 0) 0 ≡ false → getD (now b) 736 0 < 32) ⌝ }
+    requires { ⌜ HeldIn (now b) ⌝ }
     requires { ⌜ bank < 256 ⌝ }
     requires { ⌜ column < 256 ⌝ }
     requires { ⌜ t < 2 ^ 32 ⌝ }
@@ -49,7 +48,7 @@ fn put_wr(b: &mut [u8], bank: u32, column: u32, t: u64)
 // NOCOP.
 fn put_nocop(b: &mut [u8], t: u64)
     requires { ⌜ length (now b) ≡ 792 ⌝ }
-    requires { ⌜ (eqb (getD (now b) 728 0) 0 ≡ false → getD (now b) 736 0 < 32) ⌝ }
+    requires { ⌜ HeldIn (now b) ⌝ }
     ensures { λ _. ⌜ now (b .exit) ≡ colStored (leftNext (now (b .entry)) t) t ⌝ }
 {
     put_left(b, t);
@@ -59,7 +58,7 @@ fn put_nocop(b: &mut [u8], t: u64)
 // Any COL packet.
 pub(crate) fn put_col(b: &mut [u8], p: ColPacket, t: u64)
     requires { ⌜ length (now b) ≡ 792 ⌝ }
-    requires { ⌜ (eqb (getD (now b) 728 0) 0 ≡ false → getD (now b) 736 0 < 32) ⌝ }
+    requires { ⌜ HeldIn (now b) ⌝ }
     requires { ⌜ colFits 256 p ≡ true ⌝ }
     requires { ⌜ t < 2 ^ 32 ⌝ }
     ensures { λ _. ⌜ now (b .exit) ≡ colNext (now (b .entry)) p t ⌝ }

@@ -16,6 +16,7 @@ ghost use Rattle.spec_model.specs.Store.{storeLength, dualoct, dualoctBytes, ma
 ghost use Rattle.model_store.specs.form.Touch.{PlaceIn, TouchIn, placeAt, touchAnswer, touchStore, touchBytes};
 use crate::dualocts::dualoct_at;
 use crate::dualocts::put_dualoct;
+use packet::FULL;
 use record::Dualoct;
 use record::Place;
 use record::Refusal;
@@ -78,7 +79,7 @@ fn retire_to(store: &mut [u8], k: usize, mask: u32, d: Dualoct)
     requires { ⌜ 16 * k + 16 ≤ length (now store) ⌝ }
     ensures { λ _. ⌜ now (store .exit) ≡ masked (now (store .entry)) k mask (dualoctBytes d) ⌝ }
 {
-    if mask == 0xFFFF {
+    if mask == FULL {
         put_dualoct(store, 16 * k, d);
         return;
     }

@@ -14,6 +14,7 @@ use chan_view::banks::slot_of;
 use chan_view::banks::track_of;
 use chan_view::neighbours::is_near;
 use chan_view::views::held_of;
+use packet::FULL;
 use record::Record;
 use settings::Settings;
 use spec_plan::PlannerState;
@@ -53,7 +54,7 @@ pub(crate) fn carried(s: Settings, p: PlannerState, q: Record) -> u32
     if retires(s, held_of(b, ch.due), q) {
         return p.mask;
     }
-    0xFFFF
+    FULL
 }
 
 fn track_in(p: PlannerState, x: u32) -> BankTrack

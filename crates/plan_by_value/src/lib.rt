@@ -9,8 +9,7 @@ mod records;
 mod steps;
 
 ghost use mathlib.Core.Path.{_≡_};
-ghost use Rattle.spec_rules.specs.Neighbour.{contextOf};
-ghost use Rattle.spec_plan.specs.Planner.{freshPlanner, plannerValid};
+ghost use Rattle.spec_plan.specs.Planner.{freshPlanner};
 ghost use Rattle.plan_by_value.specs.Call.{planning};
 use packet::ColPacket;
 use packet::RowPacket;
@@ -77,13 +76,6 @@ impl Planner {
             mask: 0,
         };
         Planner { state }
-    }
-
-    // Whether refusal 1 has nothing against the state.
-    pub fn valid(self, s: Settings) -> bool
-        ensures { λ r. ⌜ r ≡ plannerValid (contextOf s) (self .state) ⌝ }
-    {
-        ranges::planner_valid(s, self.state)
     }
 
     // One request of any bytes, with any room.

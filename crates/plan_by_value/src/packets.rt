@@ -12,6 +12,8 @@ use crate::Command;
 use crate::asks::carried;
 use packet::ColPacket;
 use record::Record;
+use settings::HORIZON;
+use settings::HORIZON_WIDE;
 use settings::PacketAt;
 use settings::Settings;
 use spec_plan::PlannerState;
@@ -94,18 +96,18 @@ pub(crate) fn data_delay(s: Settings, c: Command) -> u32
 pub(crate) fn is_late(slot: u64, delay: u32) -> bool
     ensures { λ r. ⌜ r ≡ not (leb (slot + delay) horizon) ⌝ }
 {
-    if 1000000000 < slot {
+    if HORIZON_WIDE < slot {
         return true;
     }
-    1000000000 < slot + num::wide32(delay)
+    HORIZON_WIDE < slot + num::wide32(delay)
 }
 
 // A slot, or the last instant where it would pass that.
 pub(crate) fn clipped(slot: u64) -> PacketAt
     ensures { λ r. ⌜ r ≡ record { 0 = clip slot } ⌝ }
 {
-    if 1000000000 < slot {
-        return PacketAt(1000000000);
+    if HORIZON_WIDE < slot {
+        return PacketAt(HORIZON);
     }
     PacketAt(slot as u32)
 }

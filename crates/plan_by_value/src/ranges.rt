@@ -14,6 +14,7 @@ use chan_view::banks::is_open;
 use chan_view::banks::slot_of;
 use chan_view::banks::track_of;
 use chan_view::neighbours::low_of;
+use settings::HORIZON;
 use settings::PacketAt;
 use settings::Settings;
 use spec_plan::PlannerState;
@@ -26,7 +27,7 @@ use spec_rules::Write;
 fn is_instant(t: PacketAt) -> bool
     ensures { λ r. ⌜ r ≡ isInstant (t .0) ⌝ }
 {
-    (4 <= t.0) & (t.0 <= 1000000000)
+    (4 <= t.0) & (t.0 <= HORIZON)
 }
 
 // Whether a last instant is 0, for none, or an instant.

@@ -27,6 +27,7 @@ use crate::packets::record_at;
 use chan_least::least_from;
 use chan_step::after;
 use packet::ColPacket;
+use packet::FULL;
 use packet::RowPacket;
 use record::Dualoct;
 use record::Place;
@@ -59,7 +60,7 @@ fn sent(s: Settings, c: Command, d: Draft) -> Draft
 fn flushed(s: Settings, d: Draft) -> Draft
     ensures { λ z. ⌜ ((e : DraftOf) → Draws s d e → Draws s z (flushed (contextOf s) e)) ⌝ }
 {
-    sent(s, Command::Col(ColPacket::Nocop { mask: 0xFFFF }), d)
+    sent(s, Command::Col(ColPacket::Nocop { mask: FULL }), d)
 }
 
 // NOCOP while such a write waits; there is one at most.
@@ -118,7 +119,7 @@ fn planned_read(s: Settings, at: Place, d: Draft) -> Draft
     let rd = ColPacket::Rd {
         bank: at.bank,
         column: at.column,
-        mask: 0xFFFF,
+        mask: FULL,
     };
     sent(s, Command::Col(rd), z)
 }
@@ -148,7 +149,7 @@ fn written(s: Settings, at: Place, mask: u32, bytes: Dualoct, d: Draft) -> Draft
     let wr = ColPacket::Wr {
         bank: at.bank,
         column: at.column,
-        mask: 0xFFFF,
+        mask: FULL,
     };
     loaded(s, mask, bytes, sent(s, Command::Col(wr), d))
 }

@@ -45,7 +45,7 @@ module _ (cx : Context) where
   unfolding sent
   sent-blind r l d = rw (append-assoc l (d .records))
 
-  pub flushed-blind : Blind (flushed cx)
+  flushed-blind : Blind (flushed cx)
   unfolding flushed
   flushed-blind l d = sent-blind (colPacket (Nocop 0xFFFF)) l d
 
@@ -96,7 +96,7 @@ length-record s (RowAt t p) = length-fields _ _ _ _ _
 length-record s (ColAt t p) = length-fields _ _ _ _ _
 length-record s (DataOf t d) = length-fields _ _ _ _ _
 
-pub length-list : (s : Settings) (l : List Record) → length (listBytes s l) ≡ 32 * length l
+length-list : (s : Settings) (l : List Record) → length (listBytes s l) ≡ 32 * length l
 unfolding listBytes
 length-list s [] = refl
 length-list s (r ∷ l) = rw (length-append, length-record, length-list s l) (omega arith)

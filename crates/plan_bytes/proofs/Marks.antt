@@ -99,7 +99,7 @@ module _ (s : Settings) (v : valid s ≡ true) where
         }
 
     -- the data of a WR
-    pub marked-loaded : (mask : ℕ) (bytes : Dualoct) → Marked s (top + 64) (loaded cx mask bytes d)
+    marked-loaded : (mask : ℕ) (bytes : Dualoct) → Marked s (top + 64) (loaded cx mask bytes d)
     unfolding loaded instant dataDelay contextOf
     marked-loaded mask bytes =
         let t : ℕ = p .now .0 + s .cwd in
@@ -115,13 +115,13 @@ module _ (s : Settings) (v : valid s ≡ true) where
           timely = in-time-more cx (d .records) q (k .timely) (omega arith);
         }
 
-    pub marked-turned : Marked s top (turned cx d)
+    marked-turned : Marked s top (turned cx d)
     unfolding turned
     marked-turned = record { stamped = k .stamped; under = k .under; low = k .low; now = k .now; timely = k .timely }
 
   -- ---- steps
 
-  pub marked-when : (b : Bool) (top : ℕ) (d : Draft) → Marked s top d → top ≤ far → Marked s (top + 64) (when b (flushed cx) d)
+  marked-when : (b : Bool) (top : ℕ) (d : Draft) → Marked s top d → top ≤ far → Marked s (top + 64) (when b (flushed cx) d)
   unfolding flushed
   marked-when b top d k h = when-either (Marked s (top + 64)) b (flushed cx) d (λ _. marked-sent top d k h (colPacket (Nocop 0xFFFF))) (λ _. marked-more s top (top + 64) (omega arith) d k)
 
@@ -129,7 +129,7 @@ module _ (s : Settings) (v : valid s ≡ true) where
   unfolding flushedWhile
   marked-while test top d k h = marked-when (test (waiting d)) top d k h
 
-  pub marked-closed : (x top : ℕ) (d : Draft) → Marked s top d → top + 64 ≤ far → Marked s (top + 128) (closed cx x d)
+  marked-closed : (x top : ℕ) (d : Draft) → Marked s top d → top + 64 ≤ far → Marked s (top + 128) (closed cx x d)
   unfolding closed
   marked-closed x top d k h =
       let test : List Write → Bool = anyWrite (λ w. near cx x (w .bank)) in

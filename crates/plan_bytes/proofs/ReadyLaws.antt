@@ -134,7 +134,7 @@ module _ (s : Settings) (top : ℕ) (b : List ℕ) (k : Ready s top b) where
   unfolding plannerIn
   now-top = top-said (word b 752) top (tops .now)
 
-  pub slot-top : (r : Record) → slot (contextOf s) p r ≤ top + 67
+  slot-top : (r : Record) → slot (contextOf s) p r ≤ top + 67
   unfolding slot contextOf
   slot-top r = omega (arith, least-top (contextOf s) (p .channel) (top + 3) under-top (readies .figures) r (p .now .0) now-top)
 

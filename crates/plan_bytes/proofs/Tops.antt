@@ -147,7 +147,7 @@ module _ (P Q : ℕ → Type 0) (f : (t : ℕ) → P t → Q t) where
   track-more : (k : BankTrack) → TrackAll P k → TrackAll Q k
   track-more k a = record { opened = f _ (a .opened); act = f _ (a .act); pre = f _ (a .pre); rd = f _ (a .rd); retire = f _ (a .retire) }
 
-  pub all-more : (ch : Channel) → All P ch → All Q ch
+  all-more : (ch : Channel) → All P ch → All Q ch
   all-more ch k =
       let l = k .lasts in
       record {

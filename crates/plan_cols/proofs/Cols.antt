@@ -114,13 +114,14 @@ module _ (s : Settings) (top : ℕ) (b : List ℕ) (k : Ready s top b) (h : top 
         go true w = rw (held-is b w)
         go false w = rw (none-is b w)
 
-    pub wr-drawn : (room : List ℕ) (start : ℕ) (left room1 room2 : List ℕ) (to : ℕ) → to ≡ start + 64 → start + 32 ≤ length room → let v : ℕ = wrAt s b (at .bank) in
+    pub wr-drawn : (room : List ℕ) (start : ℕ) (left room1 room2 : List ℕ) (to wr-mask : ℕ) → to ≡ start + 64 → start + 32 ≤ length room → let v : ℕ = wrAt s b (at .bank) in
         left ≡ wrStored b (at .bank) (at .column) mask v
-        → room1 ≡ splice room start (recordFields (v + 3) 1 (colWord (s .device) (Wr (at .bank) (at .column) (carriedIn b))) 0 0)
+        → room1 ≡ splice room start (recordFields (v + 3) 1 (colWord (s .device) (Wr (at .bank) (at .column) wr-mask)) 0 0)
+        → wr-mask ≡ carriedIn b
         → room2 ≡ splice room1 (start + 32) (recordFields (v + s .cwd + 3) 2 0 (d .dqa) (d .dqb))
         → Drawn s (written (contextOf s) at mask d (bare p)) room start left room2 to
     unfolding written loaded sent placedAt under recordBytes listBytes wrStored contextOf
-    wr-drawn room start left room1 room2 to next fits f g h =
+    wr-drawn room start left room1 room2 to wr-mask next fits f g same h =
         let v : ℕ = wrAt s b (at .bank) in
         let e : Says s b v wr = wr-says (at .bank) (at .column) l in
         let t : ℕ = slot (contextOf s) p wr in
@@ -132,7 +133,7 @@ module _ (s : Settings) (top : ℕ) (b : List ℕ) (k : Ready s top b) (h : top 
               ∙ ap₂ (λ (l : List ℕ) (n : ℕ). splice (nowStored (colStored (writeStored (leftFrom (p .channel .buffer) l n) 1 (at .bank) (at .column) n) n) n) 760 (bytes 2 mask)) (sym (readies s top b k .exact)) (e .stored)
               ∙ wr-bytes (contextOf s) p (plain s top b k) at mask d l columns (bank-in s top b k);
           records = h
-              ∙ ap₂ (λ (l : List ℕ) (n : ℕ). splice l (start + 32) (recordFields n 2 0 (d .dqa) (d .dqb))) (g ∙ ap₂ (λ (n m : ℕ). splice room start (recordFields n 1 (colWord (s .device) (Wr (at .bank) (at .column) m)) 0 0)) (e .instant) carried-is) then
+              ∙ ap₂ (λ (l : List ℕ) (n : ℕ). splice l (start + 32) (recordFields n 2 0 (d .dqa) (d .dqb))) (g ∙ ap₂ (λ (n m : ℕ). splice room start (recordFields n 1 (colWord (s .device) (Wr (at .bank) (at .column) m)) 0 0)) (e .instant) (same ∙ carried-is)) then
               ∙ splice-more room start _ _ 32 (length-fields t 1 (colWord (s .device) (Wr (at .bank) (at .column) (carried (leaver (contextOf s) p wr) (p .mask)))) 0 0) fits
               ∙ ap (λ (l : List ℕ). splice room start (recordFields t 1 (colWord (s .device) (Wr (at .bank) (at .column) (carried (leaver (contextOf s) p wr) (p .mask)))) 0 0 ++ l)) (sym (append-nil _));
           next = next;

@@ -48,7 +48,7 @@ module _ (s : Settings) (p : PlannerState) (e : length (p .channel .banks) ≡ 3
   abbrev ownAsks : ℕ → ℕ → ℕ
   ownAsks gap x = since (trackOf ch x .act .0) gap
 
-  pub rd-by : (x c m : ℕ) → slot (contextOf s) p (colPacket (Rd x c m)) ≡ max colFloor (ownAsks (s .rcd) x)
+  rd-by : (x c m : ℕ) → slot (contextOf s) p (colPacket (Rd x c m)) ≡ max colFloor (ownAsks (s .rcd) x)
   unfolding slot leastFrom earliest leaving traits colTraits contextOf
   rd-by x c m = rw (rd-bounds (contextOf s) ch x c m, own-bound s ch e onlyACT (s .rcd) x) (floored p low _ _)
 
@@ -60,7 +60,7 @@ module _ (s : Settings) (p : PlannerState) (e : length (p .channel .banks) ≡ 3
   unfolding contextOf
   retire-by r w l = rw (retire-bounds (contextOf s) ch (w .bank), own-bound s ch e onlyACT (s .rcd) (w .bank), since-some (w .at .0) (s .rtr) (omega arith))
 
-  pub nocop-by : (m : ℕ) (w : Write) → ch .buffer ≡ One w → 4 ≤ w .at .0 → slot (contextOf s) p (colPacket (Nocop m)) ≡ max colFloor (retireAsks w)
+  nocop-by : (m : ℕ) (w : Write) → ch .buffer ≡ One w → 4 ≤ w .at .0 → slot (contextOf s) p (colPacket (Nocop m)) ≡ max colFloor (retireAsks w)
   unfolding slot leastFrom earliest leaving traits colTraits waitingOf contextOf
   nocop-by m w z l =
       let r : Record = colPacket (Nocop m) in
@@ -75,7 +75,7 @@ module _ (s : Settings) (p : PlannerState) (e : length (p .channel .banks) ≡ 3
   leftAsks Empty = 0
   leftAsks (One w) = retireAsks w
 
-  pub wr-by : (x c m : ℕ) → Early (ch .buffer) → slot (contextOf s) p (colPacket (Wr x c m)) ≡ max (wrFloor x) (leftAsks (ch .buffer))
+  wr-by : (x c m : ℕ) → Early (ch .buffer) → slot (contextOf s) p (colPacket (Wr x c m)) ≡ max (wrFloor x) (leftAsks (ch .buffer))
   unfolding slot leastFrom earliest leaving traits colTraits waitingOf contextOf
   wr-by x c m l = rw (wr-bounds (contextOf s) ch x c m, own-bound s ch e onlyACT (s .rcd - s .rtr) x) (go (ch .buffer) l)
     where

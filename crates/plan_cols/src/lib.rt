@@ -16,6 +16,7 @@ use col_words::col_word;
 use num::u16_at;
 use num::wide32;
 use packet::ColPacket;
+use packet::FULL;
 use plan_bytes::after;
 use plan_bytes::held_bank;
 use plan_bytes::put_record;
@@ -86,7 +87,7 @@ pub fn rd(s: Settings, b: &mut [u8], bank: u32, column: u32, room: &mut [u8], to
         ColPacket::Rd {
             bank,
             column,
-            mask: 0xFFFF,
+            mask: FULL,
         },
     );
     put_record(room, to, t, 1, word, 0, 0);
@@ -151,7 +152,7 @@ fn carried(b: &[u8]) -> u32
     requires { ⌜ length (now b) ≡ 768 ⌝ }
     ensures { λ r. ⌜ (r ≡ carriedIn (now (b .entry))) × (r < 2 ^ 16) ⌝ }
 {
-    if waits(b) { u16_at(b, 760) } else { 0xFFFF }
+    if waits(b) { u16_at(b, 760) } else { FULL }
 }
 
 fn wr_at(s: Settings, b: &[u8], x: usize) -> u64
@@ -213,12 +214,13 @@ pub fn wr(
     ensures { λ r. ⌜ Drawn s (written (contextOf s) at mask d (drafted (now (b .entry)))) (now (room .entry)) to (now (b .exit)) (now (room .exit)) r ⌝ }
 {
     let t = wr_at(s, b, at.bank as usize);
+    let left = carried(b);
     let word = col_word(
         s.device,
         ColPacket::Wr {
             bank: at.bank,
             column: at.column,
-            mask: carried(b),
+            mask: left,
         },
     );
     put_record(room, to, t, 1, word, 0, 0);

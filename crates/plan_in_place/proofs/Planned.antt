@@ -46,8 +46,8 @@ use Rattle.plan_bytes.proofs.Compose.{Blind, sent-blind, while-blind, up-to-bli
 use Rattle.plan_steps.proofs.Tested.{waits-is}
 use Rattle.plan_steps.proofs.Ranges.{up-to-ext}
 use Rattle.plan_steps.proofs.Stepwise.{any-waits, while-is, good, after-of, cleared-first, cleared-fits, cleared-drawn}
-use Rattle.plan_in_place.specs.form.Calm.{isCalm}
-use Rattle.plan_in_place.proofs.Highest.{calm-below}
+use Rattle.plan_calm.specs.form.Calm.{isCalm}
+use Rattle.plan_calm.proofs.CalmLaws.{calm-below}
 
 two-written : (cx : Context) (at : Place) (mask : ℕ) (d : Dualoct) (p : PlannerState) → length (written cx at mask d (bare p) .records) ≡ 2
 unfolding written loaded sent
@@ -65,8 +65,8 @@ up-to-refresh cx pick (suc n) d =
     when-either (λ y. f y ≡ f d) (pick n && not (isClosed (stateIn z n))) (closed cx n) z
     (λ _. sent-refresh cx (rowPacket (Prer n)) (flushedWhile cx test z) ∙ save ∙ up-to-refresh cx pick n d) (λ _. up-to-refresh cx pick n d)
 
-pub hit-waits : (d : Draft) (bank column : ℕ) (q : Bool) → q ≡ anyWrite (hits bank column) (waiting d) → q ≡ true → anyWaits (waiting d) ≡ true
-hit-waits d bank column q e w = any-waits (hits bank column) (waiting d) (sym e ∙ w)
+pub hit-waits : (d : Draft) (bank column : ℕ) (q : Bool) → q ≡ true → q ≡ anyWrite (hits bank column) (waiting d) → anyWaits (waiting d) ≡ true
+hit-waits d bank column q w e = any-waits (hits bank column) (waiting d) (sym e ∙ w)
 
 module _ (s : Settings) (b : List ℕ) (k : Ready s 999990000 b) (room : List ℕ) (m : 544 ≤ length room) where
   abbrev cx : Context
@@ -246,12 +246,12 @@ module _ (s : Settings) (b : List ℕ) (k : Ready s 999990000 b) (room : List �
   unfolding bankCount
   all-shut z = up-to-ext cx z (λ y. leb 0 y) (λ y. true) 32 (λ y l. le-leb 0 y (omega arith))
 
+  pub drain-waits : (q : Bool) → q ≡ true → q ≡ waitsIn b → anyWaits (waiting d) ≡ true
+  drain-waits q w e = sym (e ∙ waits-is b) ∙ w
+
   module _ (q : Bool) (e : q ≡ waitsIn b) where
     waits : q ≡ anyWaits (waiting d)
     waits = e ∙ waits-is b
-
-    pub drain-waits : q ≡ true → anyWaits (waiting d) ≡ true
-    drain-waits w = sym waits ∙ w
 
     pub drain-first : Fits (when q (flushed cx) d) room 0
     drain-first = rw (while-is cx anyWaits d q waits) (fits-first shut (up-to-blind cx (λ x. true) bankCount) emptied room 0 drain-fits)

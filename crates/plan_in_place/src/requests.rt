@@ -11,7 +11,7 @@ ghost use Rattle.spec_plan.specs.Plan.{plannedRead, plannedWrite, plannedRefres
 ghost use Rattle.spec_plan.specs.Call.{listBytes, timely};
 ghost use Rattle.spec_plan.specs.PlannerBytes.{plannerBytes, plannerIn, plannerRight};
 ghost use Rattle.plan_bytes.specs.form.Drawn.{drafted, Ready, Drawn};
-ghost use Rattle.plan_in_place.specs.form.Calm.{isCalm};
+ghost use Rattle.plan_calm.specs.form.Calm.{isCalm};
 use num::u16_at;
 use num::wide32;
 use plan_bytes::after;

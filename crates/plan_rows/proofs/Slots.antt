@@ -50,12 +50,12 @@ module _ (s : Settings) (p : PlannerState) (e : length (p .channel .banks) ≡ 3
   abbrev nearAsks : Kind → ℕ → ℕ → ℕ
   nearAsks a gap x = three (lastAt (trackOf ch x) a) (lastAt (trackOf ch (lowOf s x)) a) (lastAt (trackOf ch (highOf s x)) a) gap
 
-  pub prer-by : (x : ℕ) → slot (contextOf s) p (rowPacket (Prer x)) ≡ max rowFloor (max (nearAsks ACT (s .ras) x) (max (since (ch .lasts .pre .0) (s .pp)) (max (nearAsks RD (s .rdp) x) (nearAsks retire (s .rtp) x))))
+  prer-by : (x : ℕ) → slot (contextOf s) p (rowPacket (Prer x)) ≡ max rowFloor (max (nearAsks ACT (s .ras) x) (max (since (ch .lasts .pre .0) (s .pp)) (max (nearAsks RD (s .rdp) x) (nearAsks retire (s .rtp) x))))
   unfolding slot leastFrom earliest leaving traits rowTraits contextOf
   prer-by x = rw (prer-bounds (contextOf s) ch x, near-bound s ch e ACT (s .ras) x, near-bound s ch e RD (s .rdp) x, near-bound s ch e retire (s .rtp) x) (floored p low _ _)
 
   -- REFP acts as PRER, REFA as ACT
-  pub refp-by : (x : ℕ) → slot (contextOf s) p (rowPacket (Refp x)) ≡ slot (contextOf s) p (rowPacket (Prer x))
+  refp-by : (x : ℕ) → slot (contextOf s) p (rowPacket (Refp x)) ≡ slot (contextOf s) p (rowPacket (Prer x))
   unfolding slot leastFrom earliest leaving traits rowTraits
   refp-by x = refl
 
@@ -63,18 +63,18 @@ module _ (s : Settings) (p : PlannerState) (e : length (p .channel .banks) ≡ 3
   abbrev farAsks : ℕ → ℕ
   farAsks x = boundBanks (contextOf s) ch (λ b y. not (near (contextOf s) b y)) ACT (s .rr) x
 
-  pub act-by : (x row : ℕ) → slot (contextOf s) p (rowPacket (Act x row)) ≡ max rowFloor (max (nearAsks ACT (s .rc) x) (max (farAsks x) (nearAsks PRER (s .rp) x)))
+  act-by : (x row : ℕ) → slot (contextOf s) p (rowPacket (Act x row)) ≡ max rowFloor (max (nearAsks ACT (s .rc) x) (max (farAsks x) (nearAsks PRER (s .rp) x)))
   unfolding slot leastFrom earliest leaving traits rowTraits contextOf
   act-by x row = rw (act-bounds (contextOf s) ch x row, near-bound s ch e ACT (s .rc) x, near-bound s ch e PRER (s .rp) x) (floored p low _ _)
 
-  pub refa-by : (x row : ℕ) → slot (contextOf s) p (rowPacket (Refa x)) ≡ slot (contextOf s) p (rowPacket (Act x row))
+  refa-by : (x row : ℕ) → slot (contextOf s) p (rowPacket (Refa x)) ≡ slot (contextOf s) p (rowPacket (Act x row))
   unfolding slot leastFrom earliest leaving traits rowTraits
   refa-by x row = rw (refa-bounds (contextOf s) ch x, act-bounds (contextOf s) ch x row)
 
 -- ---- in stored numbers
 
 -- the first and the last of a bank and its neighbours are banks
-pub first-bank : (s : Settings) (x : ℕ) → x < 32 → firstNear s x < 32
+first-bank : (s : Settings) (x : ℕ) → x < 32 → firstNear s x < 32
 first-bank s x l = go (below s x)
   where
     go : Below s x → firstNear s x < 32
@@ -108,7 +108,7 @@ module _ (s : Settings) (b : List ℕ) (low : 4 ≤ plannerIn b .now .0) where
     most-said : instantOf (mostIn s b plane x) ≡ max (max (at x) (at (firstNear s x))) (at (lastNear s x))
     most-said = said-max _ (word b (plane + 4 * lastNear s x)) ∙ ap₂ max (said-max (word b (plane + 4 * x)) _ ∙ ap₂ max (at-is x l) (at-is (firstNear s x) (first-bank s x l))) (at-is (lastNear s x) (last-bank s x l))
 
-    pub near-said : (g : ℕ) → instantOf (since (mostIn s b plane x) g) ≡ nearAsks s state (sized b) low a g x
+    near-said : (g : ℕ) → instantOf (since (mostIn s b plane x) g) ≡ nearAsks s state (sized b) low a g x
     near-said g =
         said-since (mostIn s b plane x) g
         ∙ ap (λ (n : ℕ). since n g) most-said

@@ -19,6 +19,7 @@ use Rattle.chan_view.proofs.NearLaws.{Beside, own, low, high, Below, no-low, on
 use Rattle.spec_plan.specs.Plan.{Draft, when, stateIn, closed, closedUpTo}
 use Rattle.plan_bytes.specs.form.Drawn.{bare}
 use Rattle.plan_bytes.proofs.Compose.{added, Blind, closed-blind, blind-is}
+use Rattle.plan_rows.proofs.Slots.{last-bank}
 
 -- ---- a bank and its neighbours
 
@@ -133,12 +134,13 @@ turn-blind cx k l z = go (not (isClosed (stateIn z k)))
     go false = refl
 
 -- the banks near one, by their range
-pub near-range : (s : Settings) (x : ℕ) (d : Draft) → lastNear s x < 32
-    → closedUpTo (contextOf s) (λ y. leb (firstNear s x) y) (lastNear s x + 1) d ≡ closedUpTo (contextOf s) (near (contextOf s) x) bankCount d
+pub near-range : (s : Settings) (x : ℕ) → x < 32 → (d : Draft) (first last : ℕ) → first ≡ firstNear s x → last ≡ lastNear s x
+    → closedUpTo (contextOf s) (λ y. leb first y) (last + 1) d ≡ closedUpTo (contextOf s) (near (contextOf s) x) bankCount d
 unfolding bankCount
-near-range s x d l =
-    sym (up-to-stop (contextOf s) d (near (contextOf s) x) (lastNear s x + 1) 32 (omega arith) (λ y a b. none-past s x y b (omega arith))
-    ∙ up-to-ext (contextOf s) d (near (contextOf s) x) (λ y. leb (firstNear s x) y) (lastNear s x + 1) (λ y m. near-from s x y (omega arith) (omega arith)))
+near-range s x l d first last f e =
+    let m : last < 32 = rw e (last-bank s x l) in
+    sym (up-to-stop (contextOf s) d (near (contextOf s) x) (last + 1) 32 (omega arith) (λ y a b. none-past s x y b (omega arith))
+    ∙ up-to-ext (contextOf s) d (near (contextOf s) x) (λ y. leb first y) (last + 1) (λ y a. near-from s x y (omega arith) (omega arith) ∙ rw f))
 
 -- the first is not after the last
 pub first-last : (s : Settings) (x : ℕ) → firstNear s x ≤ lastNear s x

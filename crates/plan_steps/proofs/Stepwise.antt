@@ -25,8 +25,8 @@ use Rattle.plan_bytes.specs.form.Drawn.{bare, drafted, Ready, OpenAt, NearShut,
 use Rattle.plan_bytes.proofs.Marks.{Marked, marked-more, marked-while, marked-up-to, marked-all}
 use Rattle.plan_bytes.proofs.ReadyLaws.{readies, inv}
 use Rattle.plan_bytes.proofs.Again.{start, After, after-step}
-use Rattle.plan_bytes.proofs.Compose.{Blind, sent-blind, fits-first, fits-then, drawn-then, one-sent}
-use Rattle.plan_steps.proofs.Ranges.{up-to-next, up-to-grows, turn-blind}
+use Rattle.plan_bytes.proofs.Compose.{Blind, sent-blind, drawn-none, fits-first, fits-then, drawn-then, one-sent}
+use Rattle.plan_steps.proofs.Ranges.{up-to-none, up-to-next, up-to-grows, turn-blind}
 
 -- one record
 pub one-flushed : (cx : Context) (p : PlannerState) → length (flushed cx (bare p) .records) ≡ 1
@@ -38,8 +38,8 @@ pub any-waits : (q : Write → Bool) (ws : List Write) → anyWrite q ws ≡ tru
 any-waits q [] e = e
 any-waits q (w ∷ ws) e = refl
 
-pub loses-waits : (cx : Context) (d : Draft) (x : ℕ) (q : Bool) → q ≡ anyWrite (λ w. near cx x (w .bank)) (waiting d) → q ≡ true → anyWaits (waiting d) ≡ true
-loses-waits cx d x q e w = any-waits (λ w. near cx x (w .bank)) (waiting d) (sym e ∙ w)
+pub loses-waits : (cx : Context) (d : Draft) (x : ℕ) (q : Bool) → q ≡ true → q ≡ anyWrite (λ w. near cx x (w .bank)) (waiting d) → anyWaits (waiting d) ≡ true
+loses-waits cx d x q w e = any-waits (λ w. near cx x (w .bank)) (waiting d) (sym e ∙ w)
 
 -- a NOCOP that is sent where a test passes
 pub while-is : (cx : Context) (test : List Write → Bool) (d : Draft) (b : Bool) → b ≡ test (waiting d) → when b (flushed cx) d ≡ flushedWhile cx test d
@@ -120,7 +120,11 @@ module _ (s : Settings) (top : ℕ) (b : List ℕ) (k : Ready s top b) where
         after-of (top + 3 + 128 * n) 999998000 (upTo n) (omega arith) (omega arith) (marked-up-to s (readies s top b k .figures) pick n (top + 3) d (start s top b k) (omega arith))
         (good-up-to cx (split-neighbours s) (plannerIn b) d good pick n (omega arith))
 
-    -- a turn of the loop
+    -- before the first turn of the loop
+    pub first-drawn : (room : List ℕ) (at : ℕ) → Drawn s (upTo first) room at b room at
+    first-drawn room at = rw (up-to-none cx d first) (drawn-none s b room at (readies s top b k .exact))
+
+    -- a turn of it
     module _ (room : List ℕ) (at : ℕ) (fits : Fits (upTo end) room at) (n : ℕ) (l : first ≤ n) (below : n < end) (b1 room1 : List ℕ) (to1 : ℕ) (w : Drawn s (upTo n) room at b1 room1 to1) where
       abbrev turn : Draft → Draft
       turn z = when (not (isClosed (stateIn z n))) (closed cx n) z

@@ -1,19 +1,15 @@
 // The planner.
 ghost use mathlib.Core.Path.{_≡_};
-ghost use Rattle.by_bytes.specs.Plans.{freshNumber, freshPlaced, planAnswered, planPlanner, planPlaced};
-use by_bytes::PlanAnswer;
-use by_bytes::plans::plan_answer;
-use by_bytes::plans::plan_by;
-use plan::Outcome;
-use record::Refusal;
-use settings::SettingsRead;
+ghost use Rattle.spec_calls.specs.Plans.{plannerFresh, planCall};
+use spec_calls::PlanAnswer;
 
 // Puts a fresh planner into a buffer of its length.
 #[no_mangle]
 pub extern "C" fn rdram_planner_fresh(planner: &mut [u8]) -> u32
-    ensures { λ r. ⌜ (r ≡ freshNumber (now (planner .entry))) × (now (planner .exit) ≡ freshPlaced (now (planner .entry))) ⌝ }
+    ensures { λ r. ⌜ r ≡ plannerFresh (now (planner .entry)) .number ⌝ }
+    ensures { λ _. ⌜ now (planner .exit) ≡ plannerFresh (now (planner .entry)) .state ⌝ }
 {
-    fresh::plans::put_planner(planner)
+    calls_plan::planner_fresh(planner)
 }
 
 // Plans one request: its records go to the start of room, and planner becomes the next state.
@@ -24,10 +20,9 @@ pub extern "C" fn rdram_plan(
     request: &[u8],
     room: &mut [u8],
 ) -> PlanAnswer
-    ensures { λ r. ⌜ (r ≡ planAnswered (now (settings .entry)) (now (planner .entry)) (now (request .entry)) (now (room .entry))) × (now (planner .exit) ≡ planPlanner (now (settings .entry)) (now (planner .entry)) (now (request .entry)) (now (room .entry))) × (now (room .exit) ≡ planPlaced (now (settings .entry)) (now (planner .entry)) (now (request .entry)) (now (room .entry))) ⌝ }
+    ensures { λ r. ⌜ r ≡ planCall (now (settings .entry)) (now (planner .entry)) (now (request .entry)) (now (room .entry)) .answer ⌝ }
+    ensures { λ _. ⌜ now (planner .exit) ≡ planCall (now (settings .entry)) (now (planner .entry)) (now (request .entry)) (now (room .entry)) .planner ⌝ }
+    ensures { λ _. ⌜ now (room .exit) ≡ planCall (now (settings .entry)) (now (planner .entry)) (now (request .entry)) (now (room .entry)) .room ⌝ }
 {
-    match settings::read::read_settings(settings) {
-        SettingsRead::Refused => plan_answer(Outcome::Refused(Refusal::Settings)),
-        SettingsRead::Accepted(s) => plan_by(s, planner, request, room),
-    }
+    calls_plan::plan_call(settings, planner, request, room)
 }

@@ -25,7 +25,7 @@ use Rattle.packet.specs.Col.{maskSaid, colOf, colDecoded}
 use Rattle.record.specs.declared.RecordRead.{RecordRead}
 use Rattle.record.specs.Record.{isKnown, rowRecord, colRecord, recordOf, recordRead, wellFormed, recordAt}
 use Rattle.record.proofs.RecordLaws.{field-in, head-in}
-use Rattle.scan.specs.Quick.{headAt, wordRight, dataRight}
+use Rattle.scan.specs.form.Quick.{headAt, wordRight, dataRight}
 
 -- one index more, as a loop takes it
 pub all-next : (f : ℕ → Bool) (n : ℕ) → allUpTo f (n + 1) ≡ (allUpTo f n && f n)

@@ -8,7 +8,7 @@ ghost use Rattle.num.specs.Search.{allUpTo};
 ghost use Rattle.packet.specs.Row.{rowDecoded};
 ghost use Rattle.packet.specs.Col.{colDecoded};
 ghost use Rattle.record.specs.Record.{isKnown, rowRecord, colRecord, recordOf, wellFormed, recordAt, firstBad};
-ghost use Rattle.scan.specs.Quick.{wordRight, dataRight};
+ghost use Rattle.scan.specs.form.Quick.{wordRight, dataRight};
 use packet::RowPacket;
 use settings::Settings;
 

@@ -40,7 +40,7 @@ module _ (n j : ℕ) where
 
   -- of a verdict under the settings, and what it says where it names this; settings out of range have 1, not 11
   names : (settings : List ℕ) (verdict : Settings → Judged) (breach : Settings → Type 0) → ((s : Settings) → (verdict s ≡ Refused (refusal.Rule n j)) ↔ breach s)
-      → (underSettings settings (checkAnswer (Refused refusal.Settings)) (λ s. checkAnswer (verdict s)) ≡ broken) ↔ AcceptedWith settings breach
+      → (underSettings settings (λ why. checkAnswer (Refused why)) (λ s. checkAnswer (verdict s)) ≡ broken) ↔ AcceptedWith settings breach
   unfolding underSettings checkAnswer answerOf
   names settings verdict breach f =
       accepted-iff settings _ breach

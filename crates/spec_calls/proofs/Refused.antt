@@ -12,6 +12,7 @@ use Rattle.settings.specs.declared.Settings.{Settings}
 use Rattle.settings.specs.declared.SettingsRead.{SettingsRead}
 use Rattle.settings.specs.declared.SettingsRead.the-variants as read
 use Rattle.settings.specs.Settings.{settingsRead}
+use Rattle.record.specs.declared.Refusal.{Refusal}
 use Rattle.record.specs.declared.Refusal.the-variants as refusal
 use Rattle.spec_rules.specs.Neighbour.{Context, contextOf}
 use Rattle.spec_plan.specs.declared.PlannerState.{PlannerState}
@@ -27,7 +28,7 @@ use Rattle.spec_model.specs.Step.{stepAnswer}
 use Rattle.log.specs.declared.Copied.{Copied}
 use Rattle.log.specs.declared.Copied.the-variants as copied
 use Rattle.log.specs.Log.{copied}
-use Rattle.meter.specs.Answer.{accepted}
+use Rattle.meter.specs.Answer.{feedAccepted}
 use Rattle.meter.specs.Meter.{feedMeter}
 use Rattle.meter.specs.Calls.{fedAnswered}
 use Rattle.spec_calls.specs.Settings.{bySettings, underSettings}
@@ -42,7 +43,7 @@ either P true p q = p
 either P false p q = q
 
 -- what holds of the result of 1, and under any settings
-under : {R : Type 0} (P : R → Type 0) (settings : List ℕ) {refused : R} {call : Settings → R} → P refused → ((s : Settings) → P (call s)) → P (underSettings settings refused call)
+under : {R : Type 0} (P : R → Type 0) (settings : List ℕ) {refused : Refusal → R} {call : Settings → R} → P (refused refusal.Settings) → ((s : Settings) → P (call s)) → P (underSettings settings refused call)
 unfolding underSettings
 under P settings {refused} {call} p f = go (settingsRead settings)
   where
@@ -95,7 +96,7 @@ copy-kept new lent answer settings =
     (λ s. copy-by new lent (answer s))
 
 pub refused-changes-nothing : RefusedCalls
-unfolding plannerFresh modelFresh logEncodeCall logDecodeCall accepted feedMeter fedAnswered
+unfolding plannerFresh modelFresh logEncodeCall logDecodeCall feedAccepted feedMeter fedAnswered
 refused-changes-nothing =
     record {
       planner-fresh = fresh-kept _ _;

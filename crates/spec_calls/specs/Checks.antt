@@ -3,7 +3,6 @@
 use Prim.Native.Nat.{ℕ}
 use mathlib.Core.List.{List}
 use Rattle.record.specs.declared.Refusal.{Refusal}
-use Rattle.record.specs.declared.Refusal.the-variants.{Settings}
 use Rattle.record.specs.Refusal.{answerOf}
 use Rattle.spec_rules.specs.Neighbour.{contextOf}
 use Rattle.spec_check.specs.declared.Judged.{Judged}
@@ -18,7 +17,7 @@ checkAnswer Passed = record { number = 0; rule = 0; place = 0 }
 checkAnswer (Refused r) = record { number = answerOf r .number; rule = answerOf r .rule; place = answerOf r .place }
 
 unfoldable pub checkCall : List ℕ → List ℕ → CheckAnswer
-checkCall settings list = underSettings settings (checkAnswer (Refused Settings)) (λ s. checkAnswer (listAnswer (contextOf s) list))
+checkCall settings list = underSettings settings (λ why. checkAnswer (Refused why)) (λ s. checkAnswer (listAnswer (contextOf s) list))
 
 unfoldable pub checkLogCall : List ℕ → List ℕ → CheckAnswer
-checkLogCall settings log = underSettings settings (checkAnswer (Refused Settings)) (λ s. checkAnswer (logAnswer (contextOf s) log))
+checkLogCall settings log = underSettings settings (λ why. checkAnswer (Refused why)) (λ s. checkAnswer (logAnswer (contextOf s) log))

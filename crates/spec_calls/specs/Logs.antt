@@ -4,7 +4,6 @@ use Prim.Native.Nat.{ℕ}
 use mathlib.Core.List.{List}
 use lib.ListN.{length}
 use Rattle.settings.specs.declared.Settings.{Settings as Figures}
-use Rattle.record.specs.declared.Refusal.the-variants.{Settings}
 use Rattle.record.specs.Refusal.{answerOf}
 use Rattle.blocks.specs.Block.{logOf, listOf}
 use Rattle.log.specs.declared.Copied.{Copied}
@@ -29,7 +28,7 @@ module _ (new lent : List ℕ) where
   copyBy a = record { answer = copyAnswer a; lent = copied a new lent }
 
   unfoldable pub copyCall : (Figures → Copied) → List ℕ → CopyResult
-  copyCall answer settings = underSettings settings (copyBy (Refused Settings)) (λ s. copyBy (answer s))
+  copyCall answer settings = underSettings settings (λ why. copyBy (Refused why)) (λ s. copyBy (answer s))
 
 -- 1, then 13, 10, 8
 unfoldable pub logEncodeCall : List ℕ → List ℕ → List ℕ → CopyResult

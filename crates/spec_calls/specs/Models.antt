@@ -67,4 +67,4 @@ module _ (model store given room : List ℕ) where
       cond (modelRight cx model) (stepBy cx m (stepAnswer cx m (length store) given (length room))) (stepRefused Settings)
 
 unfoldable pub stepCall : List ℕ → List ℕ → List ℕ → List ℕ → List ℕ → StepResult
-stepCall settings model store given room = underSettings settings (stepRefused model store given room Settings) (stepUnder model store given room)
+stepCall settings model store given room = underSettings settings (stepRefused model store given room) (stepUnder model store given room)

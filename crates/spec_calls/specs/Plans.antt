@@ -70,4 +70,4 @@ module _ (planner request room : List ℕ) where
       cond (plannerRight cx planner) (planBy cx p (planOutcome cx p request (length room))) (planRefused Settings)
 
 unfoldable pub planCall : List ℕ → List ℕ → List ℕ → List ℕ → PlanResult
-planCall settings planner request room = underSettings settings (planRefused planner request room Settings) (planUnder planner request room)
+planCall settings planner request room = underSettings settings (planRefused planner request room) (planUnder planner request room)

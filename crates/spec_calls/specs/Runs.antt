@@ -118,40 +118,40 @@ pub record DrainsLast (settings : List ℕ) (s : Settings) (calls : List PlanCal
 -- demand 3 of the C calls: of settings bytes that say s, plan calls, the bytes of a store, and the answer buffers of the model calls
 module _ (settings : List ℕ) (s : Settings) (calls : List PlanCall) (store : List ℕ) (rooms : List (List ℕ)) where
   -- the packet list that the rdram_plan calls leave, and the number of its records
-  abbrev pub packets : List ℕ
-  packets = benchAfter settings calls freshBench .list
+  abbrev pub packetBytes : List ℕ
+  packetBytes = benchAfter settings calls freshBench .list
 
   abbrev pub records : ℕ
-  records = length packets / 32
+  records = length packetBytes / 32
 
   -- what flat memory is fed
-  abbrev pub feed : List Fed
-  feed = benchFed settings calls freshBench
+  abbrev pub callsFed : List Fed
+  callsFed = benchFed settings calls freshBench
 
   -- the model and what it has answered, after the rdram_model_step calls on that list
-  abbrev pub end : Device
-  end = deviceAfter settings packets rooms (freshDevice store)
+  abbrev pub deviceAtEnd : Device
+  deviceAtEnd = deviceAfter settings packetBytes rooms (freshDevice store)
 
   -- the records that it has taken
-  abbrev pub recordsTaken : List Record
-  recordsTaken = recordsUpTo s packets (end .next)
+  abbrev pub takenRecords : List Record
+  takenRecords = recordsUpTo s packetBytes (deviceAtEnd .next)
 
   pub record CallsRun : Type 0 where
     -- rdram_check passes the list
-    pub lawful : checkCall settings packets .number ≡ 0
+    pub lawful : checkCall settings packetBytes .number ≡ 0
     -- no model call is refused but for want of room
-    pub passes : end .failed ≡ false
+    pub passes : deviceAtEnd .failed ≡ false
     -- "the same record comes again until a call has room for its answer": a further call with 16 bytes takes the next record
-    pub takes : (room : List ℕ) → 16 ≤ length room → end .next < records → deviceNext settings packets room end .next ≡ end .next + 1
+    pub takes : (room : List ℕ) → 16 ≤ length room → deviceAtEnd .next < records → deviceNext settings packetBytes room deviceAtEnd .next ≡ deviceAtEnd .next + 1
     -- so as many such calls as the list has records take it whole, whatever calls stand between
-    pub takes-all : records ≤ wideBuffers rooms → end .next ≡ records
+    pub takes-all : records ≤ wideBuffers rooms → deviceAtEnd .next ≡ records
     -- the dualocts that were returned, one for each RD that was taken, are the first of flat memory's answers, in order
-    pub so-far : end .answers ≡ take (readsIn recordsTaken) (flatAnswers (contextOf s) feed store)
+    pub so-far : deviceAtEnd .answers ≡ take (readsIn takenRecords) (flatAnswers (contextOf s) callsFed store)
     -- and all of them where every record is taken
-    pub reads : end .next ≡ records → end .answers ≡ flatAnswers (contextOf s) feed store
+    pub reads : deviceAtEnd .next ≡ records → deviceAtEnd .answers ≡ flatAnswers (contextOf s) callsFed store
     -- and after an accepted drain the store is flat memory
-    pub drained : end .next ≡ records → DrainsLast settings s calls → end .store ≡ flatAfter (contextOf s) feed store
+    pub drained : deviceAtEnd .next ≡ records → DrainsLast settings s calls → deviceAtEnd .store ≡ flatAfter (contextOf s) callsFed store
     -- "the number of bytes a retire wrote [..]; their sum over a run is the ones in all retired masks", of the records taken
-    pub counted : end .written ≡ onesOf (retiredMasks (contextOf s) recordsTaken)
+    pub counted : deviceAtEnd .written ≡ onesOf (retiredMasks (contextOf s) takenRecords)
     -- and after an accepted drain the ones in the masks of all accepted writes
-    pub drained-count : end .next ≡ records → DrainsLast settings s calls → end .written ≡ onesOf (flatMasks (contextOf s) feed)
+    pub drained-count : deviceAtEnd .next ≡ records → DrainsLast settings s calls → deviceAtEnd .written ≡ onesOf (flatMasks (contextOf s) callsFed)

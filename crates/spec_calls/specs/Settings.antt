@@ -6,12 +6,14 @@ use Rattle.settings.specs.declared.Settings.{Settings}
 use Rattle.settings.specs.declared.SettingsRead.{SettingsRead}
 use Rattle.settings.specs.declared.SettingsRead.the-variants.{Refused, Accepted}
 use Rattle.settings.specs.Settings.{settingsRead}
+use Rattle.record.specs.declared.Refusal.{Refusal}
+use Rattle.record.specs.declared.Refusal.the-variants as refusal
 
 module _ {R : Type 0} where
-  -- what a call does whose settings bytes say this: the result of 1, or the result under the settings
-  abbrev pub bySettings : SettingsRead → R → (Settings → R) → R
-  bySettings Refused refused under = refused
+  -- what a call does whose settings bytes say this: it is refused by 1, or has a result under the settings
+  abbrev pub bySettings : SettingsRead → (Refusal → R) → (Settings → R) → R
+  bySettings Refused refused under = refused refusal.Settings
   bySettings (Accepted s) refused under = under s
 
-  unfoldable pub underSettings : List ℕ → R → (Settings → R) → R
+  unfoldable pub underSettings : List ℕ → (Refusal → R) → (Settings → R) → R
   underSettings settings refused under = bySettings (settingsRead settings) refused under

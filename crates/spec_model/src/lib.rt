@@ -3,6 +3,9 @@ use record::Dualoct;
 use record::Refusal;
 use spec_rules::Channel;
 
+// The bytes of a model.
+pub const MODEL_BYTES: usize = 792;
+
 // A model between two records: the channel, REFR, and the data of the waiting write.
 pub struct ModelState {
     pub channel: Channel,

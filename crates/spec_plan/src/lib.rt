@@ -3,6 +3,13 @@ use record::Refusal;
 use settings::PacketAt;
 use spec_rules::Channel;
 
+// The most records that a request makes, and the bytes that they take; the bytes of a planner.
+pub const MOST_RECORDS: usize = 17;
+
+pub const MOST_BYTES: usize = 544;
+
+pub const PLANNER_BYTES: usize = 768;
+
 // A planner between two requests: the channel after its packets, now, the bank of the next refresh, and the mask of the
 // waiting write.
 pub struct PlannerState {

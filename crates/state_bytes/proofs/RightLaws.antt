@@ -1,7 +1,7 @@
 -- What is tested of the bytes of a planner or a model, and of their length, is whether refusal 1 has nothing against them.
 -- Assumes nothing.
 use Prim.Native.Nat.{ℕ, _+_, _*_, _<_, _≤_}
-use mathlib.Core.Path.{_≡_}
+use mathlib.Core.Path.{_≡_, _∙_}
 use mathlib.Core.Bool.{Bool, true, false, not, _&&_, and-assoc, and-comm, and-true}
 use mathlib.Core.List.{List}
 use native.Mathlib.Omega.{arith}
@@ -21,7 +21,7 @@ use Rattle.spec_plan.specs.Planner.{plannerValid}
 use Rattle.spec_plan.specs.PlannerBytes.{plannerLength, plannerIn, plannerRight}
 use Rattle.spec_model.specs.Model.{modelValid}
 use Rattle.spec_model.specs.ModelBytes.{modelLength, modelIn, modelRight}
-use Rattle.state_bytes.specs.form.Tested.{channelTested, plannerFields, modelFields}
+use Rattle.state_bytes.specs.form.Tested.{allStored, tagsRight, bufferRight, channelTested, plannerFields, modelFields}
 use Rattle.state_bytes.proofs.NumberLaws.{instant-stored, below-word}
 use Rattle.state_bytes.proofs.TestedLaws.{and-shift, none-refreshed, model-tags, planner-tags, channel-as}
 
@@ -48,6 +48,11 @@ module _ (s : Settings) (b : List ℕ) where
       rw (eq-eqb (length b) 768 l, planner-fields (omega arith), channel-as s b false 0 (none-refreshed s b) w (omega arith) (planner-tags s b w (omega arith)))
       (planner-shuffle (isInstant (instantOf (number (part b 752 4)))) (ltb (number (part b 756 2)) 32) (zeroPart b 758 2) (ltb (number (part b 760 2)) 0x10000) (zeroPart b 762 6)
       (channelSpare b) (channelValid (contextOf s) (channelIn b)) (none-refreshed s b) (not (eqb (getD b 729 0) 1)))
+
+  -- the same where the stored instants are in range
+  pub planner-rest : Bytes b → length b ≡ 768 → allStored b 0 160 && allStored b 704 5 ≡ true → (plannerFields b && tagsRight s 0 b) && bufferRight s 1 b ≡ plannerRight (contextOf s) b
+  unfolding channelTested
+  planner-rest w l h = and-assoc (plannerFields b) (tagsRight s 0 b) (bufferRight s 1 b) ∙ rw h at (planner-tested w l)
 
   pub planner-length-wrong : (length b ≡ 768 → ⊥) → plannerRight (contextOf s) b ≡ false
   unfolding plannerRight plannerLength

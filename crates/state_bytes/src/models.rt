@@ -6,12 +6,13 @@ ghost use Rattle.spec_model.specs.ModelBytes.{modelIn, modelRight};
 use crate::tested::channel_right;
 use record::Dualoct;
 use settings::Settings;
+use spec_model::MODEL_BYTES;
 
 // Whether refusal 1 has nothing against a model's bytes.
 pub fn model_right(s: Settings, b: &[u8]) -> bool
     ensures { λ r. ⌜ r ≡ modelRight (contextOf s) (now (b .entry)) ⌝ }
 {
-    if b.len() != 792 {
+    if b.len() != MODEL_BYTES {
         return false;
     }
     let refr = num::u64_at(b, 752);

@@ -14,7 +14,7 @@ use spec_rules::Channel;
 use spec_rules::LastInstants;
 use spec_rules::Write;
 
-pub(crate) fn instant_at(b: &[u8], at: usize) -> PacketAt
+pub fn instant_at(b: &[u8], at: usize) -> PacketAt
     requires { ⌜ at + 4 ≤ length (now b) ⌝ }
     requires { ⌜ number (part (now b) at 4) ≤ latest ⌝ }
     ensures { λ r. ⌜ r ≡ instantIn (now (b .entry)) at ⌝ }

@@ -74,7 +74,7 @@ fn tag_right(s: Settings, most: u16, also: u16, x: u32, below: u16, tag: u16) ->
     ((tag <= most) | (tag == also)) & ((low_of(s, x) == 32) | (below == 0) | (tag == 0))
 }
 
-fn tags_right(s: Settings, also: u16, b: &[u8]) -> bool
+pub(crate) fn tags_right(s: Settings, also: u16, b: &[u8]) -> bool
     requires { ⌜ 752 ≤ length (now b) ⌝ }
     ensures { λ r. ⌜ r ≡ tagsRight s also (now (b .entry)) ⌝ }
 {
@@ -104,7 +104,7 @@ fn write_right(s: Settings, b: &[u8]) -> bool
 }
 
 // The buffer: no write waits, or one, with one of two counts; the bytes that no field uses are 0.
-fn buffer_right(s: Settings, due: u64, b: &[u8]) -> bool
+pub(crate) fn buffer_right(s: Settings, due: u64, b: &[u8]) -> bool
     requires { ⌜ 752 ≤ length (now b) ⌝ }
     ensures { λ r. ⌜ r ≡ bufferRight s due (now (b .entry)) ⌝ }
 {

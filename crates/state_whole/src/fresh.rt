@@ -5,13 +5,15 @@ ghost use Rattle.spec_plan.specs.Planner.{freshPlanner};
 ghost use Rattle.spec_plan.specs.PlannerBytes.{plannerBytes};
 ghost use Rattle.spec_model.specs.Model.{freshModel};
 ghost use Rattle.spec_model.specs.ModelBytes.{modelBytes};
+use spec_model::MODEL_BYTES;
+use spec_plan::PLANNER_BYTES;
 
 // Puts the bytes of a fresh planner.
 pub fn put_fresh_planner(b: &mut [u8])
     requires { ⌜ length (now b) ≡ 768 ⌝ }
     ensures { λ _. ⌜ now (b .exit) ≡ plannerBytes freshPlanner ⌝ }
 {
-    puts::put_zeros(b, 0, 768);
+    puts::put_zeros(b, 0, PLANNER_BYTES);
     puts::put_u32(b, 752, 1);
 }
 
@@ -20,5 +22,5 @@ pub fn put_fresh_model(b: &mut [u8])
     requires { ⌜ length (now b) ≡ 792 ⌝ }
     ensures { λ _. ⌜ now (b .exit) ≡ modelBytes freshModel ⌝ }
 {
-    puts::put_zeros(b, 0, 792);
+    puts::put_zeros(b, 0, MODEL_BYTES);
 }

@@ -5,9 +5,7 @@ ghost use mathlib.Core.List.{[], _∷_, _++_};
 ghost use Prim.Native.Nat.{_+_, _<_, _≤_};
 ghost use lib.ListN.{length};
 ghost use Rattle.text.specs.Text.{Put, lineRoom, digit, decimal, hexFour, maskText, line, space, lineEnd, refusedLine, recordsLine};
-
-// The mask that is sent as M = 0.
-pub const FULL: u32 = 0xFFFF;
+use packet::FULL;
 
 // A digit, in lower case.
 fn digit(d: u32) -> u8

@@ -69,7 +69,7 @@ wordAnswer why (Word w) = record { number = 0; word = w }
 -- 1 for settings out of range, then 4, 5, 6 and 10 for fields that have no word
 unfoldable pub wordEncodeCall : List ℕ → ℕ → ℕ → ℕ → ℕ → WordAnswer
 wordEncodeCall settings command bank place mask =
-    underSettings settings (noWordAnswer refusal.Settings) (λ s. wordAnswer (whyNoWord s command bank place) (commandCoded s command bank place mask))
+    underSettings settings noWordAnswer (λ s. wordAnswer (whyNoWord s command bank place) (commandCoded s command bank place mask))
 
 -- a packet in numbers
 unfoldable pub rowNumbers : RowPacket → PacketAnswer
@@ -102,4 +102,4 @@ packetAnswer s kind w =
 
 -- 1 for settings out of range, then 10
 unfoldable pub wordDecodeCall : List ℕ → ℕ → ℕ → PacketAnswer
-wordDecodeCall settings kind w = underSettings settings (noPacket refusal.Settings) (λ s. packetAnswer s kind w)
+wordDecodeCall settings kind w = underSettings settings noPacket (λ s. packetAnswer s kind w)

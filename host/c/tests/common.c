@@ -191,6 +191,15 @@ size_t put_log(uint8_t *log, const uint8_t *list, size_t records)
 
 /* ---- States ---- */
 
+const uint32_t IN_RANGE[6] = {0, 1, 2, 3, LAST - 4, LAST - 3};
+const uint32_t OUT_OF_RANGE[10] = {LAST - 2,   LAST - 1,   LAST,       LAST + 1,   0x7FFFFFFF,
+                                   0x80000000, 0xFFFFFFFC, 0xFFFFFFFD, 0xFFFFFFFE, 0xFFFFFFFF};
+
+int instant_offset(int n)
+{
+    return n < 160 ? 4 * n : 704 + 4 * (n - 160);
+}
+
 int state_is(const uint8_t *state, size_t length, const field *fields, size_t count)
 {
     uint8_t wanted[RDRAM_MODEL_BYTES] = {0}; /* the longest state */

@@ -85,6 +85,19 @@ typedef struct {
     uint64_t value;
 } field;
 
+/* An instant as a state has it: less 3. */
+#define AT(offset, instant) {offset, 4, (instant) - 3}
+
+/* Stored instants in range, the first for never, and out of it: with 3 added some are small in 32 bits. */
+extern const uint32_t IN_RANGE[6], OUT_OF_RANGE[10];
+
+/* The offsets of the last instants that planner and model have in common, of banks and then of the channel. */
+#define LAST_INSTANTS 165
+int instant_offset(int n);
+
+/* Offsets and numbers of the bytes that they have in common and no field uses. */
+#define UNUSED {724, 4}, {730, 6}, {738, 2}, {744, 8}
+
 /* The state has these fields, and 0 in all others. */
 int state_is(const uint8_t *state, size_t length, const field *fields, size_t count);
 

@@ -1,7 +1,7 @@
 //! Times model calls on the records of planned streams, 100,000 each, by the library and by two
 //! rivals in plain Rust: `bench_model [RECORDS [RUNS [STREAM]]]`.
 //!
-//! The rivals take the same bytes as the C call, and test, decode and encode the model's 752 bytes
+//! The rivals take the same bytes as the C call, and test, decode and encode the model's 792 bytes
 //! each time. Further rows have the rivals without bytes: they keep their model between calls. The
 //! store is small enough to stay in the cache.
 

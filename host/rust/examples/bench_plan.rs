@@ -1,13 +1,9 @@
 //! Times plan calls on streams of 100,000 requests, by the library and by two rivals in plain Rust:
 //! `bench_plan [REQUESTS [RUNS [STREAM]]]`.
 //!
-//! The rivals take the same bytes as the C call, and test, decode and encode the planner's 740 bytes
-//! each time. Further rows have the rivals without bytes: they keep their planner between calls. With
-//! the feature by-value, rows have the library's planner by value too.
+//! The rivals take the same bytes as the C call, and test, decode and encode the planner's 768 bytes
+//! each time. Further rows have the rivals without bytes: they keep their planner between calls.
 
-#[cfg(feature = "by-value")]
-#[path = "common/by_value.rs"]
-mod by_value;
 mod common;
 mod rivals;
 
@@ -15,7 +11,7 @@ use common::{below, best, print_head, print_row, streams, time, Size, SETTINGS};
 use rdram::{raw, RECORD_BYTES, REQUEST_BYTES, REQUEST_RECORDS};
 use rivals::plain::planner as plain;
 use rivals::tuned_plan::{self as tuned, STATE_BYTES};
-use rivals::tuned_state::{Figures, LAST};
+use rivals::tuned_state::{Figures, MOST};
 
 const ROOM: usize = REQUEST_RECORDS * RECORD_BYTES;
 
@@ -129,7 +125,7 @@ fn compare_damaged(x: &mut u64, settings: &[u8], state: &State, request: &Reques
         0 => state[below(x, STATE_BYTES as u64) as usize] ^= bit,
         1 => request[below(x, REQUEST_BYTES as u64) as usize] ^= bit,
         2 => room = below(x, 4 * RECORD_BYTES as u64) as usize,
-        _ => state[732..736].copy_from_slice(&(LAST - below(x, 99) as u32).to_le_bytes()),
+        _ => state[752..756].copy_from_slice(&(MOST - below(x, 99) as u32).to_le_bytes()),
     }
     let results = ON_BYTES.map(|call| {
         let (mut state, mut records) = (state, [1; ROOM]);
@@ -182,7 +178,5 @@ fn main() {
             plain_kept,
             Some(tuned_kept),
         );
-        #[cfg(feature = "by-value")]
-        by_value::row(&size, name, requests);
     }
 }

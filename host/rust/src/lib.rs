@@ -42,9 +42,9 @@ pub const REQUEST_BYTES: usize = 24;
 /// Most records of a request.
 pub const REQUEST_RECORDS: usize = 17;
 /// Bytes of a planner.
-pub const PLANNER_BYTES: usize = 740;
+pub const PLANNER_BYTES: usize = 768;
 /// Bytes of a model.
-pub const MODEL_BYTES: usize = 752;
+pub const MODEL_BYTES: usize = 792;
 /// Bytes of a meter.
 pub const METER_BYTES: usize = 136;
 /// Bytes of a dualoct.

@@ -87,7 +87,7 @@ impl Model {
 
     /// REFR: the row that a refresh is due for. It rises, modulo rows, after REFA to bank 31.
     pub fn refr(&self) -> u16 {
-        u16::from_le_bytes([self.bytes[732], self.bytes[733]])
+        u16::from_le_bytes([self.bytes[752], self.bytes[753]])
     }
 
     /// Takes `record`, of 32 bytes, as the device would: tests it by the rules of

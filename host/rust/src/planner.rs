@@ -136,7 +136,8 @@ impl Planner {
     /// waits added to it.
     pub fn now(&self) -> u32 {
         let b = &self.bytes;
-        u32::from_le_bytes([b[732], b[733], b[734], b[735]])
+        let stored = u32::from_le_bytes([b[752], b[753], b[754], b[755]]);
+        stored.saturating_add(3) // bytes that are no state may have any number here
     }
 
     /// Plans `request`: writes the records of its packets to the start of `room`, each packet at

@@ -4,7 +4,7 @@ use Prim.Native.Nat.{_+_, _-_, _*_, _≤_}
 use native.Mathlib.Omega.{arith}
 use lib.ListN.{getD, List·getD-eq-default}
 use Rattle.num.specs.Search.{allUpTo}
-use Rattle.marks.specs.Marks.{alone, apart}
+use Rattle.marks.specs.Marks.{alone, allApart}
 use Rattle.marks.proofs.AcrossLaws.{lone-next}
 use borrow.Author.Needs.{needs}
 use Rattle.marks.proofs.apart.Statement.{statement}
@@ -51,7 +51,7 @@ lone-requires-2 : tie.Need-lone-requires-2 Inv-loop μ-loop
 lone-requires-2 c κs = search needs
 
 returns : tie.Need-returns Inv-loop μ-loop
-unfolding apart
+unfolding allApart
 returns c =
     let at-loop = c .before .before in
     let ws = at-loop .before .before .before .args .ws .now in

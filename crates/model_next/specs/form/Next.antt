@@ -1,8 +1,9 @@
 -- What the code stores into the 792 bytes of a model for a record that is taken, in stored instants (less 3). The laws in proofs/
 -- say that this is the model after the record.
 -- Assumes nothing.
-use Prim.Native.Nat.{ℕ}
-use mathlib.Core.Bool.{cond}
+use Prim.Native.Nat.{ℕ, _<_}
+use mathlib.Core.Path.{_≡_}
+use mathlib.Core.Bool.{false, cond}
 use mathlib.Core.List.{List}
 use lib.Dec.{eqb}
 use lib.ListN.{getD}
@@ -29,6 +30,10 @@ rowNext s b (Act x row) t = actStored b x row t
 rowNext s b (Prer x) t = prerStored b x (lowOf s x) (highOf s x) t
 rowNext s b (Refa x) t = refaNext s b x t
 rowNext s b (Refp x) t = prerStored b x (lowOf s x) (highOf s x) t
+
+-- a write waits for a bank, where one waits
+abbrev pub HeldIn : List ℕ → Type 0
+HeldIn b = eqb (getD b 728 0) 0 ≡ false → getD b 736 0 < 32
 
 -- the retire of the waiting write, where one waits
 unfoldable pub leftNext : List ℕ → ℕ → List ℕ

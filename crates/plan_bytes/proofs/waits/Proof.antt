@@ -4,7 +4,7 @@ use Rattle.plan_bytes.proofs.waits.Statement.{statement}
 use Rattle.plan_bytes.proofs.waits.Tie as tie
 
 returns : tie.Need-returns
-returns c = cc
+returns c = rw (c .wide .ensures .0)
 
 pub waits-spec : {M : Type 1} → statement M
 waits-spec = tie.close (tie.spec (λ c. search needs) (λ c κs. search needs) returns)

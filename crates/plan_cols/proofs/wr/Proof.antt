@@ -32,7 +32,9 @@ add-result : tie.Need-add-result
 add-result c = omega (arith, c .before .before .before .before .before .before .before .before .before .before .before .before .before .before .before .before .before .before .before .before .before .pre .1 .1 .1, c .before .before .before .before .before .before .before .before .before .before .before .before .before .before .before .before .before .before .before .before .before .good .1 .1 .1 .1 .1 .0 .0)
 
 returns : tie.Need-returns
-returns c = wr-drawn _ _ _ (c .before .before .before .before .before .before .before .before .before .before .before .before .before .before .before .before .before .before .before .before .before .pre .0) (omega arith) (c .before .before .before .before .before .before .before .before .before .before .before .before .before .before .before .before .before .before .before .before .before .args .at) (c .before .before .before .before .before .before .before .before .before .before .before .before .before .before .before .before .before .before .before .before .before .args .mask) (c .before .before .before .before .before .before .before .before .before .before .before .before .before .before .before .before .before .before .before .before .before .args .d) (c .before .before .before .before .before .before .before .before .before .before .before .before .before .before .before .before .before .before .before .before .before .pre .1 .1 .0 .0) (c .before .before .before .before .before .before .before .before .before .before .before .before .before .before .before .before .before .before .before .before .before .pre .1 .1 .0 .2) _ _ _ _ _ _ refl (omega (arith, c .before .before .before .before .before .before .before .before .before .before .before .before .before .before .before .before .before .before .before .before .before .pre .1 .1 .1)) (rw (c .before .before .before .before .before .before .before .before .before .before .before .before .before .before .before .before .wr-at .ensures) at (c .before .before .put-wr .ensures)) (rw (c .before .before .before .before .before .before .before .before .before .before .before .before .before .before .before .before .wr-at .ensures, c .before .before .before .before .before .before .before .before .before .before .before .before .before .col-word .ensures, c .before .before .before .before .before .before .before .before .before .before .before .before .before .before .carried .ensures .0) at (c .before .before .before .before .before .before .before .before .before .before .before .put-record .ensures)) (rw (c .before .before .before .before .before .before .before .before .before .before .before .before .before .before .before .before .wr-at .ensures, c .before .before .before .before .before .before .before .wide32 .ensures .0) at (c .before .before .before .before .before .before .put-record2 .ensures))
+returns c =
+    let z = c .before .before .before .before .before .before .before .before .before .before .before .before .before .before .before .before .before .before .before .before .before in
+    wr-drawn _ _ _ (z .pre .0) (omega arith) (z .args .at) (z .args .mask) (z .args .d) (z .pre .1 .1 .0 .0) (z .pre .1 .1 .0 .2) _ _ _ _ _ _ _ refl (omega (arith, z .pre .1 .1 .1)) (rw (c .before .before .before .before .before .before .before .before .before .before .before .before .before .before .before .before .wr-at .ensures) at (c .before .before .put-wr .ensures)) (rw (c .before .before .before .before .before .before .before .before .before .before .before .before .before .before .before .before .wr-at .ensures, c .before .before .before .before .before .before .before .before .before .before .before .before .before .col-word .ensures) at (c .before .before .before .before .before .before .before .before .before .before .before .put-record .ensures)) (c .before .before .before .before .before .before .before .before .before .before .before .before .before .before .carried .ensures .0) (rw (c .before .before .before .before .before .before .before .before .before .before .before .before .before .before .before .before .wr-at .ensures, c .before .before .before .before .before .before .before .wide32 .ensures .0) at (c .before .before .before .before .before .before .put-record2 .ensures))
 
 pub wr-spec : {M : Type 1} → statement M
 wr-spec =

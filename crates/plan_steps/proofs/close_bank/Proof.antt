@@ -12,7 +12,7 @@ flush-if-requires : tie.Need-flush-if-requires
 flush-if-requires c κs =
     let z = c .before .before .before .before .before .before in
     let e = c .before .before .loses .ensures in
-    (ready-more _ 999998000 999999000 _ (omega arith) (z .pre .0), (z .pre .1 .0, (λ w. loses-waits (contextOf (z .args .s)) (drafted (z .args .b .now)) (z .args .x) _ e w, close-first _ _ _ (z .pre .0) (omega arith) (z .args .x) (z .pre .1 .1 .0) (z .args .room .now) (z .args .to) (z .pre .1 .1 .1 .1) _ e)))
+    (ready-more _ 999998000 999999000 _ (omega arith) (z .pre .0), (z .pre .1 .0, (λ w. loses-waits (contextOf (z .args .s)) (drafted (z .args .b .now)) (z .args .x) _ w e, close-first _ _ _ (z .pre .0) (omega arith) (z .args .x) (z .pre .1 .1 .0) (z .args .room .now) (z .args .to) (z .pre .1 .1 .1 .1) _ e)))
 
 prer-requires : tie.Need-prer-requires
 prer-requires c κs =

@@ -7,10 +7,7 @@ use lib.ListN.{length}
 use Rattle.spec_rules.specs.Neighbour.{contextOf}
 use Rattle.spec_plan.specs.Plan.{closedUpTo}
 use Rattle.plan_bytes.specs.form.Drawn.{drafted, Drawn}
-use Rattle.plan_bytes.proofs.ReadyLaws.{readies}
-use Rattle.plan_bytes.proofs.Compose.{drawn-none}
-use Rattle.plan_steps.proofs.Ranges.{up-to-none}
-use Rattle.plan_steps.proofs.Stepwise.{up-to-after, turn-fits, turn-drawn}
+use Rattle.plan_steps.proofs.Stepwise.{up-to-after, first-drawn, turn-fits, turn-drawn}
 use borrow.Author.Needs.{needs}
 use Rattle.plan_steps.proofs.close_from.Statement.{statement}
 use Rattle.plan_steps.proofs.close_from.Tie as tie
@@ -23,7 +20,9 @@ abbrev μ-loop : tie.MeasureT-loop
 μ-loop s b₀ first end room₀ start to₀ k₀ b room to k = end - k
 
 loop-holds : tie.Need-loop-holds Inv-loop μ-loop
-loop-holds c = (omega arith, (omega arith, (refl, (refl, rw (up-to-none (contextOf (c .before .before .args .s)) (drafted (c .before .before .args .b .now)) (c .before .before .args .first)) (drawn-none _ _ _ _ (readies _ _ _ (c .before .before .pre .0) .exact))))))
+loop-holds c =
+    let z = c .before .before in
+    (omega arith, (omega arith, (refl, (refl, first-drawn _ _ _ (z .pre .0) (omega arith) (z .args .first) (z .args .end) (z .pre .1 .1 .1 .0) (z .args .room .now) (z .args .start)))))
 
 close-open-requires : tie.Need-close-open-requires Inv-loop μ-loop
 close-open-requires c κs =

@@ -1,7 +1,5 @@
 -- `plan_steps::close_near` meets its contract.
-use Prim.Native.Nat.{_<_}
 use native.Mathlib.Omega.{arith}
-use Rattle.chan_view.specs.form.Beside.{lastNear}
 use Rattle.plan_bytes.specs.form.Drawn.{drafted}
 use Rattle.plan_bytes.proofs.Again.{ready-more}
 use Rattle.plan_steps.proofs.Ranges.{first-last, near-range}
@@ -12,19 +10,17 @@ use Rattle.plan_steps.proofs.close_near.Tie as tie
 close-from-requires : tie.Need-close-from-requires
 close-from-requires c κs =
     let z = c .before .before .before .before .before .before in
-    let l = c .before .before .last-near .ensures .1 in
-    let m = z .pre .1 .1 .0 in
-    let e : lastNear (z .args .s) (z .args .x) < 32 = rw (c .before .before .last-near .ensures .0) at l in
-    let f = rw (← near-range (z .args .s) (z .args .x) (drafted (z .args .b .now)) e) at (z .pre .1 .1 .1) in (
-      ready-more _ 999990000 999991000 _ (omega arith) (z .pre .0),
-      (z .pre .1 .0, (omega (arith, first-last (z .args .s) (z .args .x), c .before .before .before .first-near .ensures .0, c .before .before .last-near .ensures .0), (omega arith, rw (c .before .before .before .first-near .ensures .0, c .before .before .last-near .ensures .0) f))),
-    )
+    let first = c .before .before .before .first-near .ensures in
+    let last = c .before .before .last-near .ensures in
+    let e = near-range (z .args .s) (z .args .x) (z .pre .1 .1 .0) (drafted (z .args .b .now)) _ _ (first .0) (last .0) in
+    (ready-more _ 999990000 999991000 _ (omega arith) (z .pre .0), (z .pre .1 .0, (omega (arith, first-last (z .args .s) (z .args .x), first .0, last .0), (omega (arith, last .1), rw e (z .pre .1 .1 .1)))))
 
 returns : tie.Need-returns
 returns c =
     let z = c .before .before .before .before .before .before .before .before .before .before .before in
-    let e : lastNear (z .args .s) (z .args .x) < 32 = rw (c .before .before .before .before .before .before .before .last-near .ensures .0) at (c .before .before .before .before .before .before .before .last-near .ensures .1) in
-    rw (c .before .before .before .before .before .before .before .before .first-near .ensures .0, c .before .before .before .before .before .before .before .last-near .ensures .0, near-range (z .args .s) (z .args .x) (drafted (z .args .b .now)) e) at (c .before .before .before .before .close-from .ensures)
+    let first = c .before .before .before .before .before .before .before .before .first-near .ensures in
+    let last = c .before .before .before .before .before .before .before .last-near .ensures in
+    rw (near-range (z .args .s) (z .args .x) (z .pre .1 .1 .0) (drafted (z .args .b .now)) _ _ (first .0) (last .0)) at (c .before .before .before .before .close-from .ensures)
 
 pub close-near-spec : {M : Type 1} → statement M
 close-near-spec =

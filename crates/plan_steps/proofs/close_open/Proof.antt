@@ -1,6 +1,8 @@
 -- `plan_steps::close_open` meets its contract.
+use Prim.Native.Nat.{_+_, _*_}
 use mathlib.Core.Path.{sym, _∙_}
 use borrow.Author.Tests.{eq-eqb, ne-eqb}
+use Rattle.plan_bytes.specs.form.Numbers.{half}
 use Rattle.plan_bytes.proofs.ReadyLaws.{readies}
 use Rattle.plan_bytes.proofs.Compose.{drawn-none}
 use Rattle.plan_steps.proofs.Tested.{shut-is}
@@ -9,7 +11,10 @@ use Rattle.plan_steps.proofs.close_open.Statement.{statement}
 use Rattle.plan_steps.proofs.close_open.Tie as tie
 
 returns : tie.Need-returns
-returns c = rw (← shut-is (c .before .before .before .before .before .args .b .now) (c .before .before .before .before .before .args .x) (c .before .before .before .before .before .pre .1 .1 .0), eq-eqb _ _ (sym (c .before .tag .ensures) ∙ c .if1 .taken)) (drawn-none _ _ _ _ (readies _ _ _ (c .before .before .before .before .before .pre .0) .exact))
+returns c =
+    let z = c .before .before .before .before .before in
+    let e = sym (c .before .tag .ensures) ∙ c .if1 .taken in
+    rw (sym (shut-is (z .args .b .now) (z .args .x) (z .pre .1 .1 .0)) ∙ eq-eqb (half (z .args .b .now) (640 + 2 * z .args .x)) 0 e) (drawn-none _ _ _ _ (readies _ _ _ (z .pre .0) .exact))
 
 close-bank-requires : tie.Need-close-bank-requires
 close-bank-requires c κs =

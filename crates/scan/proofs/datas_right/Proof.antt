@@ -4,7 +4,7 @@ use mathlib.Core.Bool.{_&&_}
 use Prim.Native.Nat.{_+_, _-_, _*_, _≤_}
 use native.Mathlib.Omega.{arith}
 use Rattle.num.specs.Search.{allUpTo}
-use Rattle.scan.specs.Quick.{dataRight}
+use Rattle.scan.specs.form.Quick.{dataRight}
 use Rattle.scan.proofs.QuickLaws.{all-next}
 use borrow.Author.Needs.{needs}
 use Rattle.scan.proofs.datas_right.Statement.{statement}

@@ -4,7 +4,7 @@ use mathlib.Core.Bool.{true, _&&_, and-eq-true-iff}
 use Prim.Native.Nat.{_+_, _-_, _*_, _≤_}
 use native.Mathlib.Omega.{arith}
 use Rattle.num.specs.Search.{allUpTo}
-use Rattle.scan.specs.Quick.{wordRight}
+use Rattle.scan.specs.form.Quick.{wordRight}
 use Rattle.scan.proofs.QuickLaws.{all-next}
 use borrow.Author.Needs.{needs}
 use Rattle.scan.proofs.words_right.Statement.{statement}

@@ -23,6 +23,9 @@ int main(void)
     test_fresh();
     test_state();
     test_refused_states();
+    test_no_write();
+    test_stored_instants();
+    test_unused_bytes();
     test_lengths();
     test_order();
     test_spare_bytes();

@@ -96,11 +96,11 @@ void test_refresh_rows(void)
     for (unsigned i = 0; i < 12; i++) {
         static const unsigned BANKS[] = {30, 31, 0};
         unsigned instant = 4 + 28 * i, risen = (i + 2) / 3;
-        check(get(model + 732, 2) == (i % 3 == 2 ? risen : i / 3) % ROWS, "REFR before refresh %u", i);
+        check(get(model + 752, 2) == (i % 3 == 2 ? risen : i / 3) % ROWS, "REFR before refresh %u", i);
         snprintf(text, sizeof text, "%u REFA %u, %u REFP %u", instant, BANKS[i % 3], instant + 20, BANKS[i % 3]);
         run_more(text);
     }
-    check(get(model + 732, 2) == 0, "REFR after refreshes");
+    check(get(model + 752, 2) == 0, "REFR after refreshes");
     run_more("500 ACT 31 1, 520 PRER 31");
-    check(get(model + 732, 2) == 0, "REFR after ACT to bank 31");
+    check(get(model + 752, 2) == 0, "REFR after ACT to bank 31");
 }

@@ -13,67 +13,149 @@ void test_fresh(void)
     check(rdram_model_fresh(NULL, 0) == RDRAM_REFUSED_SETTINGS, "a fresh model at a null pointer");
 }
 
-#define DATA_11 {736, 8, 0xB7B6B5B4B3B2B1B0}, {744, 8, 0xBFBEBDBCBBBAB9B8}
+#define DATA_11 {760, 8, 0xB7B6B5B4B3B2B1B0}, {768, 8, 0xBFBEBDBCBBBAB9B8}
 
 void test_state(void)
 {
-    static const field DUE[] = {{8, 4, 4}, {136, 4, 4}, {644, 2, 2}, {704, 4, 5}, {708, 4, 4}, {712, 4, 5},
-                                {724, 1, 2}, {725, 1, 2}, {726, 1, 3}, {728, 4, 5}};
+    static const field DUE[] = {AT(8, 4), AT(136, 4), {644, 2, 2}, AT(704, 5), AT(708, 4), AT(712, 5),
+                                {728, 1, 1}, {729, 1, 1}, {736, 1, 2}, {737, 1, 3}, AT(740, 5)};
     run("4 ACT 2 1, 5 WR 2 3");
     check(state_is(model, MODEL, DUE, COUNT(DUE)), "state with data due");
-    static const field WAITING[] = {{8, 4, 4}, {136, 4, 4}, {644, 2, 2}, {704, 4, 5}, {708, 4, 4}, {712, 4, 5},
-                                    {724, 1, 1}, {725, 1, 2}, {726, 1, 3}, {728, 4, 5}, DATA_11};
+    static const field WAITING[] = {AT(8, 4), AT(136, 4), {644, 2, 2}, AT(704, 5), AT(708, 4), AT(712, 5),
+                                    {728, 1, 1}, {736, 1, 2}, {737, 1, 3}, AT(740, 5), DATA_11};
     run_more("11 D");
     check(state_is(model, MODEL, WAITING, COUNT(WAITING)), "state with a waiting write");
-    static const field REFRESH[] = {{8, 4, 4}, {136, 4, 4}, {512 + 8, 4, 13}, {644, 2, 2}, {124, 4, 12},
-                                    {702, 2, 65535}, {704, 4, 13}, {708, 4, 12}, {712, 4, 13}, {732, 2, 1}, DATA_11};
+    static const field REFRESH[] = {AT(8, 4), AT(136, 4), AT(512 + 8, 13), {644, 2, 2}, AT(124, 12),
+                                    {702, 2, 65535}, AT(704, 13), AT(708, 12), AT(712, 13), {752, 2, 1}, DATA_11};
     run_more("12 REFA 31, 13 NOCOP: wrote 16");
     check(state_is(model, MODEL, REFRESH, COUNT(REFRESH)), "state with a bank under refresh");
-    static const field CLOSED[] = {{8, 4, 4}, {136, 4, 4}, {256 + 8, 4, 24}, {256 + 12, 4, 24}, {256 + 120, 4, 32},
-                                   {256 + 124, 4, 32}, {512 + 8, 4, 13}, {124, 4, 12}, {704, 4, 32}, {708, 4, 32},
-                                   {712, 4, 13}, {716, 4, 32}, {732, 2, 1}, DATA_11};
+    static const field CLOSED[] = {AT(8, 4), AT(136, 4), AT(256 + 8, 24), AT(256 + 12, 24), AT(256 + 120, 32),
+                                   AT(256 + 124, 32), AT(512 + 8, 13), AT(124, 12), AT(704, 32), AT(708, 32),
+                                   AT(712, 13), AT(716, 32), {752, 2, 1}, DATA_11};
     run_more("24 PRER 3, 32 PRER 30");
     check(state_is(model, MODEL, CLOSED, COUNT(CLOSED)), "state after PRER to neighbours");
+    static const field LATEST[] = {AT(124, LAST - 40), AT(252, LAST - 40), AT(384 + 124, LAST - 8), {702, 2, 1},
+                                   AT(704, LAST - 8), AT(708, LAST - 40), AT(712, LAST - 8), AT(720, LAST - 8)};
+    run("999999960 ACT 31, 999999992 RD 31: reads");
+    check(state_is(model, MODEL, LATEST, COUNT(LATEST)), "state at the last instants");
 }
 
-/* Fields of a model with bank 2 open on row 1 and a waiting write in it. */
+/* States with bank 2 open on row 1: with no write, with one whose data are due, and with one that waits in it. */
+static uint8_t none_waits[MODEL], is_due[MODEL], waits[MODEL];
+
+static void make_states(void)
+{
+    run("4 ACT 2 1");
+    memcpy(none_waits, model, MODEL);
+    run_more("5 WR 2 3");
+    memcpy(is_due, model, MODEL);
+    run_more("11 D");
+    memcpy(waits, model, MODEL);
+}
+
+/* A state with one field changed. */
+static void use_state(const uint8_t *state, field changed)
+{
+    memcpy(model, state, MODEL);
+    put(model + changed.offset, changed.value, changed.bytes);
+}
+
+static int refused_with(const uint8_t *state, field changed)
+{
+    use_state(state, changed);
+    use_record("999999999 RD 2");
+    return refuses(RDRAM_REFUSED_SETTINGS, 0, DUALOCT);
+}
+
+/* Taken with a PRER at the last instant, which changes nothing but its own fields. */
+static int comes_back_with(const uint8_t *state, field changed)
+{
+    static uint8_t kept[MODEL];
+    static const int CHANGED[] = {256 + 80, 704, 708, 716};
+    use_state(state, changed);
+    memcpy(kept, model, MODEL);
+    use_record("1000000000 PRER 20");
+    rdram_stepped got = step(0);
+    for (size_t i = 0; i < COUNT(CHANGED); i++)
+        put(kept + CHANGED[i], LAST - 3, 4);
+    return is(got, 0, 0, 0, 0) && memcmp(model, kept, MODEL) == 0 && guards_stay();
+}
+
 void test_refused_states(void)
 {
     static const field BAD[] = {
-        /* instants */
-        {0, 4, 1}, {0, 4, 3}, {0, 4, LAST + 1}, {124, 4, 3}, {128, 4, 2}, {252, 4, LAST + 1}, {256, 4, 1},
-        {384, 4, 3}, {512, 4, 0xFFFFFFFF}, {636, 4, LAST + 1}, {704, 4, 3}, {708, 4, LAST + 1}, {712, 4, 1},
-        {716, 4, 2}, {720, 4, 1u << 31},
         /* a row that is not below 2, the bank of the waiting write closed or under refresh, neighbours */
         {640, 2, 3}, {656, 2, 513}, {702, 2, 65534}, {644, 2, 0}, {644, 2, 65535}, {642, 2, 1}, {646, 2, 65535},
-        {725, 1, 3}, {725, 1, 32},
-        /* buffer: other kinds, column, zero, instant */
-        {724, 1, 0}, {724, 1, 3}, {724, 1, 255}, {726, 1, 4}, {727, 1, 1}, {728, 4, 0}, {728, 4, 3},
-        {728, 4, LAST + 1},
-        /* REFR, zeros */
-        {732, 2, 2}, {732, 2, 256}, {732, 2, 65535}, {734, 1, 1}, {735, 1, 128}};
+        {736, 1, 3}, {736, 1, 32}, {736, 1, 255},
+        /* how many writes wait; whether data are due; column; no instant */
+        {728, 1, 0}, {728, 1, 2}, {728, 1, 255}, {729, 1, 2}, {729, 1, 255}, {737, 1, 4}, {737, 1, 255}, {740, 4, 0},
+        /* REFR */
+        {752, 2, 2}, {752, 2, 256}, {752, 2, 65535}};
     static const field GOOD[] = {
-        {0, 4, 0}, {0, 4, 4}, {636, 4, LAST}, {720, 4, LAST}, {644, 2, 1}, {648, 2, 2}, {702, 2, 65535},
-        {640, 2, 65535}, {726, 1, 0}, {728, 4, 4}, {732, 2, 0}, {732, 2, 1}, {736, 8, 0}, {744, 8, 0xFFFFFFFFFFFFFFFF}};
-    static uint8_t kept[MODEL];
-    for (size_t i = 0; i < COUNT(BAD); i++) {
-        run("4 ACT 2 1, 5 WR 2 3, 11 D");
-        put(model + BAD[i].offset, BAD[i].value, BAD[i].bytes);
-        use_record("999999999 RD 2");
-        check(refuses(RDRAM_REFUSED_SETTINGS, 0, DUALOCT), "state with %" PRIu64 " at %d", BAD[i].value, BAD[i].offset);
+        {644, 2, 1}, {648, 2, 2}, {702, 2, 65535}, {640, 2, 65535}, {736, 1, 2}, {737, 1, 0}, {737, 1, 3},
+        {752, 2, 0}, {752, 2, 1}, {760, 8, 0}, {768, 8, 0xFFFFFFFFFFFFFFFF}};
+    make_states();
+    for (size_t i = 0; i < COUNT(BAD); i++)
+        check(refused_with(waits, BAD[i]) && refused_with(is_due, BAD[i]), "state with %" PRIu64 " at %d", BAD[i].value,
+              BAD[i].offset);
+    for (size_t i = 0; i < COUNT(GOOD); i++)
+        check(comes_back_with(waits, GOOD[i]), "state with %" PRIu64 " at %d comes back", GOOD[i].value,
+              GOOD[i].offset);
+    use_state(waits, (field){729, 1, 1});
+    run_more("11 D");
+    check(model[729] == 0, "the data are due again, and come");
+}
+
+/* Where no write waits: one that has no instant, data due, and bank, column or instant of none. */
+void test_no_write(void)
+{
+    static const field BAD[] = {
+        {728, 1, 1}, {728, 1, 2}, {729, 1, 1}, {729, 1, 2}, {728, 2, 0x0101}, {736, 1, 2}, {736, 1, 32}, {737, 1, 1},
+        {740, 4, 1}, {740, 4, LAST - 3}, {740, 4, LAST}};
+    make_states();
+    for (size_t i = 0; i < COUNT(BAD); i++)
+        check(refused_with(none_waits, BAD[i]), "state without a write, %" PRIu64 " at %d", BAD[i].value,
+              BAD[i].offset);
+}
+
+/* Every last instant and that of the waiting write at and beyond the ends of their range. */
+void test_stored_instants(void)
+{
+    make_states();
+    for (int n = 0; n < LAST_INSTANTS + 1; n++) {
+        int last = n < LAST_INSTANTS, offset = last ? instant_offset(n) : 740, ok = 1;
+        for (size_t i = last ? 0 : 1; i < COUNT(IN_RANGE); i++) {
+            /* a record without coding: its refusal comes after that of a state, and before the rules */
+            use_state(waits, (field){offset, 4, IN_RANGE[i]});
+            use_record("4 PRER 20");
+            record[31] = 1;
+            ok &= refuses(RDRAM_REFUSED_WORD, 0, 0);
+        }
+        check(ok, "instants at %d that are not refused", offset);
+        ok = 1;
+        for (size_t i = 0; i < COUNT(OUT_OF_RANGE); i++)
+            ok &= refused_with(waits, (field){offset, 4, OUT_OF_RANGE[i]});
+        check(ok, "instants at %d that are refused", offset);
     }
-    for (size_t i = 0; i < COUNT(GOOD); i++) {
-        run("4 ACT 2 1, 5 WR 2 3, 11 D");
-        put(model + GOOD[i].offset, GOOD[i].value, GOOD[i].bytes);
-        memcpy(kept, model, MODEL);
-        use_record("1000000000 PRER 20");
-        rdram_stepped got = step(0);
-        /* what a PRER at the last instant changes */
-        put(kept + 256 + 80, LAST, 4);
-        put(kept + 704, LAST, 4);
-        put(kept + 708, LAST, 4);
-        put(kept + 716, LAST, 4);
-        check(is(got, 0, 0, 0, 0) && memcmp(model, kept, MODEL) == 0 && guards_stay(),
-              "state with %" PRIu64 " at %d comes back", GOOD[i].value, GOOD[i].offset);
-    }
+    check(comes_back_with(waits, (field){0, 4, 0}) && comes_back_with(waits, (field){0, 4, 1}), "the first instants");
+    check(comes_back_with(waits, (field){636, 4, LAST - 3}), "the last instant of a bank");
+    check(comes_back_with(waits, (field){720, 4, LAST - 3}), "the last instant of an RD");
+    check(comes_back_with(waits, (field){740, 4, 1}), "the first instant of a WR");
+    check(comes_back_with(waits, (field){740, 4, LAST - 3}), "the last instant of a WR");
+}
+
+/* Each bit of the bytes that no field uses. */
+void test_unused_bytes(void)
+{
+    static const int PARTS[][2] = {UNUSED, {754, 6}, {776, 16}};
+    make_states();
+    for (size_t i = 0; i < COUNT(PARTS); i++)
+        for (int byte = PARTS[i][0]; byte < PARTS[i][0] + PARTS[i][1]; byte++) {
+            int ok = 1;
+            for (int bit = 0; bit < 8; bit++) {
+                field one = {byte, 1, (uint64_t)1 << bit};
+                ok &= refused_with(waits, one) && refused_with(is_due, one) && refused_with(none_waits, one);
+            }
+            check(ok, "byte %d, which is not used", byte);
+        }
 }

@@ -18,6 +18,9 @@ int main(void)
     test_fresh();
     test_state();
     test_refused_states();
+    test_no_write();
+    test_stored_instants();
+    test_unused_bytes();
     test_requests();
     test_spare_bytes();
     test_lengths();

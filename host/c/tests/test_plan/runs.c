@@ -97,7 +97,7 @@ void test_refresh_banks(void)
         use_request("refresh");
         int ok = accepts(2 * RECORD);
         uint64_t bank = get(list + RECORD * (records - 1) + 8, 8) >> 13 & 31;
-        check(ok && bank == i % 32 && get(planner + 736, 2) == (i + 1) % 32, "refresh %u", i);
+        check(ok && bank == i % 32 && get(planner + 756, 2) == (i + 1) % 32, "refresh %u", i);
     }
     check(list_passes(), "refreshes pass the check");
 }

@@ -6,7 +6,7 @@ void test_fresh(void)
     begin();
     int ok = 1;
     for (size_t i = 0; i < sizeof planner; i++)
-        ok &= planner[i] == (i >= PLANNER ? 0xA5 : i == 732 ? 4 : 0);
+        ok &= planner[i] == (i >= PLANNER ? 0xA5 : i == 752 ? 1 : 0);
     check(ok, "bytes of a fresh planner");
     ok = other_lengths_refused(rdram_planner_fresh, planner, sizeof planner, PLANNER);
     check(ok, "a fresh planner of another length");
@@ -17,62 +17,128 @@ void test_state(void)
 {
     /* ACT 0 at 4, RD at 13, WR at 19 */
     static const field WAITING[] = {
-        {0, 4, 4}, {128, 4, 4}, {384, 4, 13}, {640, 2, 1},
-        {704, 4, 19}, {708, 4, 4}, {712, 4, 19}, {720, 4, 13},
-        {724, 1, 1}, {726, 1, 1}, {728, 4, 19}, {732, 4, 19}, {738, 2, 3}};
+        AT(0, 4), AT(128, 4), AT(384, 13), {640, 2, 1},
+        AT(704, 19), AT(708, 4), AT(712, 19), AT(720, 13),
+        {728, 1, 1}, {737, 1, 1}, AT(740, 19), AT(752, 19), {760, 2, 3}};
     plan_all("read 0 0 1, write 0 0 1 0003");
     check(state_is(planner, PLANNER, WAITING, COUNT(WAITING)), "state with a waiting write");
     /* run 1 to its end: NOCOP 27, RD 31, PRER 0 at 35, ACT 1 at 43, RD 52, PRER 1 at 63 */
     static const field DRAINED[] = {
-        {0, 4, 4}, {4, 4, 43}, {128, 4, 4}, {132, 4, 43}, {256, 4, 35}, {260, 4, 63},
-        {384, 4, 31}, {388, 4, 52}, {512, 4, 27},
-        {704, 4, 63}, {708, 4, 63}, {712, 4, 52}, {716, 4, 63}, {720, 4, 52},
-        {732, 4, 63}, {738, 2, 3}};
+        AT(0, 4), AT(4, 43), AT(128, 4), AT(132, 43), AT(256, 35), AT(260, 63),
+        AT(384, 31), AT(388, 52), AT(512, 27),
+        AT(704, 63), AT(708, 63), AT(712, 52), AT(716, 63), AT(720, 52),
+        AT(752, 63), {760, 2, 3}};
     plan_all("read 0 0 1, write 0 0 1 0003, read 0 0 1, read 1 0 0, drain");
     check(state_is(planner, PLANNER, DRAINED, COUNT(DRAINED)), "state after run 1");
     /* REFA 0 at 4, REFP 0 at 24, ACT 31 at 28, RD at 37, a wait */
     static const field REFRESHED[] = {
-        {0, 4, 4}, {124, 4, 28}, {252, 4, 28}, {256, 4, 24}, {508, 4, 37}, {702, 2, 2},
-        {704, 4, 37}, {708, 4, 28}, {712, 4, 37}, {716, 4, 24}, {720, 4, 37},
-        {732, 4, 1037}, {736, 2, 1}};
+        AT(0, 4), AT(124, 28), AT(252, 28), AT(256, 24), AT(508, 37), {702, 2, 2},
+        AT(704, 37), AT(708, 28), AT(712, 37), AT(716, 24), AT(720, 37),
+        AT(752, 1037), {756, 2, 1}};
     plan_all("refresh, read 31 1 0, wait 1000");
     check(state_is(planner, PLANNER, REFRESHED, COUNT(REFRESHED)), "state after a refresh");
+    /* ACT 31, WR one later, a wait to the last instant */
+    static const field LATEST[] = {
+        AT(124, LAST - 16), AT(252, LAST - 16), {702, 2, 2}, AT(704, LAST - 15), AT(708, LAST - 16), AT(712, LAST - 15),
+        {728, 1, 1}, {736, 1, 31}, {737, 1, 3}, AT(740, LAST - 15), AT(752, LAST), {760, 2, 0xABCD}};
+    plan_all("wait 999999980, write 31 1 3 ABCD, wait 15");
+    check(state_is(planner, PLANNER, LATEST, COUNT(LATEST)), "state at the last instant");
 }
 
-/* Fields of a planner with bank 0 open on row 0 and a waiting write in it. */
+/* States with bank 0 open on row 0, and with a write waiting in it or none. */
+static uint8_t waits[PLANNER], none_waits[PLANNER];
+
+static void make_states(void)
+{
+    plan_all("read 0 0 1");
+    memcpy(none_waits, planner, PLANNER);
+    plan_all("write 0 0 1 0003");
+    memcpy(waits, planner, PLANNER);
+    use_request("wait 0");
+}
+
+/* A state with one field changed. */
+static void use_state(const uint8_t *state, field changed)
+{
+    memcpy(planner, state, PLANNER);
+    put(planner + changed.offset, changed.value, changed.bytes);
+}
+
+static int refused_with(const uint8_t *state, field changed)
+{
+    use_state(state, changed);
+    return refuses(RDRAM_REFUSED_SETTINGS, PLANNER, REQUEST, ROOM);
+}
+
+static int comes_back_with(const uint8_t *state, field changed)
+{
+    use_state(state, changed);
+    return accepts(0) && memcmp(planner, planner_before, PLANNER) == 0;
+}
+
 void test_refused_states(void)
 {
     static const field BAD[] = {
-        /* instants of banks */
-        {0, 4, 1}, {0, 4, 3}, {0, 4, LAST + 1}, {124, 4, 3}, {128, 4, 2}, {252, 4, LAST + 1},
-        {256, 4, 1}, {384, 4, 3}, {512, 4, 0xFFFFFFFF}, {636, 4, LAST + 1},
-        /* last instants */
-        {704, 4, 3}, {708, 4, LAST + 1}, {712, 4, 1}, {716, 4, 2}, {720, 4, 1u << 31},
         /* a row that is not below 2, a bank under refresh */
         {640, 2, 3}, {656, 2, 513}, {702, 2, 3}, {702, 2, 65535}, {640, 2, 65535},
         /* the bank of the waiting write closed, an open neighbour */
-        {640, 2, 0}, {642, 2, 1}, {725, 1, 1}, {725, 1, 32},
-        /* buffer: other kinds, data due, column, zero, instant */
-        {724, 1, 0}, {724, 1, 2}, {724, 1, 3}, {726, 1, 4}, {727, 1, 1},
-        {728, 4, 0}, {728, 4, 3}, {728, 4, LAST + 1},
-        /* now and refresh bank */
-        {732, 4, 0}, {732, 4, 3}, {732, 4, LAST + 1}, {736, 2, 32}, {736, 2, 256}, {736, 2, 65535}};
+        {640, 2, 0}, {642, 2, 1}, {736, 1, 1}, {736, 1, 32}, {736, 1, 255},
+        /* how many writes wait; data due; the column */
+        {728, 1, 0}, {728, 1, 2}, {728, 1, 255}, {729, 1, 1}, {729, 1, 2}, {729, 1, 255}, {737, 1, 4}, {737, 1, 255},
+        /* no instant of the waiting write, no now; the refresh bank */
+        {740, 4, 0}, {752, 4, 0}, {756, 2, 32}, {756, 2, 256}, {756, 2, 65535}};
     static const field GOOD[] = {
-        {0, 4, 0}, {0, 4, 4}, {0, 4, LAST}, {636, 4, LAST}, {704, 4, 0}, {720, 4, LAST},
-        {640, 2, 2}, {644, 2, 1}, {702, 2, 2}, {726, 1, 3}, {728, 4, 4}, {728, 4, LAST},
-        {732, 4, 4}, {732, 4, LAST}, {736, 2, 31}, {738, 2, 0}, {738, 2, 65535}};
-    for (size_t i = 0; i < COUNT(BAD); i++) {
-        plan_all("write 0 0 1 0003");
-        put(planner + BAD[i].offset, BAD[i].value, BAD[i].bytes);
-        use_request("wait 0");
-        check(refuses(RDRAM_REFUSED_SETTINGS, PLANNER, REQUEST, ROOM), "state with %" PRIu64 " at %d", BAD[i].value,
+        {640, 2, 2}, {644, 2, 1}, {702, 2, 2}, {737, 1, 0}, {737, 1, 3},
+        {756, 2, 0}, {756, 2, 31}, {760, 2, 0}, {760, 2, 65535}};
+    make_states();
+    for (size_t i = 0; i < COUNT(BAD); i++)
+        check(refused_with(waits, BAD[i]), "state with %" PRIu64 " at %d", BAD[i].value, BAD[i].offset);
+    for (size_t i = 0; i < COUNT(GOOD); i++)
+        check(comes_back_with(waits, GOOD[i]), "state with %" PRIu64 " at %d comes back", GOOD[i].value,
+              GOOD[i].offset);
+}
+
+/* Where no write waits: one that has no instant, data due, and bank, column or instant of none. */
+void test_no_write(void)
+{
+    static const field BAD[] = {
+        {728, 1, 1}, {728, 1, 2}, {729, 1, 1}, {729, 1, 2}, {728, 2, 0x0101}, {736, 1, 1}, {736, 1, 32}, {737, 1, 1},
+        {740, 4, 1}, {740, 4, LAST - 3}, {740, 4, LAST}};
+    make_states();
+    for (size_t i = 0; i < COUNT(BAD); i++)
+        check(refused_with(none_waits, BAD[i]), "state without a write, %" PRIu64 " at %d", BAD[i].value,
               BAD[i].offset);
+}
+
+/* Every last instant, that of the waiting write and now, at and beyond the ends of their range. */
+void test_stored_instants(void)
+{
+    make_states();
+    for (int n = 0; n < LAST_INSTANTS + 2; n++) {
+        int last = n < LAST_INSTANTS, ok = 1;
+        int offset = last ? instant_offset(n) : n == LAST_INSTANTS ? 740 : 752;
+        for (size_t i = last ? 0 : 1; i < COUNT(IN_RANGE); i++)
+            ok &= comes_back_with(waits, (field){offset, 4, IN_RANGE[i]});
+        check(ok, "instants at %d that come back", offset);
+        ok = 1;
+        for (size_t i = 0; i < COUNT(OUT_OF_RANGE); i++)
+            ok &= refused_with(waits, (field){offset, 4, OUT_OF_RANGE[i]});
+        check(ok, "instants at %d that are refused", offset);
     }
-    for (size_t i = 0; i < COUNT(GOOD); i++) {
-        plan_all("write 0 0 1 0003");
-        put(planner + GOOD[i].offset, GOOD[i].value, GOOD[i].bytes);
-        use_request("wait 0");
-        int ok = accepts(0) && memcmp(planner, planner_before, PLANNER) == 0;
-        check(ok, "state with %" PRIu64 " at %d comes back", GOOD[i].value, GOOD[i].offset);
-    }
+}
+
+/* Each bit of the bytes that no field uses. */
+void test_unused_bytes(void)
+{
+    static const int PARTS[][2] = {UNUSED, {758, 2}, {762, 6}};
+    make_states();
+    for (size_t i = 0; i < COUNT(PARTS); i++)
+        for (int byte = PARTS[i][0]; byte < PARTS[i][0] + PARTS[i][1]; byte++) {
+            int ok = 1;
+            for (int bit = 0; bit < 8; bit++) {
+                field one = {byte, 1, (uint64_t)1 << bit};
+                ok &= refused_with(waits, one) && refused_with(none_waits, one);
+            }
+            check(ok, "byte %d, which is not used", byte);
+        }
 }

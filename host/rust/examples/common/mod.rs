@@ -64,21 +64,17 @@ pub fn timed<T>(work: impl FnOnce() -> T) -> f64 {
     start.elapsed().as_secs_f64() * 1e9
 }
 
-/// The times of a call on each slice of some inputs.
-pub fn time_slices<A, B>(inputs: &[A], mut call: impl FnMut(&[A]) -> B) -> Vec<f64> {
-    let slices = inputs.chunks(SLICE);
-    slices
-        .map(|slice| timed(|| call(black_box(slice))))
-        .collect()
-}
-
 /// The times of a call on each of some inputs, in slices.
 pub fn time<A, B>(inputs: &[A], mut call: impl FnMut(&A) -> B) -> Vec<f64> {
-    time_slices(inputs, |slice| {
-        for input in slice {
-            black_box(call(black_box(input)));
-        }
-    })
+    let slices = inputs.chunks(SLICE);
+    let slice_time = |slice: &[A]| {
+        timed(|| {
+            for input in slice {
+                black_box(call(black_box(input)));
+            }
+        })
+    };
+    slices.map(slice_time).collect()
 }
 
 /// Nanoseconds for one of `count` that each work does, by the best time of each of its slices. The

@@ -6,7 +6,7 @@ use crate::lists::{any_items, change, half_legal, legal, list_bytes, Item, Setti
 use crate::model_calls::{any_store, compare, fresh, small_numbers, Case, Run, Seen};
 use crate::random::{bytes, rounds, set_h, Random};
 use crate::reference::{number, COLUMNS, NOCOP, ROWS, T_CWD};
-use crate::reference_state::{put, DUE};
+use crate::reference_state::{instant, put, DUE, WRITE_AT};
 
 /// Gives some masks another number of ones, so that each number comes often.
 fn remask(random: &mut Random, items: &mut [Item]) {
@@ -69,12 +69,12 @@ fn damaged(random: &mut Random, record: &[u8]) -> Vec<u8> {
 
 /// The D that is due, if any.
 fn due_data(random: &mut Random, run: &Run) -> Option<Vec<u8>> {
-    let at = number(&run.state[728..732]) + number(&run.settings[2 * T_CWD..2 * T_CWD + 2]);
+    let at = instant(&run.state, WRITE_AT) + number(&run.settings[2 * T_CWD..2 * T_CWD + 2]);
     let mut record = vec![0; 32];
     put(&mut record, 0, 4, at);
     record[4] = 2;
     record[16..].copy_from_slice(&random.bytes(16));
-    (run.state[724] == DUE).then_some(record)
+    (run.state[DUE] == 1).then_some(record)
 }
 
 /// Gives the model a list: each record now and then damaged first, or with too little room. Where
@@ -223,7 +223,7 @@ fn lengths() {
             refuse(&mut seen, &Case { record, ..case }, 13);
         }
         let long = [&model[..], &model[..]].concat();
-        for length in (0..=long.len()).filter(|n| *n != 752) {
+        for length in (0..=long.len()).filter(|n| *n != model.len()) {
             let model = &long[..length];
             refuse(&mut seen, &Case { model, ..case }, 1);
         }
@@ -271,7 +271,7 @@ fn order_of_refusals() {
     let model = &run.state[1..];
     refuse(&mut seen, &Case { model, ..case }, 1);
     let mut bad = run.state.clone();
-    bad[735] = 1;
+    bad[759] = 1;
     refuse(
         &mut seen,
         &Case {

@@ -135,7 +135,7 @@ fn compare_wrapper(case: &Case, want: &Want) {
     let after = buffers(case, want);
     let bytes = model.to_bytes();
     assert!((&bytes[..], &store[..], &answer) == (after.0, after.1, &after.2));
-    assert_eq!(u64::from(model.refr()), number(&after.0[732..734]));
+    assert_eq!(u64::from(model.refr()), number(&after.0[752..754]));
 }
 
 fn compare_tuned(case: &Case, want: &Want) {
@@ -264,7 +264,7 @@ impl Seen {
         let waiting = run.reference.waiting();
         let own = p.is_some_and(|p| waiting == Some((p.bank, p.place)));
         let retires = matches!(event, Event::Retired(_));
-        let refr = |state: &[u8]| number(&state[732..734]);
+        let refr = |state: &[u8]| number(&state[752..754]);
         let starts_again = refr(before) == f.rows - 1 && refr(&run.state) == 0;
         let shapes = [
             *event == Event::Neither,

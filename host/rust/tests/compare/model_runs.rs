@@ -220,7 +220,7 @@ fn refresh_rows() {
         let mut run = Run::new(&numbers, vec![0; 512 * usize::from(rows)]);
         let mut instant = 4;
         for turn in 0..4 * u32::from(rows) + 1 {
-            let refr = |run: &Run| u32::from(run.state[732]);
+            let refr = |run: &Run| u32::from(run.state[752]);
             assert_eq!(refr(&run), turn % u32::from(rows));
             for bank in [0, 15, 16, 30, 31] {
                 let before = refr(&run);

@@ -9,9 +9,12 @@ use crate::random::{bytes, rounds, set_h, Random};
 use crate::reference::{Fields, ACT, COLUMNS, NOCOP, PRER, REFA, ROWS, T_CWD, WR};
 use crate::reference_model::{state_fits, STATE_BYTES};
 use crate::reference_rules::near;
-use crate::reference_state::{put, tag};
-use crate::state_bytes::{assert_every_byte, fields, Field, Instants};
+use crate::reference_state::{instant, put, put_write, tag, DUE, WAITING, WRITE_AT};
+use crate::state_bytes::{
+    any_counts, assert_every_byte, ends, fields, unused, Field, Instants, UNUSED,
+};
 use rdram::raw::rdram_model_fresh;
+use std::ops::Range;
 
 /// A call from any bytes as model; answers number and rule, or what was taken.
 fn call(numbers: &[u16; 16], model: &[u8], store: &[u8], record: &[u8]) -> Result<u32, (u32, u32)> {
@@ -64,12 +67,24 @@ fn reached(random: &mut Random, numbers: &[u16; 16]) -> Run {
     run
 }
 
-/// The fields after those that planner and model have in common.
-const OWN: [Field; 5] = [(732, 2), (734, 1), (735, 1), (736, 8), (744, 8)];
+// What a model has after the bytes that it has in common with a planner: REFR, the data, and bytes
+// that are 0.
+const REFR: usize = 752;
+const DATA: usize = 760;
+const DATA_HALVES: [usize; 2] = [DATA, DATA + 8];
+const OWN_UNUSED: [Range<usize>; 2] = [754..DATA, 776..STATE_BYTES];
+
+fn own() -> Vec<Field> {
+    let [before, after] = OWN_UNUSED.map(unused);
+    let refr = [(REFR, 2)].into_iter().chain(before);
+    refr.chain(DATA_HALVES.map(|at| (at, 8)))
+        .chain(after)
+        .collect()
+}
 
 #[test]
 fn fields_have_every_byte() {
-    assert_every_byte(&fields(&OWN), STATE_BYTES);
+    assert_every_byte(&fields(&own()), STATE_BYTES);
 }
 
 /// Each field at and beyond the ends of its range; a PRER at the last instant shows that the others
@@ -81,13 +96,9 @@ fn damaged_field_by_field() {
     for _ in 0..60 {
         let numbers = small_numbers(&mut random);
         let run = reached(&mut random, &numbers);
-        let (rows, columns) = (u64::from(numbers[ROWS]), u64::from(numbers[COLUMNS]));
         let record = late_prer(&numbers, random.below(32) as u32);
-        let last = u64::from(LAST);
-        for (at, width) in fields(&OWN) {
-            let ends = [0, 1, 2, 3, 4, 5, 31, 32, last, last + 1, 1 << 31, u64::MAX];
-            let more = [rows - 1, rows, rows + 1, columns - 1, columns, 512, 513];
-            for value in ends.into_iter().chain(more).chain([65_534, 65_535]) {
+        for (at, width) in fields(&own()) {
+            for value in ends(&numbers) {
                 let mut damaged = run.state.clone();
                 put(&mut damaged, at, width, value);
                 let number = number(call(&numbers, &damaged, &run.store, &record));
@@ -98,14 +109,35 @@ fn damaged_field_by_field() {
         }
     }
     seen.report("model, states damaged field by field", &[0, 1, 11]);
-    for (at, _) in fields(&OWN).into_iter().filter(|(at, _)| *at < 736) {
-        assert!(
-            refused[at] > 0,
-            "no damage of the field at {at} was refused"
+    for (at, _) in fields(&own()) {
+        // Any data will do.
+        assert_eq!(
+            refused[at] == 0,
+            DATA_HALVES.contains(&at),
+            "the field at {at}"
         );
     }
-    assert_eq!(refused[736] + refused[744], 0, "any data will do");
     assert!(taken > 20_000, "{taken} taken");
+}
+
+/// Each bit of each byte that is 0 in all states.
+#[test]
+fn unused_bytes() {
+    let (mut seen, mut random) = (Numbers::default(), Random::new(95));
+    for _ in 0..20 {
+        let numbers = small_numbers(&mut random);
+        let (run, record) = (reached(&mut random, &numbers), late_prer(&numbers, 9));
+        for at in UNUSED.into_iter().chain(OWN_UNUSED).flatten() {
+            for bit in 0..8 {
+                let mut damaged = run.state.clone();
+                damaged[at] = 1 << bit;
+                let answer = call(&numbers, &damaged, &run.store, &record);
+                assert_eq!(answer, Err((1, 0)), "bit {bit} of byte {at}");
+                seen.add(1);
+            }
+        }
+    }
+    seen.report("model, states with bytes that are not used", &[1]);
 }
 
 /// Any bytes changed, and any record.
@@ -119,7 +151,7 @@ fn damaged_bytes() {
             let mut damaged = run.state.clone();
             for _ in 0..1 + random.below(3) {
                 let any = random.below(STATE_BYTES);
-                let late = 640 + random.below(112);
+                let late = 640 + random.below(STATE_BYTES - 640);
                 let at = random.pick(&[any, late]);
                 let flipped = damaged[at] ^ 1 << random.below(8);
                 damaged[at] = random.pick(&[0, 1, 2, flipped]);
@@ -175,20 +207,41 @@ fn bank_of_the_waiting_write() {
         mask: 0x1234,
     };
     for bank in 0..=255u8 {
-        for (kind, tag) in [1, 2]
+        for (due, tag) in [false, true]
             .into_iter()
-            .flat_map(|k| [0, 1, 2, 3, 65_535].map(|t| (k, t)))
+            .flat_map(|due| [0, 1, 2, 3, 65_535].map(|t| (due, t)))
         {
             let mut state = fresh();
-            (state[724], state[725]) = (kind, bank);
-            put(&mut state, 728, 4, 4);
+            put_write(&mut state, bank, 0, 4, due);
             put(&mut state, 640 + 2 * usize::from(bank % 32), 2, tag);
             let record = record(&numbers, 900, Some(nocop));
             let answer = call(&numbers, &state, &store, &record);
             let open = bank < 32 && (tag == 1 || tag == 2);
-            let want = if kind == 1 { Ok(0) } else { Err((11, 15)) };
+            let want = if due { Err((11, 15)) } else { Ok(0) };
             assert_eq!(answer, if open { want } else { Err((1, 0)) });
         }
+    }
+}
+
+/// One write waits, its data due or not, or none and its fields are 0.
+#[test]
+fn counts_of_writes() {
+    let (numbers, store) = (set_h(2, 4, 0), vec![3; 4096]);
+    for (count, due, write) in any_counts() {
+        let mut state = fresh();
+        put(&mut state, 640, 2, 1);
+        if write {
+            put_write(&mut state, 0, 3, 4, false);
+        }
+        (state[WAITING], state[DUE]) = (count, due);
+        let answer = call(&numbers, &state, &store, &late_prer(&numbers, 9));
+        let want = match (count, due) {
+            (0, 0) if !write => Ok(0),
+            (1, 0) if write => Ok(0),
+            (1, 1) if write => Err((11, 15)),
+            _ => Err((1, 0)),
+        };
+        assert_eq!(answer, want, "{count} writes, due {due}, {write}");
     }
 }
 
@@ -218,20 +271,19 @@ fn any_state(random: &mut Random, numbers: &[u16; 16]) -> Vec<u8> {
     let open = any_banks(random, numbers, &mut state);
     if !open.is_empty() && random.below(3) > 0 {
         let column = random.below(numbers[COLUMNS].into());
-        let kind = random.pick(&[1, 1, 2]);
-        (state[724], state[725], state[726]) = (kind, random.pick(&open) as u8, column as u8);
-        let number = instants.instant(random, false);
-        put(&mut state, 728, 4, number);
+        let due = random.pick(&[false, false, true]);
+        let (bank, at) = (random.pick(&open), instants.instant(random, false));
+        put_write(&mut state, bank as u8, column as u8, at, due);
     }
     let refr = random.below(numbers[ROWS].into());
-    put(&mut state, 732, 2, refr as u64);
-    state[736..].copy_from_slice(&random.bytes(16));
+    put(&mut state, REFR, 2, refr as u64);
+    state[DATA..DATA + 16].copy_from_slice(&random.bytes(16));
     state
 }
 
 /// A record at an instant that some field of the state decides, give or take.
 fn any_record(random: &mut Random, numbers: &[u16; 16], state: &[u8]) -> Vec<u8> {
-    let field = |at: usize| u32::from_le_bytes(state[at..at + 4].try_into().unwrap());
+    let field = |at: usize| instant(state, at) as u32;
     let latest = (0..640).chain(704..724).step_by(4).map(field);
     let latest = latest.filter(|at| *at <= LAST).max().unwrap_or(4);
     let mut packet = random.packet(numbers);
@@ -251,12 +303,12 @@ fn any_record(random: &mut Random, numbers: &[u16; 16], state: &[u8]) -> Vec<u8>
         packet.mask = 0xFFFF;
     }
     let t_cwd = u32::from(numbers[T_CWD]);
-    if state[724] == 2 && !random.chance(8) {
-        let at = field(728).wrapping_add(t_cwd);
+    if state[DUE] == 1 && !random.chance(8) {
+        let at = field(WRITE_AT).wrapping_add(t_cwd);
         return record(numbers, at.wrapping_add(u32::from(random.chance(8))), None);
     }
     if packet.command == WR && random.chance(16) {
-        return record(numbers, field(728).wrapping_add(t_cwd), None);
+        return record(numbers, field(WRITE_AT).wrapping_add(t_cwd), None);
     }
     let late = latest.wrapping_add(random.below(80) as u32);
     let any = field(4 * random.below(160));

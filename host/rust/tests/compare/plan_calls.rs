@@ -7,6 +7,7 @@ use crate::plan_streams::{DRAIN, READ, REFRESH, WAIT, WRITE};
 use crate::random::bytes;
 use crate::reference::{NOCOP, PRER, RD, WR};
 use crate::reference_plan::{self as reference, STATE_BYTES};
+use crate::reference_state::instant;
 use crate::tuned_plan;
 use rdram::{raw, Planner, Refusal, Request};
 
@@ -121,6 +122,9 @@ fn compare_wrappers(case: &Case, want: &Want) {
     let got = planner.plan_bytes(&settings, case.request, &mut room);
     assert_eq!(got, answer);
     assert!((planner.to_bytes().to_vec(), room) == after);
+    if got.is_ok() {
+        assert_eq!(u64::from(planner.now()), instant(&after.0, 752));
+    }
     if let Some(request) = typed_request(case.request) {
         let (mut planner, mut room) = (Planner::from_bytes(state), pattern(case.room));
         assert_eq!(planner.plan(&settings, &request, &mut room), answer);
@@ -147,7 +151,7 @@ pub fn compare(case: &Case, want: &Want) {
 pub fn fresh() -> Vec<u8> {
     let bytes = buffers::fresh(raw::rdram_planner_fresh, STATE_BYTES);
     assert!(bytes == Planner::fresh().to_bytes());
-    let mut tuned = [0; STATE_BYTES];
+    let mut tuned = [1; STATE_BYTES];
     tuned_plan::Planner::fresh().encode(&mut tuned);
     assert!(bytes == tuned);
     bytes

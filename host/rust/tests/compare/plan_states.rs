@@ -9,10 +9,13 @@ use crate::plan_streams::{bare, read, wait, write, Maker, DRAIN};
 use crate::random::{bytes, rounds, set_h, Random};
 use crate::reference::{COLUMNS, ROWS};
 use crate::reference_plan::{state_fits, STATE_BYTES};
-use crate::reference_state::{put, LAST};
-use crate::state_bytes::{assert_every_byte, fields, Field, Instants};
+use crate::reference_state::{put, put_instant, put_write, DUE, WAITING};
+use crate::state_bytes::{
+    any_counts, assert_every_byte, ends, fields, unused, Field, Instants, UNUSED,
+};
 use crate::tuned_plan;
 use rdram::raw::rdram_planner_fresh;
+use std::ops::Range;
 
 /// A call from any bytes as planner; answers its number.
 fn call(numbers: &[u16; 16], planner: &[u8], request: &[u8], room: usize) -> u32 {
@@ -42,12 +45,22 @@ fn reached(random: &mut Random, numbers: &[u16; 16]) -> Vec<u8> {
     run.state
 }
 
-/// The fields after those that planner and model have in common.
-const OWN: [Field; 3] = [(732, 4), (736, 2), (738, 2)];
+// What a planner has after the bytes that it has in common with a model: now, the refresh bank, the
+// mask, and bytes that are 0.
+const NOW: usize = 752;
+const REFRESH: usize = 756;
+const MASK: usize = 760;
+const OWN_UNUSED: [Range<usize>; 2] = [758..MASK, 762..STATE_BYTES];
+
+fn own() -> Vec<Field> {
+    let [before, after] = OWN_UNUSED.map(unused);
+    let first = [(NOW, 4), (REFRESH, 2)].into_iter().chain(before);
+    first.chain([(MASK, 2)]).chain(after).collect()
+}
 
 #[test]
 fn fields_have_every_byte() {
-    assert_every_byte(&fields(&OWN), STATE_BYTES);
+    assert_every_byte(&fields(&own()), STATE_BYTES);
 }
 
 /// Each field at and beyond the ends of its range; a request that makes no record shows a state that
@@ -59,21 +72,8 @@ fn damaged_field_by_field() {
     for _ in 0..60 {
         let numbers = rule_numbers(&mut random);
         let state = reached(&mut random, &numbers);
-        let (rows, columns) = (u64::from(numbers[ROWS]), u64::from(numbers[COLUMNS]));
-        for (at, width) in fields(&OWN) {
-            let ends = [0, 1, 2, 3, 4, 5, 31, 32, LAST, LAST + 1, 1 << 31];
-            let more = [
-                rows,
-                rows + 1,
-                columns - 1,
-                columns,
-                512,
-                513,
-                65_534,
-                65_535,
-                u64::MAX,
-            ];
-            for value in ends.into_iter().chain(more) {
+        for (at, width) in fields(&own()) {
+            for value in ends(&numbers) {
                 let mut damaged = state.clone();
                 put(&mut damaged, at, width, value);
                 let number = call(&numbers, &damaged, &wait(0), 0);
@@ -83,13 +83,31 @@ fn damaged_field_by_field() {
         }
     }
     seen.report("plan, states damaged field by field", &[0, 1]);
-    for (at, _) in fields(&OWN).into_iter().filter(|(at, _)| *at != 738) {
-        assert!(
-            refused[at] > 0,
-            "no damage of the field at {at} was refused"
-        );
+    for (at, _) in fields(&own()) {
+        // Any mask will do.
+        assert_eq!(refused[at] == 0, at == MASK, "the field at {at}");
     }
-    assert_eq!(refused[738], 0, "any mask will do");
+}
+
+/// Each bit of each byte that is 0 in all states.
+#[test]
+fn unused_bytes() {
+    let (mut seen, mut random) = (Numbers::default(), Random::new(74));
+    for _ in 0..20 {
+        let numbers = rule_numbers(&mut random);
+        let state = reached(&mut random, &numbers);
+        assert_eq!(call(&numbers, &state, &wait(0), 0), 0);
+        for at in UNUSED.into_iter().chain(OWN_UNUSED).flatten() {
+            for bit in 0..8 {
+                let mut damaged = state.clone();
+                damaged[at] = 1 << bit;
+                let number = call(&numbers, &damaged, &wait(0), 0);
+                assert_eq!(number, 1, "bit {bit} of byte {at}");
+                seen.add(number);
+            }
+        }
+    }
+    seen.report("plan, states with bytes that are not used", &[1]);
 }
 
 /// Any byte changed, and a request of any kind.
@@ -106,7 +124,7 @@ fn damaged_bytes() {
             let mut damaged = state.clone();
             for _ in 0..1 + random.below(3) {
                 let any = random.below(STATE_BYTES);
-                let late = 640 + random.below(100);
+                let late = 640 + random.below(STATE_BYTES - 640);
                 let at = random.pick(&[any, late]);
                 let flipped = damaged[at] ^ 1 << random.below(8);
                 damaged[at] = random.pick(&[0, 1, flipped]);
@@ -184,13 +202,33 @@ fn bank_of_the_waiting_write() {
     for bank in 0..=255u8 {
         for tag in [0, 1, 2, 3, 65_535] {
             let mut state = fresh();
-            (state[724], state[725]) = (1, bank);
-            put(&mut state, 728, 4, 4);
+            put_write(&mut state, bank, 0, 4, false);
             put(&mut state, 640 + 2 * usize::from(bank % 32), 2, tag);
             let number = call(&numbers, &state, &bare(DRAIN), ENOUGH);
             let open = bank < 32 && (tag == 1 || tag == 2);
             assert_eq!(number == 0, open, "bank {bank}, {tag}");
         }
+    }
+}
+
+/// One write waits, or none and its fields are 0; no data are due.
+#[test]
+fn counts_of_writes() {
+    let numbers = set_h(2, 4, 0);
+    for (count, due, write) in any_counts() {
+        let mut state = fresh();
+        put(&mut state, 640, 2, 1);
+        if write {
+            put_write(&mut state, 0, 3, 4, false);
+        }
+        (state[WAITING], state[DUE]) = (count, due);
+        let number = call(&numbers, &state, &bare(DRAIN), ENOUGH);
+        let fits = (count, due) == (write.into(), 0);
+        assert_eq!(
+            number,
+            u32::from(!fits),
+            "{count} writes, due {due}, {write}"
+        );
     }
 }
 
@@ -209,15 +247,14 @@ fn any_state(random: &mut Random, numbers: &[u16; 16]) -> Vec<u8> {
         }
     }
     if !open.is_empty() && random.chance(2) {
-        let column = random.below(numbers[COLUMNS].into());
-        (state[724], state[725], state[726]) = (1, random.pick(&open) as u8, column as u8);
-        let number = instants.instant(random, false);
-        put(&mut state, 728, 4, number);
+        let (bank, column) = (random.pick(&open), random.below(numbers[COLUMNS].into()));
+        let at = instants.instant(random, false);
+        put_write(&mut state, bank as u8, column as u8, at, false);
     }
     let now = instants.instant(random, false);
-    put(&mut state, 732, 4, now);
-    put(&mut state, 736, 2, random.below(32) as u64);
-    put(&mut state, 738, 2, random.below(0x10000) as u64);
+    put_instant(&mut state, NOW, now);
+    put(&mut state, REFRESH, 2, random.below(32) as u64);
+    put(&mut state, MASK, 2, random.below(0x10000) as u64);
     state
 }
 

@@ -4,9 +4,9 @@
 
 use crate::reference::{figures, number, packet, record_fits, Figures, RD, REFA, ROWS};
 use crate::reference_rules::{self as rules, Rules, Step, Timings};
-use crate::reference_state::{channel_bytes, channel_fits, open_row, put, waiting};
+use crate::reference_state::{channel_bytes, channel_fits, open_row, put, waiting, zero};
 
-pub const STATE_BYTES: usize = 752;
+pub const STATE_BYTES: usize = 792;
 
 /// The number of a refusal, and the rules that the record breaks where it is 11.
 #[derive(Clone, Copy, Debug, PartialEq, Eq)]
@@ -116,9 +116,9 @@ impl Model {
         state.resize(STATE_BYTES, 0);
         let packets = self.steps.iter().filter_map(|step| step.packet);
         let rises = packets.filter(|p| p.command == REFA && p.bank == 31);
-        put(&mut state, 732, 2, rises.count() as u64 % self.figures.rows);
+        put(&mut state, 752, 2, rises.count() as u64 % self.figures.rows);
         if let Some(data) = self.data.last() {
-            state[736..].copy_from_slice(data);
+            state[760..776].copy_from_slice(data);
         }
         state
     }
@@ -128,6 +128,7 @@ impl Model {
 pub fn state_fits(numbers: &[u16; 16], state: &[u8]) -> bool {
     state.len() == STATE_BYTES
         && channel_fits(numbers, state)
-        && number(&state[732..734]) < numbers[ROWS].into()
-        && state[734..736] == [0, 0]
+        && number(&state[752..754]) < numbers[ROWS].into()
+        && zero(&state[754..760])
+        && zero(&state[776..])
 }

@@ -7,10 +7,11 @@ use crate::reference::{
 };
 use crate::reference_rules::{self as rules, near, Step, Timings};
 use crate::reference_state::{
-    channel_bytes, channel_fits, open_row, put, tag, waiting, DUE, LAST, UNDER_REFRESH,
+    channel_bytes, channel_fits, instant, open_row, put, put_instant, tag, waiting, zero, DUE,
+    LAST, UNDER_REFRESH,
 };
 
-pub const STATE_BYTES: usize = 740;
+pub const STATE_BYTES: usize = 768;
 
 /// Refusal numbers.
 type Refused = u32;
@@ -294,10 +295,10 @@ impl Planner {
     pub fn state(&self) -> Vec<u8> {
         let mut state = channel_bytes(&self.steps);
         state.resize(STATE_BYTES, 0);
-        put(&mut state, 732, 4, self.now);
-        put(&mut state, 736, 2, self.refresh.into());
+        put_instant(&mut state, 752, self.now);
+        put(&mut state, 756, 2, self.refresh.into());
         let mask = self.masks.last().copied().unwrap_or(0);
-        put(&mut state, 738, 2, mask.into());
+        put(&mut state, 760, 2, mask.into());
         state
     }
 }
@@ -308,7 +309,9 @@ pub fn state_fits(numbers: &[u16; 16], state: &[u8]) -> bool {
     state.len() == STATE_BYTES
         && channel_fits(numbers, state)
         && (0..32).all(|bank| tag(state, bank) != UNDER_REFRESH)
-        && state[724] != DUE
-        && (4..=LAST).contains(&number(&state[732..736]))
-        && number(&state[736..738]) < 32
+        && state[DUE] == 0
+        && (4..=LAST).contains(&instant(state, 752))
+        && number(&state[756..758]) < 32
+        && zero(&state[758..760])
+        && zero(&state[762..])
 }

@@ -1,20 +1,45 @@
-//! The bytes 0 to 731 that the states of planner and model have in common, in the layout of
+//! The bytes 0 to 751 that the states of planner and model have in common, in the layout of
 //! `rdram.h`: read off a list of records that break no rule, and what is asked of them.
 
 use crate::reference::{number, Fields, ACT, COLUMNS, NOCOP, PRER, RD, REFA, REFP, ROWS, WR};
 use crate::reference_rules::{self as rules, neighbours, Bank, Step};
 
 pub const LAST: u64 = 1_000_000_000;
-pub const CHANNEL_BYTES: usize = 732;
+pub const CHANNEL_BYTES: usize = 752;
 pub const UNDER_REFRESH: u64 = 65_535;
-/// Kinds of buffer.
-const EMPTY: u8 = 0;
-const WAITING: u8 = 1;
-pub const DUE: u8 = 2;
+
+// The bytes of the write buffer: how many writes wait, whether data are due, and bank, column and
+// instant of the waiting write.
+pub const WAITING: usize = 728;
+pub const DUE: usize = 729;
+pub const WRITE_BANK: usize = 736;
+pub const WRITE_COLUMN: usize = 737;
+pub const WRITE_AT: usize = 740;
 
 /// Writes a number, low byte first.
 pub fn put(bytes: &mut [u8], at: usize, width: usize, number: u64) {
     bytes[at..at + width].copy_from_slice(&number.to_le_bytes()[..width]);
+}
+
+/// Writes an instant as states keep it: less 3, and 0 for never.
+pub fn put_instant(state: &mut [u8], at: usize, instant: u64) {
+    let stored = if instant == 0 { 0 } else { instant - 3 };
+    put(state, at, 4, stored);
+}
+
+/// The instant that four bytes of a state say, 0 for never.
+pub fn instant(state: &[u8], at: usize) -> u64 {
+    match number(&state[at..at + 4]) {
+        0 => 0,
+        stored => stored + 3,
+    }
+}
+
+/// Writes a waiting write whose data are due or not.
+pub fn put_write(state: &mut [u8], bank: u8, column: u8, at: u64, due: bool) {
+    (state[WAITING], state[DUE]) = (1, due.into());
+    (state[WRITE_BANK], state[WRITE_COLUMN]) = (bank, column);
+    put_instant(state, WRITE_AT, at);
 }
 
 /// The row on which a bank is open: that of the last ACT to it, if it is not closed since.
@@ -57,9 +82,7 @@ pub fn channel_bytes(steps: &[Step]) -> Vec<u8> {
         put(&mut state, 640 + 2 * bank as usize, 2, tag);
     }
     if let Some((bank, column, at)) = waiting(steps) {
-        let kind = if data_due(steps) { DUE } else { WAITING };
-        (state[724], state[725], state[726]) = (kind, bank as u8, column as u8);
-        put(&mut state, 728, 4, at);
+        put_write(&mut state, bank as u8, column as u8, at, data_due(steps));
     }
     state
 }
@@ -83,7 +106,7 @@ fn note(state: &mut [u8], step: &Step, p: Fields) {
         fields.push(512 + 4 * bank as usize);
     }
     for at in fields {
-        put(state, at, 4, step.at);
+        put_instant(state, at, step.at);
     }
 }
 
@@ -94,26 +117,32 @@ pub fn tag(state: &[u8], bank: usize) -> u64 {
     number(&state[640 + 2 * bank..642 + 2 * bank])
 }
 
-/// Whether bytes 0 to 731 are not refused under 1.
+/// Whether some bytes are all 0.
+pub fn zero(bytes: &[u8]) -> bool {
+    bytes.iter().all(|b| *b == 0)
+}
+
+/// Whether bytes 0 to 751 are not refused under 1.
 pub fn channel_fits(numbers: &[u16; 16], state: &[u8]) -> bool {
-    let field = |at: usize| number(&state[at..at + 4]);
+    let unused = [724..728, 730..736, 738..740, 744..CHANNEL_BYTES];
     let mut lasts = (0..640).chain(704..724).step_by(4);
     let row_fits = |tag: u64| tag <= numbers[ROWS].into() || tag == UNDER_REFRESH;
     let both = |a: usize, b: usize| tag(state, a) != 0 && tag(state, b) != 0;
-    lasts.all(|at| field(at) == 0 || (4..=LAST).contains(&field(at)))
+    lasts.all(|at| instant(state, at) <= LAST)
         && (0..32).all(|bank| row_fits(tag(state, bank)))
         && (0..31).all(|b| !neighbours(b, b + 1) || !both(b as usize, b as usize + 1))
+        && unused.into_iter().all(|part| zero(&state[part]))
         && buffer_fits(numbers, state)
 }
 
 fn buffer_fits(numbers: &[u16; 16], state: &[u8]) -> bool {
-    let (bank, column) = (usize::from(state[725]), u16::from(state[726]));
-    match state[724] {
-        EMPTY => state[725..732].iter().all(|b| *b == 0),
-        WAITING | DUE => {
+    let bank = usize::from(state[WRITE_BANK]);
+    let column = u16::from(state[WRITE_COLUMN]);
+    match (state[WAITING], state[DUE]) {
+        (0, 0) => bank == 0 && column == 0 && instant(state, WRITE_AT) == 0,
+        (1, 0 | 1) => {
             let open = bank < 32 && (1..UNDER_REFRESH).contains(&tag(state, bank));
-            let instant = number(&state[728..732]);
-            open && column < numbers[COLUMNS] && state[727] == 0 && (4..=LAST).contains(&instant)
+            open && column < numbers[COLUMNS] && (4..=LAST).contains(&instant(state, WRITE_AT))
         }
         _ => false,
     }

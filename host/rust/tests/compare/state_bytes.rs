@@ -1,20 +1,64 @@
-//! What the tests of planner states and of model states have in common: the fields of bytes 0 to 731,
+//! What the tests of planner states and of model states have in common: the fields of bytes 0 to 751,
 //! and instants for them.
 
 use crate::random::Random;
-use crate::reference_state::{put, LAST};
+use crate::reference::{COLUMNS, ROWS};
+use crate::reference_state::{put_instant, DUE, LAST, WAITING, WRITE_AT, WRITE_BANK, WRITE_COLUMN};
+use std::ops::Range;
 
 /// Offset and width.
 pub type Field = (usize, usize);
 
-/// The fields of a state, of which those from byte 732 on are its own.
+/// Bytes that no field uses, which are 0.
+pub const UNUSED: [Range<usize>; 4] = [724..728, 730..736, 738..740, 744..752];
+
+/// Such bytes, each as a field.
+pub fn unused(bytes: Range<usize>) -> impl Iterator<Item = Field> {
+    bytes.map(|at| (at, 1))
+}
+
+/// The fields of a state, of which those from byte 752 on are its own, with the bytes that are 0.
 pub fn fields(own: &[Field]) -> Vec<Field> {
     let instants = (0..160).map(|i| (4 * i, 4));
     let banks = (0..32).map(|i| (640 + 2 * i, 2));
     let lasts = (0..5).map(|i| (704 + 4 * i, 4));
-    let buffer = [(724, 1), (725, 1), (726, 1), (727, 1), (728, 4)];
-    let fields = instants.chain(banks).chain(lasts).chain(buffer);
-    fields.chain(own.iter().copied()).collect()
+    let [a, b, c, d] = UNUSED.map(unused);
+    let count = a.chain([(WAITING, 1), (DUE, 1)]).chain(b);
+    let write = [(WRITE_BANK, 1), (WRITE_COLUMN, 1)].into_iter().chain(c);
+    let buffer = count.chain(write).chain([(WRITE_AT, 4)]).chain(d);
+    let channel = instants.chain(banks).chain(lasts).chain(buffer);
+    channel.chain(own.iter().copied()).collect()
+}
+
+/// Numbers at and beyond the ends of what a field may be.
+pub fn ends(numbers: &[u16; 16]) -> Vec<u64> {
+    let (rows, columns) = (u64::from(numbers[ROWS]), u64::from(numbers[COLUMNS]));
+    let small = [0, 1, 2, 3, 4, 5, 31, 32, 128, 255, 256];
+    let places = [
+        rows - 1,
+        rows,
+        rows + 1,
+        columns - 1,
+        columns,
+        512,
+        513,
+        65_534,
+        65_535,
+    ];
+    let instants = [LAST - 4, LAST - 3, LAST - 2, LAST - 1, LAST, LAST + 1];
+    // With 3 added the second and third are 0 and 1 in 32 bits.
+    let large = [1 << 31, (1 << 32) - 3, (1 << 32) - 2, u64::MAX];
+    [&small[..], &places, &instants, &large].concat()
+}
+
+/// How many writes wait and whether data are due, also what is out of range, and whether the fields of
+/// a write are there.
+pub fn any_counts() -> impl Iterator<Item = (u8, u8, bool)> {
+    let counts = [0, 1, 2, 3, 4, 16, 128, 255];
+    let pairs = counts
+        .into_iter()
+        .flat_map(move |n| counts.map(|due| (n, due)));
+    pairs.flat_map(|(n, due)| [(n, due, false), (n, due, true)])
 }
 
 /// Fields follow each other and end with the state.
@@ -63,7 +107,7 @@ impl Instants {
     pub fn put_lasts(&self, random: &mut Random, state: &mut [u8]) {
         for at in (0..640).chain(704..724).step_by(4) {
             let instant = self.instant(random, true);
-            put(state, at, 4, instant);
+            put_instant(state, at, instant);
         }
     }
 }

@@ -3,9 +3,11 @@
 //! any state that is not refused, also one that no run reaches.
 
 use super::tuned_records::{dualoct, received, refused, Dualoct, Record, Refused};
-use super::tuned_state::{beside, near, since, Channel, Figures, Write, FULL, LAST, UNDER_REFRESH};
+use super::tuned_state::{
+    beside, near, since, Channel, Figures, Write, BASE, FULL, MOST, UNDER_REFRESH,
+};
 
-pub const MODEL_BYTES: usize = 752;
+pub const MODEL_BYTES: usize = 792;
 
 #[derive(Clone, Copy, Debug, PartialEq, Eq)]
 pub enum Event {
@@ -131,7 +133,7 @@ impl Model {
             Record::D { .. } => (0, false),
             _ => (0, true),
         };
-        let in_range = (4..=LAST - delay).contains(&at);
+        let in_range = (1..=MOST - delay).contains(&at);
         rules! { 1: !in_range | (packet & (at < self.channel.last)) }
         match *record {
             Record::Act { bank, .. } | Record::Refa { bank } => self.judge_opening(f, at, bank),
@@ -214,6 +216,7 @@ impl Model {
         answer: &mut [u8],
     ) -> Result<Event, Refused> {
         let (at, record) = received(f, store, record)?;
+        let at = at.wrapping_sub(BASE); // out of range where it wraps
         if let Err(rule) = self.judge(f, at, &record) {
             return Err(Refused { number: 11, rule });
         }
@@ -263,29 +266,31 @@ impl Model {
     fn decode(state: &[u8; MODEL_BYTES]) -> Model {
         Model {
             channel: Channel::decode(state.first_chunk().unwrap()),
-            refr: u16::from_le_bytes([state[732], state[733]]),
-            data: state[736..].try_into().unwrap(),
+            refr: u16::from_le_bytes([state[752], state[753]]),
+            data: state[760..776].try_into().unwrap(),
         }
     }
 
     /// Whether the bytes are those of a model that is not refused under 1.
     fn fits(&self, f: &Figures, state: &[u8; MODEL_BYTES]) -> bool {
         let ch = &self.channel;
+        let refr = u64::from_le_bytes(state[752..760].try_into().unwrap());
+        let after = u128::from_le_bytes(state[776..].try_into().unwrap());
         // A bank under refresh comes before 0.
         let most = ch.tags.iter().fold(0, |m, tag| tag.wrapping_add(1).max(m));
-        ch.lasts_are(LAST)
+        ch.lasts_are(MOST)
             & (most <= f.rows as u16 + 1)
             & ch.apart()
-            & (u32::from(self.refr) < f.rows)
-            & (state[734] | state[735] == 0)
+            & (refr < f.rows.into())
+            & (after == 0)
             & ch.buffer_fits(f, state.first_chunk().unwrap())
     }
 
     pub fn encode(&self, state: &mut [u8; MODEL_BYTES]) {
         self.channel.encode(state.first_chunk_mut().unwrap());
-        state[732..734].copy_from_slice(&self.refr.to_le_bytes());
-        state[734..736].fill(0);
-        state[736..].copy_from_slice(&self.data);
+        state[752..760].copy_from_slice(&u64::from(self.refr).to_le_bytes());
+        state[760..776].copy_from_slice(&self.data);
+        state[776..].fill(0);
     }
 }
 

@@ -4,17 +4,19 @@
 
 use super::tuned_requests::{Asked, Out, Refused, Request, RECORDS};
 use super::tuned_state::{
-    beside, near, since, Channel, Figures, Write, ACT, FULL, LAST, NOCOP, PRER, RD, REFA, REFP, WR,
+    beside, near, since, Channel, Figures, Write, ACT, BASE, FULL, MOST, NOCOP, PRER, RD, REFA,
+    REFP, WR,
 };
 
 /// No request gets from here past the last instant: it makes at most 17 packets, each at most 64
 /// after the latest instant before it, and data come at most 12 later.
-const SAFE: u32 = LAST - 4_096;
-pub const STATE_BYTES: usize = 740;
+const SAFE: u32 = MOST - 4_096;
+pub const STATE_BYTES: usize = 768;
 
 #[derive(Clone)]
 pub struct Planner {
     channel: Channel,
+    /// Counted from `BASE`, as the channel's instants.
     now: u32,
     refresh: u16,
     mask: u16,
@@ -26,7 +28,7 @@ impl Planner {
     pub fn fresh() -> Planner {
         Planner {
             channel: Channel::FRESH,
-            now: 4,
+            now: 4 - BASE,
             refresh: 0,
             mask: 0,
             far: false,
@@ -71,7 +73,7 @@ impl Planner {
         let at = self.opening(f, bank);
         self.channel.act[bank] = at;
         self.channel.tags[bank] = row as u16 + 1;
-        out.row(f, at, bank, ACT | u64::from(row));
+        out.row(f, at + BASE, bank, ACT | u64::from(row));
     }
 
     /// PRER or REFP; the neighbours are closed.
@@ -85,7 +87,7 @@ impl Planner {
         (self.channel.pre[bank], self.channel.last_pre) = (at, at);
         self.channel.tags[bank] = 0;
         self.row_sent(at);
-        out.row(f, at, bank, code);
+        out.row(f, at + BASE, bank, code);
     }
 
     /// The mask that a packet other than RD carries, and the instant that rules 10 and 12 ask.
@@ -110,7 +112,7 @@ impl Planner {
         let at = self.col_from(f).max(from);
         self.retired(at);
         self.col_sent(at);
-        out.col(f, at, NOCOP, 0, 0, mask);
+        out.col(f, at + BASE, NOCOP, 0, 0, mask);
     }
 
     /// Closes a bank if it is open.
@@ -155,7 +157,7 @@ impl Planner {
         let at = self.col_from(f).max(since(self.channel.act[bank], f.rcd));
         (self.channel.rd[bank], self.channel.last_rd) = (at, at);
         self.col_sent(at);
-        out.col(f, at, RD, bank, column, FULL);
+        out.col(f, at + BASE, RD, bank, column, FULL);
     }
 
     #[inline]
@@ -172,15 +174,15 @@ impl Planner {
         self.channel.waiting = Some(Write { bank, column, at });
         self.mask = asked.mask;
         self.col_sent(at);
-        out.col(f, at, WR, bank, column, mask);
-        out.add(at + f.cwd, 2, 0, asked.low, asked.high);
+        out.col(f, at + BASE, WR, bank, column, mask);
+        out.add(at + BASE + f.cwd, 2, 0, asked.low, asked.high);
     }
 
     fn refresh(&mut self, f: &Figures, out: &mut Out) {
         let bank = usize::from(self.refresh);
         self.close_near(f, out, bank);
         let at = self.opening(f, bank);
-        out.row(f, at, bank, REFA);
+        out.row(f, at + BASE, bank, REFA);
         self.precharge(f, out, bank, REFP);
         self.refresh = (self.refresh + 1) % 32;
     }
@@ -229,7 +231,7 @@ impl Planner {
         let delay = next.serve(f, &mut out, asked);
         let used = out.used;
         // Instants never fall, so the last packet or its data come last.
-        if next.now + delay > LAST {
+        if next.now + delay > MOST {
             return Err(7);
         }
         if room.len() / 32 < used {
@@ -242,7 +244,7 @@ impl Planner {
 
     fn wait(&mut self, cycles: u64) -> Result<usize, Refused> {
         let now = u64::from(self.now) + cycles;
-        if now > u64::from(LAST) {
+        if now > u64::from(MOST) {
             return Err(7);
         }
         self.now = now as u32;
@@ -273,9 +275,9 @@ impl Planner {
         let half = |at: usize| u16::from_le_bytes(state[at..at + 2].try_into().unwrap());
         Planner {
             channel: Channel::decode(state.first_chunk().unwrap()),
-            now: u32::from_le_bytes(state[732..736].try_into().unwrap()),
-            refresh: half(736),
-            mask: half(738),
+            now: u32::from_le_bytes(state[752..756].try_into().unwrap()),
+            refresh: half(756),
+            mask: half(760),
             far: false,
         }
     }
@@ -284,22 +286,24 @@ impl Planner {
     /// instant is far.
     fn fits(&mut self, f: &Figures, state: &[u8; STATE_BYTES]) -> bool {
         let ch = &self.channel;
+        let number = |at: usize| u64::from_le_bytes(state[at..at + 8].try_into().unwrap());
         let usual = ch.lasts_are(SAFE);
         self.far = !usual;
-        (usual || ch.lasts_are(LAST))
-            & (self.now.wrapping_sub(4) <= LAST - 4)
+        (usual || ch.lasts_are(MOST))
+            & (self.now.wrapping_sub(1) < MOST)
             & (ch.tags.iter().fold(0, |most, tag| *tag.max(&most)) <= f.rows as u16)
             & ch.apart()
-            & (self.refresh < 32)
+            & (number(752) >> 32 < 32) // the refresh bank and zeros
+            & (number(760) >> 16 == 0)
             & !ch.due
             & ch.buffer_fits(f, state.first_chunk().unwrap())
     }
 
     pub fn encode(&self, state: &mut [u8; STATE_BYTES]) {
         self.channel.encode(state.first_chunk_mut().unwrap());
-        state[732..736].copy_from_slice(&self.now.to_le_bytes());
-        state[736..738].copy_from_slice(&self.refresh.to_le_bytes());
-        state[738..740].copy_from_slice(&self.mask.to_le_bytes());
+        state[752..756].copy_from_slice(&self.now.to_le_bytes());
+        state[756..760].copy_from_slice(&u32::from(self.refresh).to_le_bytes());
+        state[760..].copy_from_slice(&u64::from(self.mask).to_le_bytes());
     }
 }
 

@@ -2,7 +2,11 @@
 //! settings, the words' codes, and banks, write buffer and last instants as a struct of numbers.
 
 pub const LAST: u32 = 1_000_000_000;
-const CHANNEL_BYTES: usize = 732;
+/// Instants of states are counted from here.
+pub const BASE: u32 = 3;
+/// The last one so counted.
+pub const MOST: u32 = LAST - BASE;
+const CHANNEL_BYTES: usize = 752;
 
 // ---- Settings ----
 
@@ -91,8 +95,8 @@ pub struct Write {
     pub at: u32,
 }
 
-/// Banks, write buffer and last instants. Instants are 0 for never; a tag is 0 for a closed bank,
-/// 1 + row for an open one and `UNDER_REFRESH`.
+/// Banks, write buffer and last instants. Instants are counted from `BASE`, and 0 for never; a tag is
+/// 0 for a closed bank, 1 + row for an open one and `UNDER_REFRESH`.
 #[derive(Clone)]
 pub struct Channel {
     pub opened: [u32; 32],
@@ -180,9 +184,9 @@ impl Channel {
     pub fn decode(state: &[u8; CHANNEL_BYTES]) -> Channel {
         let number = |at: usize| u32::from_le_bytes(state[at..at + 4].try_into().unwrap());
         let write = Write {
-            bank: state[725].into(),
-            column: state[726].into(),
-            at: number(728),
+            bank: state[736].into(),
+            column: state[737].into(),
+            at: number(740),
         };
         Channel {
             opened: plane(state, 0),
@@ -196,18 +200,15 @@ impl Channel {
             last_col: number(712),
             last_pre: number(716),
             last_rd: number(720),
-            waiting: (state[724] != 0).then_some(write),
-            due: state[724] == 2,
+            waiting: (state[728] != 0).then_some(write),
+            due: state[729] != 0,
             last_opened: None,
         }
     }
 
-    /// Whether each last instant is 0 or 4 to `most`. As i32, what is too large is negative.
+    /// Whether each last instant is at most `most`.
     pub fn lasts_are(&self, most: u32) -> bool {
-        let bad = |at: u32| {
-            let at = at as i32;
-            i32::from((at > most as i32) | ((at < 4) & (at != 0)))
-        };
+        let bad = |at: u32| u32::from(at > most);
         let planes = [&self.opened, &self.act, &self.pre, &self.rd, &self.retire];
         let banks = (0..32).fold(0, |all, i| {
             planes.iter().fold(all, |all, p| all | bad(p[i]))
@@ -226,18 +227,22 @@ impl Channel {
         beside.fold(0, |both, (tag, above)| both | tag.min(above)) == 0
     }
 
-    /// Whether the buffer's bytes are of a kind, and the bank of a waiting write is open by ACT.
+    /// Whether the bytes from 724 on are of a buffer, and the bank of a waiting write is open by ACT.
     pub fn buffer_fits(&self, f: &Figures, state: &[u8; CHANNEL_BYTES]) -> bool {
-        let bytes = u64::from_le_bytes(state[724..732].try_into().unwrap());
+        let number = |at: usize| u64::from_le_bytes(state[at..at + 8].try_into().unwrap());
+        let (counts, write) = (number(728), number(736));
+        if number(720) >> 32 | number(744) != 0 {
+            return false;
+        }
         let Some(w) = self.waiting else {
-            return bytes == 0;
+            return counts | write == 0;
         };
         let open = |tag: &u16| (1..UNDER_REFRESH).contains(tag);
-        // Kind and zero.
-        bytes & 0xFF00_00FF == 1 + u64::from(self.due)
+        // One write, due or not, and zeros.
+        counts & !0x100 | write & 0xFFFF_0000 == 1
             && self.tags.get(w.bank).is_some_and(open)
             && w.column < f.columns
-            && w.at.wrapping_sub(4) <= LAST - 4
+            && w.at.wrapping_sub(1) < MOST
     }
 
     pub fn encode(&self, state: &mut [u8; CHANNEL_BYTES]) {
@@ -260,11 +265,14 @@ impl Channel {
         for (bytes, at) in state[704..724].as_chunks_mut::<4>().0.iter_mut().zip(lasts) {
             *bytes = at.to_le_bytes();
         }
-        let kind = 1 + u64::from(self.due);
-        let buffer = self.waiting.map_or(0, |w| {
-            u64::from(w.at) << 32 | u64::from(w.column) << 16 | (w.bank as u64) << 8 | kind
+        let (counts, write) = self.waiting.map_or((0, 0), |w| {
+            let place = u64::from(w.column) << 8 | w.bank as u64;
+            (1 | u64::from(self.due) << 8, u64::from(w.at) << 32 | place)
         });
-        state[724..732].copy_from_slice(&buffer.to_le_bytes());
+        state[724..728].fill(0);
+        state[728..736].copy_from_slice(&counts.to_le_bytes());
+        state[736..744].copy_from_slice(&write.to_le_bytes());
+        state[744..].fill(0);
     }
 }
 

@@ -9,6 +9,7 @@ use crate::model_calls::{any_store, small_numbers};
 use crate::plan_streams::{bare, read, wait, write, Maker, DRAIN, READ, REFRESH, WRITE};
 use crate::random::{bytes, rounds, set_h, Random};
 use crate::reference::{COLUMNS, ROWS};
+use crate::reference_state::WAITING;
 use rdram::{Event, Model, Planner, Refusal, Settings};
 use std::collections::VecDeque;
 
@@ -191,7 +192,7 @@ impl Run {
     /// The last drain, after which store and flat memory are the same.
     fn finish(mut self, random: &mut Random, seen: &mut Seen) {
         self.take(random, seen, 0);
-        seen.drained += u64::from(self.model.to_bytes()[724] == 1);
+        seen.drained += u64::from(self.model.to_bytes()[WAITING] == 1);
         if self.plan(seen, &bare(DRAIN), 17 * 32).is_err() {
             // At the end of time the last write still waits.
             self.compare_but_for_the_waiting_write();
@@ -208,7 +209,7 @@ impl Run {
     fn compare_but_for_the_waiting_write(&self) {
         let pairs = self.store.chunks(16).zip(self.memory.bytes.chunks(16));
         let differ = pairs.filter(|(a, b)| a != b).count();
-        assert!(differ <= usize::from(self.model.to_bytes()[724]));
+        assert!(differ <= usize::from(self.model.to_bytes()[WAITING]));
     }
 }
 

@@ -6,15 +6,15 @@ use native.Mathlib.Omega.{arith}
 use lib.Dec.{eqb}
 use borrow.Author.Tests.{eq-eqb, ne-eqb}
 use Rattle.meter.specs.declared.Meter.{Meter}
-use Rattle.meter.specs.Answer.{feedNumber, accepted}
+use Rattle.meter.specs.Answer.{feedNumber, feedAccepted}
 use Rattle.meter.specs.Meter.{feedAnswer, advanced, feedMeter, fedBy}
 use Rattle.meter.proofs.RunLaws.{accepted-follows}
 use borrow.Author.Needs.{needs}
 use Rattle.meter.proofs.feeds.step.Statement.{statement}
 use Rattle.meter.proofs.feeds.step.Tie as tie
 
-is-accepted : (m : Meter) (t : ℕ) → feedNumber (feedAnswer m t) ≡ 0 → accepted (feedAnswer m t) ≡ true
-unfolding accepted
+is-accepted : (m : Meter) (t : ℕ) → feedNumber (feedAnswer m t) ≡ 0 → feedAccepted (feedAnswer m t) ≡ true
+unfolding feedAccepted
 is-accepted m t z = eq-eqb (feedNumber (feedAnswer m t)) 0 z
 
 wide32-requires : tie.Need-wide32-requires
@@ -46,7 +46,7 @@ pushed-requires : tie.Need-pushed-requires
 pushed-requires c κs = search needs
 
 returns : tie.Need-returns
-unfolding fedBy feedMeter advanced accepted
+unfolding fedBy feedMeter advanced feedAccepted
 returns c =
     let at-answer = c .before .before .before .before in
     let at-entry = at-answer .before .before .before .before in
@@ -57,7 +57,7 @@ returns c =
     rw (c .pushed .ensures, at-answer .answer-to .ensures, ← e, z)
 
 returns-2 : tie.Need-returns-2
-unfolding fedBy feedMeter accepted
+unfolding fedBy feedMeter feedAccepted
 returns-2 c =
     let at-answer = c .before .before in
     let at-entry = at-answer .before .before .before .before in

@@ -9,7 +9,7 @@ use Rattle.plan_in_place.proofs.requests.drain.Tie as tie
 flush-if-requires : tie.Need-flush-if-requires
 flush-if-requires c κs =
     let z = c .before .before .before .before .before .before in
-    (ready-more _ 999990000 999999000 _ (omega arith) (z .pre .0), (z .pre .1 .0, (drain-waits _ _ (z .pre .0) (z .args .room .now) (z .pre .1 .1) _ (c .before .before .waits .ensures), drain-first _ _ (z .pre .0) (z .args .room .now) (z .pre .1 .1) _ (c .before .before .waits .ensures))))
+    (ready-more _ 999990000 999999000 _ (omega arith) (z .pre .0), (z .pre .1 .0, (λ w. drain-waits _ _ (z .pre .0) (z .args .room .now) (z .pre .1 .1) _ w (c .before .before .waits .ensures), drain-first _ _ (z .pre .0) (z .args .room .now) (z .pre .1 .1) _ (c .before .before .waits .ensures))))
 
 close-from-requires : tie.Need-close-from-requires
 close-from-requires c κs =

@@ -20,7 +20,7 @@ flush-if-requires c κs =
     let w = c .before .before .before .before .before .before .before .before .reach .ensures in
     let a = reached-after _ _ (z .pre .0) (z .args .room .now) (z .pre .1 .1 .1) (z .args .at) i _ (w .planner) in (
       ready-more _ 999998000 999999000 _ (omega arith) (a .ready),
-      (a .size, (hit-waits (drafted (c .before .before .before .before .before .before .before .before .reach .last .1 .0)) (z .args .at .bank) (z .args .at .column) _ (c .before .before .hit .ensures), flush-fits _ _ (z .pre .0) _ (z .pre .1 .1 .1) (z .args .at) i _ _ _ w _ (c .before .before .hit .ensures))),
+      (a .size, (λ w. hit-waits (drafted (c .before .before .before .before .before .before .before .before .reach .last .1 .0)) (z .args .at .bank) (z .args .at .column) _ w (c .before .before .hit .ensures), flush-fits _ _ (z .pre .0) _ (z .pre .1 .1 .1) (z .args .at) i _ _ _ w _ (c .before .before .hit .ensures))),
     )
 
 rd-requires : tie.Need-rd-requires

@@ -11,10 +11,9 @@ returns c = let a = c .before .before .args in sym (planner-length-wrong (a .s) 
 
 returns-2 : tie.Need-returns-2
 returns-2 c =
-    let k = c .before .before .before .before in
+    let k = c .before .before in
     let a = k .before .before .args in
-    rw (c .channel-right .ensures, c .before .u64-at .ensures, c .before .before .u32-at2 .ensures, c .before .before .before .u32-at .ensures)
-    (planner-tested (a .s) (a .b .now) (λ i l. omega (arith, k .before .shared-slice-known .given i)) (k .if1 .left))
+    rw (c .channel-right .ensures, c .before .fields-right .ensures) (planner-tested (a .s) (a .b .now) (λ i l. omega (arith, k .before .shared-slice-known .given i)) (k .if1 .left))
 
 pub planner-right-spec : {M : Type 1} → statement M
-planner-right-spec = tie.close (tie.spec returns (λ c κs. search needs) (λ c κs. search needs) (λ c κs. search needs) (λ c κs. search needs) returns-2)
+planner-right-spec = tie.close (tie.spec returns (λ c κs. search needs) (λ c κs. search needs) returns-2)

@@ -9,9 +9,9 @@ pub mod log;
 pub mod model;
 pub mod planner;
 
-use crate::rivals::tuned_state::{beside, since, Figures, Write, LAST, UNDER_REFRESH};
+use crate::rivals::tuned_state::{beside, since, Figures, Write, MOST, UNDER_REFRESH};
 
-pub const CHANNEL_BYTES: usize = 732;
+pub const CHANNEL_BYTES: usize = 752;
 
 #[derive(Clone, Copy, PartialEq, Eq)]
 pub enum Bank {
@@ -20,7 +20,8 @@ pub enum Bank {
     Refresh,
 }
 
-/// A bank with the instants of its last packets; an instant is 0 for never.
+/// A bank with the instants of its last packets; an instant is counted from `BASE`, as in the bytes,
+/// and 0 for never.
 #[derive(Clone, Copy)]
 pub struct Track {
     pub bank: Bank,
@@ -180,7 +181,7 @@ impl Channel {
 
     // ---- Bytes ----
 
-    /// None where the buffer's bytes are of no kind.
+    /// None where the bytes from 724 on are of no buffer.
     pub fn decode(bytes: &[u8; CHANNEL_BYTES]) -> Option<Channel> {
         let mut banks = [Track::CLOSED; 32];
         for (x, t) in banks.iter_mut().enumerate() {
@@ -200,7 +201,7 @@ impl Channel {
             last_col: word(bytes, 712),
             last_pre: word(bytes, 716),
             last_rd: word(bytes, 720),
-            buffer: Buffer::of(bytes[724..732].try_into().unwrap())?,
+            buffer: Buffer::of(bytes.last_chunk().unwrap())?,
         })
     }
 
@@ -239,7 +240,7 @@ impl Channel {
         put_word(bytes, 712, self.last_col);
         put_word(bytes, 716, self.last_pre);
         put_word(bytes, 720, self.last_rd);
-        bytes[724..].copy_from_slice(&self.buffer.bytes());
+        *bytes.last_chunk_mut().unwrap() = self.buffer.bytes();
     }
 }
 
@@ -286,38 +287,43 @@ impl Track {
 }
 
 impl Buffer {
-    fn of(bytes: [u8; 8]) -> Option<Buffer> {
-        let [kind, bank, column, zero, at @ ..] = bytes;
+    /// None where the numbers of writes and of data due are of no buffer, or a byte that is not used
+    /// is not 0.
+    fn of(bytes: &[u8; 28]) -> Option<Buffer> {
         let w = Write {
-            bank: bank.into(),
-            column: column.into(),
-            at: u32::from_le_bytes(at),
+            bank: bytes[12].into(),
+            column: bytes[13].into(),
+            at: word(bytes, 16),
         };
-        match kind {
-            0 => (bytes == [0; 8]).then_some(Buffer::Empty),
-            1 => (zero == 0).then_some(Buffer::Waiting(w)),
-            2 => (zero == 0).then_some(Buffer::Due(w)),
-            _ => None,
-        }
+        let buffer = match bytes[4..6] {
+            [0, 0] => Buffer::Empty,
+            [1, 0] => Buffer::Waiting(w),
+            [1, 1] => Buffer::Due(w),
+            _ => return None,
+        };
+        (buffer.bytes() == *bytes).then_some(buffer)
     }
 
-    fn bytes(self) -> [u8; 8] {
-        let (kind, w) = match self {
-            Buffer::Empty => return [0; 8],
-            Buffer::Waiting(w) => (1, w),
-            Buffer::Due(w) => (2, w),
+    fn bytes(self) -> [u8; 28] {
+        let mut bytes = [0; 28];
+        let (due, w) = match self {
+            Buffer::Empty => return bytes,
+            Buffer::Waiting(w) => (0, w),
+            Buffer::Due(w) => (1, w),
         };
-        let [a, b, c, d] = w.at.to_le_bytes();
-        [kind, w.bank as u8, w.column as u8, 0, a, b, c, d]
+        (bytes[4], bytes[5]) = (1, due);
+        (bytes[12], bytes[13]) = (w.bank as u8, w.column as u8);
+        put_word(&mut bytes, 16, w.at);
+        bytes
     }
 }
 
 pub fn is_instant(at: u32) -> bool {
-    (4..=LAST).contains(&at)
+    (1..=MOST).contains(&at)
 }
 
 fn is_last(at: u32) -> bool {
-    at == 0 || is_instant(at)
+    at <= MOST
 }
 
 pub fn word(bytes: &[u8], at: usize) -> u32 {

@@ -3,7 +3,7 @@
 use super::{half, put_half, Bank, Buffer, Channel};
 use crate::rivals::tuned_model::{Event, MODEL_BYTES};
 use crate::rivals::tuned_records::{dualoct, received, refused, Record, Refused};
-use crate::rivals::tuned_state::{beside, Figures, Write, FULL, LAST};
+use crate::rivals::tuned_state::{beside, Figures, Write, BASE, FULL, MOST};
 
 #[derive(Clone, Copy)]
 pub struct Model {
@@ -38,6 +38,7 @@ impl Model {
         answer: &mut [u8],
     ) -> Result<(Model, Event), Refused> {
         let (at, record) = received(f, store, record)?;
+        let at = at.wrapping_sub(BASE); // out of range where it wraps
         if let Err(rule) = self.judge(f, at, &record) {
             return Err(Refused { number: 11, rule });
         }
@@ -55,7 +56,7 @@ impl Model {
             Record::D { .. } => (0, 0),
             _ => (last, 0),
         };
-        rule(1, at >= from.max(4) && at <= LAST - delay)?;
+        rule(1, at >= from.max(1) && at <= MOST - delay)?;
         match *record {
             Record::Act { bank, .. } | Record::Refa { bank } => self.judge_opening(f, at, bank),
             Record::Prer { bank } => self.judge_prer(f, at, bank),
@@ -185,14 +186,14 @@ impl Model {
 
     // ---- State bytes ----
 
-    /// None where the buffer's bytes are of no kind, or spare bytes are not 0.
+    /// None where the bytes are of no buffer, or a byte that is not used is not 0.
     fn decode(state: &[u8; MODEL_BYTES]) -> Option<Model> {
         let model = Model {
             channel: Channel::decode(state.first_chunk().unwrap())?,
-            refr: half(state, 732),
-            data: state[736..].try_into().unwrap(),
+            refr: half(state, 752),
+            data: state[760..776].try_into().unwrap(),
         };
-        (half(state, 734) == 0).then_some(model)
+        (state[754..760] == [0; 6] && state[776..] == [0; 16]).then_some(model)
     }
 
     /// Whether refusal 1 has nothing against the model.
@@ -202,9 +203,9 @@ impl Model {
 
     pub fn encode(&self, state: &mut [u8; MODEL_BYTES]) {
         self.channel.encode(state.first_chunk_mut().unwrap());
-        put_half(state, 732, self.refr);
-        put_half(state, 734, 0);
-        state[736..].copy_from_slice(&self.data);
+        state[752..].fill(0);
+        put_half(state, 752, self.refr);
+        state[760..776].copy_from_slice(&self.data);
     }
 }
 

@@ -4,7 +4,7 @@ use super::{half, is_instant, put_half, put_word, word, Bank, Buffer, Channel};
 use crate::rivals::tuned_plan::STATE_BYTES;
 use crate::rivals::tuned_requests::{Asked, Out, Refused, Request, RECORDS};
 use crate::rivals::tuned_state::{
-    beside, Figures, Write, ACT, FULL, LAST, NOCOP, PRER, RD, REFA, REFP, WR,
+    beside, Figures, Write, ACT, BASE, FULL, MOST, NOCOP, PRER, RD, REFA, REFP, WR,
 };
 
 #[derive(Clone, Copy)]
@@ -19,7 +19,7 @@ impl Planner {
     pub fn fresh() -> Planner {
         Planner {
             channel: Channel::fresh(),
-            now: 4,
+            now: 4 - BASE,
             refresh: 0,
             mask: 0,
         }
@@ -48,7 +48,7 @@ impl Planner {
             Request::Wait => self.wait(asked.low).ok_or(7u32)?,
         };
         let used = out.used;
-        if last > LAST {
+        if last > MOST {
             return Err(7);
         }
         if room.len() / 32 < used {
@@ -88,7 +88,7 @@ impl Planner {
             .max(ch.rule_13(f, bank));
         self.channel.close(at, bank);
         self.now = at;
-        out.row(f, at, bank, code);
+        out.row(f, at + BASE, bank, code);
     }
 
     /// The mask of the waiting write, which a packet other than RD carries.
@@ -108,7 +108,7 @@ impl Planner {
             .max(ch.rule_12(f));
         self.channel.retire(at);
         self.now = at;
-        out.col(f, at, NOCOP, 0, 0, mask);
+        out.col(f, at + BASE, NOCOP, 0, 0, mask);
     }
 
     // ---- Requests: each answers now ----
@@ -135,7 +135,7 @@ impl Planner {
         if self.channel.banks[asked.bank].bank != open {
             self.close_near(f, out, asked.bank);
             let at = self.open(f, asked.bank, open);
-            out.row(f, at, asked.bank, ACT | u64::from(asked.row));
+            out.row(f, at + BASE, asked.bank, ACT | u64::from(asked.row));
         }
     }
 
@@ -150,7 +150,7 @@ impl Planner {
         let at = self.from().max(ch.rule_3(f)).max(ch.rule_10_rd(f, bank));
         self.channel.read(at, bank);
         self.now = at;
-        out.col(f, at, RD, bank, column, FULL);
+        out.col(f, at + BASE, RD, bank, column, FULL);
         at
     }
 
@@ -168,8 +168,8 @@ impl Planner {
         self.channel.retire(at);
         self.channel.buffer = Buffer::Waiting(Write { bank, column, at });
         (self.now, self.mask) = (at, asked.mask);
-        out.col(f, at, WR, bank, column, mask);
-        out.add(at + f.cwd, 2, 0, asked.low, asked.high);
+        out.col(f, at + BASE, WR, bank, column, mask);
+        out.add(at + BASE + f.cwd, 2, 0, asked.low, asked.high);
         at
     }
 
@@ -177,7 +177,7 @@ impl Planner {
         let bank = usize::from(self.refresh);
         self.close_near(f, out, bank);
         let at = self.open(f, bank, Bank::Refresh);
-        out.row(f, at, bank, REFA);
+        out.row(f, at + BASE, bank, REFA);
         self.precharge(f, out, bank, REFP);
         self.refresh = (self.refresh + 1) % 32;
         self.now
@@ -198,13 +198,15 @@ impl Planner {
 
     // ---- State bytes ----
 
+    /// None where the bytes are of no buffer, or a byte that is not used is not 0.
     fn decode(state: &[u8; STATE_BYTES]) -> Option<Planner> {
-        Some(Planner {
+        let planner = Planner {
             channel: Channel::decode(state.first_chunk().unwrap())?,
-            now: word(state, 732),
-            refresh: half(state, 736),
-            mask: half(state, 738),
-        })
+            now: word(state, 752),
+            refresh: half(state, 756),
+            mask: half(state, 760),
+        };
+        (state[758..760] == [0; 2] && state[762..] == [0; 6]).then_some(planner)
     }
 
     /// Whether refusal 1 has nothing against the planner.
@@ -219,9 +221,10 @@ impl Planner {
 
     pub fn encode(&self, state: &mut [u8; STATE_BYTES]) {
         self.channel.encode(state.first_chunk_mut().unwrap());
-        put_word(state, 732, self.now);
-        put_half(state, 736, self.refresh);
-        put_half(state, 738, self.mask);
+        state[752..].fill(0);
+        put_word(state, 752, self.now);
+        put_half(state, 756, self.refresh);
+        put_half(state, 760, self.mask);
     }
 }
 

@@ -1,4 +1,0 @@
-pub mod PlanCalls
-pub mod ModelCall
-pub mod PlanTests
-pub mod Refused

@@ -1,6 +1,0 @@
-pub mod ListOf
-pub mod BenchRun
-pub mod DeviceRun
-pub mod CallsRun
-pub mod Refused
-pub mod Judges

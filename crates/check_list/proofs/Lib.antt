@@ -1,0 +1,3 @@
+pub mod WalkLaws
+pub mod RuleLaws
+pub mod StopLaws

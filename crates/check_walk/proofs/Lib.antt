@@ -1,0 +1,4 @@
+pub mod ViaLaws
+pub mod StopLaws
+pub mod StoreLaws
+pub mod TurnLaws

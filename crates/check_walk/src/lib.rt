@@ -1,0 +1,98 @@
+// A walk over the records of a list or of a log: the first that is none or breaks a rule.
+mod turn;
+
+ghost use mathlib.Core.Path.{_≡_};
+ghost use Prim.Native.Nat.{ℕ, _+_, _<_, _≤_, _^_};
+ghost use lib.ListN.{length};
+ghost use Rattle.spec_rules.specs.Neighbour.{contextOf};
+ghost use Rattle.check_walk.specs.form.Walk.{placeIn, stopOf};
+use crate::turn::channel_of;
+use crate::turn::larger;
+use crate::turn::no_lasts;
+use crate::turn::opened_track;
+use crate::turn::pick;
+use crate::turn::tracks_of;
+use crate::turn::view_of;
+use chan_judge::judge;
+use chan_least::quick::passes;
+use chan_step::buffer_after;
+use chan_step::lasts_after;
+use chan_step::tracks::closed_track;
+use chan_step::tracks::side_track;
+use chan_view::banks::slot_of;
+use chan_view::banks::unused;
+use chan_view::neighbours::first_near;
+use chan_view::neighbours::last_near;
+use chan_view::views::held_of;
+use chan_view::views::leaving;
+use record::RecordRead;
+use record_bytes::read_record;
+use settings::PacketAt;
+use settings::Settings;
+use spec_rules::Buffer;
+
+// Where a walk over records stopped: its end with rule 0, a record that is none with rule 0, or one that breaks this rule.
+pub struct Stop {
+    pub at: usize,
+    pub rule: u32,
+}
+
+// Where record i stands, in a log or in a list.
+fn place_of(blocks: bool, i: usize) -> usize
+    requires { ⌜ i < 2 ^ 58 ⌝ }
+    ensures { λ r. ⌜ r ≡ placeIn blocks i ⌝ }
+{
+    if blocks {
+        512 * (i / 15) + 32 * (i % 15)
+    } else {
+        32 * i
+    }
+}
+
+// The first of n records that is none or breaks a rule. The state of the channel stands in locals: only a record that fails the
+// quick test is judged by all of it. No bank was opened after newest.
+pub fn walk(s: Settings, b: &[u8], n: usize, blocks: bool) -> Stop
+    requires { ⌜ n < 2 ^ 58 ⌝ }
+    requires { ⌜ ((i : ℕ) → i < n → placeIn blocks i + 32 ≤ length (now b)) ⌝ }
+    ensures { λ r. ⌜ r ≡ stopOf (contextOf s) blocks (now (b .entry)) n ⌝ }
+{
+    let mut banks = [unused(); 32];
+    let mut l = no_lasts();
+    let mut newest = 0;
+    let mut buffer = Buffer::Empty;
+    let mut due = false;
+    for i in 0..n {
+        let RecordRead::Known(r) = read_record(s, b, place_of(blocks, i)) else {
+            return Stop { at: i, rule: 0 };
+        };
+        let v = view_of(r);
+        let h = held_of(buffer, due);
+        let x = slot_of(v.bank);
+        let y = first_near(s, x);
+        let z = last_near(s, x);
+        let w = slot_of(h.bank);
+        let k = tracks_of(banks[x], banks[y], banks[z], banks[w]);
+        if !passes(s, r, h, k, l, PacketAt(newest)) {
+            let rule = judge(s, channel_of(banks, l, buffer, due), r);
+            if rule != 0 {
+                return Stop { at: i, rule: rule };
+            }
+        }
+        let leaves = leaving(s, h, v);
+        banks[w].retire.0 = pick(leaves, v.at.0, banks[w].retire.0);
+        if v.opens {
+            banks[x] = opened_track(v, banks[x]);
+            newest = larger(newest, v.at.0);
+        } else if v.precharges {
+            banks[x] = closed_track(v.at, banks[x]);
+            banks[y] = side_track(v.at, banks[y]);
+            banks[z] = side_track(v.at, banks[z]);
+        } else if v.reads {
+            banks[x].rd.0 = v.at.0;
+        }
+        l = lasts_after(r, l);
+        buffer = buffer_after(r, leaves, buffer);
+        due = v.writes;
+    }
+    Stop { at: n, rule: 0 }
+}

@@ -1,5 +1,0 @@
-pub mod WalkLaws
-pub mod RuleLaws
-pub mod PassLaws
-pub mod StopLaws
-pub mod BreachLaws

@@ -1,3 +1,0 @@
-// Fresh states as bytes.
-pub mod models;
-pub mod plans;

@@ -1,3 +1,0 @@
-pub mod Refused
-pub mod RoundTrip
-pub mod BreachLaws

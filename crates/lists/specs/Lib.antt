@@ -1,3 +1,0 @@
-pub mod Logs
-pub mod Checks
-pub mod RoundTrip

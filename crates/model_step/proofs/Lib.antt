@@ -1,0 +1,3 @@
+pub mod TouchLaws
+pub mod TakeLaws
+pub mod CallLaws

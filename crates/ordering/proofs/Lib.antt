@@ -1,2 +1,0 @@
-pub mod ListedLaws
-pub mod CodeLaws

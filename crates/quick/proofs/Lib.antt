@@ -1,3 +1,0 @@
-pub mod Picks
-pub mod QuickLaws
-pub mod StoreLaws

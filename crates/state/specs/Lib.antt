@@ -1,3 +1,0 @@
-pub mod ChannelBytes
-pub mod Planes
-pub mod Tested

@@ -1,4 +1,0 @@
-pub mod MaskLaws
-pub mod PlaceLaws
-pub mod CopyLaws
-pub mod TouchLaws

@@ -1,4 +1,0 @@
-pub mod CodeViews
-pub mod TimeLaws
-pub mod GoingLaws
-pub mod TurnLaws

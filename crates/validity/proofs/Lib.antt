@@ -1,4 +1,0 @@
-pub mod ValidLaws
-pub mod AfterLaws
-pub mod Stamps
-pub mod NextValid

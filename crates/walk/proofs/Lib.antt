@@ -1,3 +1,0 @@
-pub mod ViaLaws
-pub mod StopLaws
-pub mod TurnLaws
