@@ -1,8 +1,7 @@
-// The lowest rule that a record breaks in the state that a model's bytes say: of the banks only those are read that it concerns, and
-// only a packet that fails a quick test is judged rule by rule.
+// The lowest rule that a record breaks in the state that a model's bytes say: of the banks only those are read that it concerns.
 ghost use mathlib.Core.Path.{_≡_};
 ghost use mathlib.Core.Bool.{true};
-ghost use Prim.Native.Nat.{ℕ, _≤_, _<_};
+ghost use Prim.Native.Nat.{_≤_};
 ghost use lib.ListN.{length, getD};
 ghost use Rattle.spec_rules.specs.Neighbour.{contextOf};
 ghost use Rattle.spec_rules.specs.Channel.{idle};
@@ -11,26 +10,21 @@ ghost use Rattle.spec_state.specs.ChannelBytes.{channelIn};
 ghost use Rattle.spec_model.specs.ModelBytes.{modelIn, modelRight};
 ghost use Rattle.state_bytes.specs.form.Stored.{InRange};
 ghost use Rattle.chan_view.specs.form.Beside.{slotOf, tracksOf};
-ghost use Rattle.chan_view.specs.form.View.{seenOf, heldOf};
+ghost use Rattle.chan_view.specs.form.View.{heldOf};
 ghost use Rattle.chan_judge.specs.form.Tests.{actOver, packetRule};
 use chan_judge::acts::act_with;
 use chan_judge::data_rule;
 use chan_judge::packet_rule;
-use chan_least::quick::passes;
 use chan_view::Held;
 use chan_view::Seen;
-use chan_view::Tracks;
 use chan_view::View;
 use chan_view::banks::around;
 use chan_view::banks::slot_of;
-use chan_view::neighbours::first_near;
 use chan_view::neighbours::high_of;
-use chan_view::neighbours::last_near;
 use chan_view::neighbours::low_of;
 use chan_view::views::held_of;
 use chan_view::views::seen_of;
 use record::Record;
-use settings::PacketAt;
 use settings::Settings;
 use spec_rules::BankTrack;
 use state_bytes::reads::buffer_at;
@@ -91,68 +85,15 @@ fn packet_in(s: Settings, b: &[u8], h: Held, v: View) -> u32
     packet_rule(s, v, h, k, 0, l)
 }
 
-// An instant that no bank was opened after: for a packet that opens a bank, when one was opened last; for any other, where the test
-// does not ask, the last of all instants.
-fn newest_in(b: &[u8], opens: bool) -> PacketAt
-    requires { ⌜ 752 ≤ length (now b) ⌝ }
-    requires { ⌜ InRange (now b) ⌝ }
-    ensures { λ r. ⌜ ((x : ℕ) → x < 32 → getD (channelIn (now (b .entry)) .banks) x idle .opened .0 ≤ r .0) ⌝ }
-{
-    if !opens {
-        return PacketAt(1000000000);
-    }
-    let mut top: u32 = 0;
-    let mut x = 0;
-    while x < 32 {
-        let n = num::u32_at(b, 4 * x);
-        if top < n {
-            top = n;
-        }
-        x += 1;
-    }
-    PacketAt(top + 3)
-}
-
-// Whether a packet breaks no rule, by the quick test; what fails it is judged.
-fn passes_in(s: Settings, b: &[u8], r: Record, v: View) -> bool
-    requires { ⌜ modelRight (contextOf s) (now b) ≡ true ⌝ }
-    requires { ⌜ seenOf r ≡ Seen.Packet v ⌝ }
-    ensures { λ p. ⌜ (p ≡ true → judged (contextOf s) (channelIn (now (b .entry))) r ≡ 0) ⌝ }
-{
-    if 32 <= v.bank {
-        return false;
-    }
-    let x = v.bank as usize;
-    let h = held_at(b);
-    let k = Tracks {
-        own: track_at(b, x),
-        low: track_at(b, first_near(s, x)),
-        high: track_at(b, last_near(s, x)),
-        held: track_for(b, h.bank),
-    };
-    passes(s, r, h, k, lasts_at(b), newest_in(b, v.opens))
-}
-
-// The lowest rule that a packet breaks, or 0.
-fn judge_packet(s: Settings, b: &[u8], r: Record, v: View) -> u32
-    requires { ⌜ modelRight (contextOf s) (now b) ≡ true ⌝ }
-    requires { ⌜ seenOf r ≡ Seen.Packet v ⌝ }
-    ensures { λ n. ⌜ n ≡ judged (contextOf s) (channelIn (now (b .entry))) r ⌝ }
-{
-    if passes_in(s, b, r, v) {
-        return 0;
-    }
-    packet_in(s, b, held_at(b), v)
-}
-
 // The lowest rule that a record breaks, or 0.
 pub fn judge_in(s: Settings, b: &[u8], r: Record) -> u32
     requires { ⌜ modelRight (contextOf s) (now b) ≡ true ⌝ }
     ensures { λ n. ⌜ n ≡ judged (contextOf s) (modelIn (now (b .entry)) .channel) r ⌝ }
 {
+    let h = held_at(b);
     let seen = seen_of(r);
     match seen {
-        Seen::Packet(v) => judge_packet(s, b, r, v),
-        Seen::Data(t) => data_rule(s, held_at(b), t),
+        Seen::Packet(v) => packet_in(s, b, h, v),
+        Seen::Data(t) => data_rule(s, h, t),
     }
 }

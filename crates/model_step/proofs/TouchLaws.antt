@@ -2,11 +2,12 @@
 -- Assumes nothing.
 use Prim.Native.Nat.{ℕ}
 use mathlib.Core.Path.{_≡_, refl}
-use mathlib.Core.Bool.{Bool, true, false, cond}
+use mathlib.Core.Bool.{Bool, true, false, _&&_, cond}
 use mathlib.Core.List.{List, []}
 use mathlib.Core.Option.{none, some}
 use native.Mathlib.Omega.{arith}
-use lib.Dec.{ltb}
+use lib.Dec.{eqb, ltb}
+use lib.ListN.{length}
 use Rattle.settings.specs.declared.Settings.{Settings}
 use Rattle.settings.specs.declared.DataAt.{DataAt}
 use Rattle.settings.specs.Settings.{valid}
@@ -21,13 +22,14 @@ use Rattle.spec_rules.specs.declared.Write.{Write}
 use Rattle.spec_rules.specs.declared.Buffer.{Buffer}
 use Rattle.spec_rules.specs.declared.Buffer.the-variants.{Empty, One}
 use Rattle.spec_rules.specs.declared.Channel.{Channel}
-use Rattle.spec_rules.specs.Neighbour.{Context, contextOf}
+use Rattle.spec_rules.specs.Neighbour.{Context, contextOf, bankCount}
 use Rattle.spec_rules.specs.Packets.{traits, rowTraits, colTraits}
 use Rattle.spec_rules.specs.History.{onlyWrite, first, leaving, allWrites}
 use Rattle.spec_rules.specs.Channel.{stateOf, waitingOf}
-use Rattle.spec_rules.proofs.Bools.{and-left}
-use Rattle.spec_state.specs.Valid.{writeValid}
-use Rattle.spec_state.proofs.NextValid.{Sound}
+use Rattle.spec_rules.proofs.Bools.{and-left, and-right}
+use Rattle.spec_state.specs.Valid.{writeValid, channelValid}
+use Rattle.spec_state.specs.ChannelBytes.{zeroPart, channelSpare}
+use Rattle.spec_state.proofs.NextValid.{Sound, valid-sound}
 use Rattle.chan_view.specs.declared.View.{View}
 use Rattle.chan_view.specs.declared.Held.{Held}
 use Rattle.chan_view.specs.declared.Seen.the-variants.{Packet, Data}
@@ -35,14 +37,13 @@ use Rattle.chan_view.specs.form.Beside.{slotOf}
 use Rattle.chan_view.specs.form.View.{colView, seenOf, heldOf, leaves}
 use Rattle.chan_view.proofs.ViewLaws.{seen-shows, leaving-is}
 use Rattle.spec_model.specs.declared.ModelState.{ModelState}
-use Rattle.spec_model.specs.Model.{retireMask, retiredWrite, storeNext, readOf}
-use Rattle.spec_model.specs.ModelBytes.{modelIn, modelRight}
+use Rattle.spec_model.specs.Model.{modelValid, retireMask, retiredWrite, storeNext, readOf}
+use Rattle.spec_model.specs.ModelBytes.{modelLength, modelIn, modelRight}
 use Rattle.spec_model.specs.Step.{retireAnswer, passedAnswer, isTaken, bytesRead}
 use Rattle.model_store.specs.declared.Touch.{Touch}
 use Rattle.model_store.specs.declared.Touch.the-variants.{Nothing}
 use Rattle.model_store.specs.form.Touch.{touchOf, TouchIn, touchAnswer, touchStore, touchBytes}
 use Rattle.model_store.proofs.TouchLaws.{Found, touch-answer, touch-store, touch-bytes, touch-in}
-use Rattle.model_judge.proofs.ReadLaws.{right-sound, held-bank}
 use Rattle.model_step.specs.form.Take.{named, touchFor}
 
 -- ---- as the code reads it
@@ -81,12 +82,13 @@ row-none (Refp b) = refl
 module _ (cx : Context) (ch : Channel) (k : Sound cx ch) where
   held-at : (bf : Buffer) (due c : Bool) (w : Write) → allWrites (writeValid cx) (waitingOf bf) ≡ true → onlyWrite c (first (waitingOf bf)) ≡ some w
       → stateOf ch (slotOf (heldOf bf due .bank)) ≡ stateOf ch (w .bank)
-  unfolding waitingOf heldOf
+  unfolding waitingOf heldOf writeValid bankCount
   held-at Empty due true w v e = absurd (let z : _≡_ {A = ℕ} 0 1 = cc in omega arith)
   held-at bf due false w v e = absurd (let z : _≡_ {A = ℕ} 0 1 = cc in omega arith)
   held-at (One x) due true w v e =
       let q : x ≡ w = cc in
-      rw (slot-is (x .bank) (held-bank cx (One x) due v refl), q)
+      let l : ltb (x .bank) 32 ≡ true = and-left (ltb (x .bank) 32) _ (and-left (writeValid cx x) true v) in
+      rw (slot-is (x .bank) l, q)
 
   read-at : (r : Record) → recordFits (cx .settings) r ≡ true → (b : ℕ) → traits r .reads ≡ some b → stateOf ch (slotOf (named (seenOf r))) ≡ stateOf ch b
   unfolding recordFits colFits traits colTraits named seenOf colView
@@ -109,9 +111,16 @@ pub record Asks (cx : Context) (m : ModelState) (r : Record) (t : Touch) : Type 
   pub read : (store : List ℕ) (room : ℕ) → cond (isTaken (touchAnswer t room)) (bytesRead (readOf cx (m .channel) r) store) [] ≡ touchBytes cx t store room
   pub within : TouchIn cx t
 
+-- bytes that are not refused say a state that is not refused
+right-sound : (cx : Context) (b : List ℕ) → modelRight cx b ≡ true → Sound cx (modelIn b .channel)
+unfolding modelRight modelValid
+right-sound cx b r =
+    let v = and-right (channelSpare b && (zeroPart b 754 6 && zeroPart b 776 16)) _ (and-right (eqb (length b) modelLength) _ r) in
+    valid-sound cx (modelIn b .channel) (and-left (channelValid cx (modelIn b .channel)) _ v)
+
 pub asks : (cx : Context) → valid (cx .settings) ≡ true → (b : List ℕ) → modelRight cx b ≡ true → (r : Record) → recordFits (cx .settings) r ≡ true
     → Asks cx (modelIn b) r (touchFor cx (modelIn b .channel) r)
-unfolding touchFor modelIn
+unfolding touchFor
 asks cx v b h r f =
     let m = modelIn b in
     let k = right-sound cx b h in

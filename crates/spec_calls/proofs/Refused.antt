@@ -32,8 +32,8 @@ use Rattle.meter.specs.Answer.{feedAccepted}
 use Rattle.meter.specs.Meter.{feedMeter}
 use Rattle.meter.specs.Calls.{fedAnswered}
 use Rattle.spec_calls.specs.Settings.{bySettings, underSettings}
-use Rattle.spec_calls.specs.Plans.{FreshResult, freshInto, plannerFresh, planAnswer, planBy, planUnder, planCall}
-use Rattle.spec_calls.specs.Models.{modelFresh, steppedAnswer, stepBy, stepUnder, stepCall}
+use Rattle.spec_calls.specs.Plans.{FreshResult, freshInto, plannerFresh, planAnswer, planRefused, planBy, planUnder, planCall}
+use Rattle.spec_calls.specs.Models.{modelFresh, steppedAnswer, stepRefused, stepBy, stepUnder, stepCall}
 use Rattle.spec_calls.specs.Logs.{copyAnswer, CopyResult, copyBy, copyCall, logEncodeCall, logDecodeCall}
 use Rattle.spec_calls.specs.Refused.{PlanKept, StepKept, RefusedCalls}
 
@@ -43,9 +43,9 @@ either P true p q = p
 either P false p q = q
 
 -- what holds of the result of 1, and under any settings
-under : {R : Type 0} (P : R → Type 0) (settings : List ℕ) {refused : Refusal → R} {call : Settings → R} → P (refused refusal.Settings) → ((s : Settings) → P (call s)) → P (underSettings settings refused call)
+under : {R : Type 0} (P : R → Type 0) (settings : List ℕ) (refused : Refusal → R) {call : Settings → R} → P (refused refusal.Settings) → ((s : Settings) → P (call s)) → P (underSettings settings refused call)
 unfolding underSettings
-under P settings {refused} {call} p f = go (settingsRead settings)
+under P settings refused {call} p f = go (settingsRead settings)
   where
     go : (x : SettingsRead) → P (bySettings x refused call)
     go read.Refused = p
@@ -63,7 +63,7 @@ plan-by planner request room cx p (outcome.Made k) n = absurd (n refl)
 plan-kept : (settings planner request room : List ℕ) → PlanKept planner room (planCall settings planner request room)
 unfolding planUnder planCall
 plan-kept settings planner request room =
-    under (PlanKept planner room) settings (λ n. (refl, refl))
+    under (PlanKept planner room) settings (planRefused planner request room) (λ n. (refl, refl))
     (λ s. either (PlanKept planner room) (plannerRight (contextOf s) planner)
     (plan-by planner request room (contextOf s) (plannerIn planner) (planOutcome (contextOf s) (plannerIn planner) request (length room)))
     (λ n. (refl, refl)))
@@ -78,7 +78,7 @@ step-by model store given room cx m stepped.Neither n = absurd (n refl)
 step-kept : (settings model store given room : List ℕ) → StepKept model store room (stepCall settings model store given room)
 unfolding stepUnder stepCall
 step-kept settings model store given room =
-    under (StepKept model store room) settings (λ n. (refl, refl, refl))
+    under (StepKept model store room) settings (stepRefused model store given room) (λ n. (refl, refl, refl))
     (λ s. either (StepKept model store room) (modelRight (contextOf s) model)
     (step-by model store given room (contextOf s) (modelIn model) (stepAnswer (contextOf s) (modelIn model) (length store) given (length room)))
     (λ n. (refl, refl, refl)))
@@ -91,7 +91,7 @@ copy-by new lent (copied.Count k) n = absurd (n refl)
 copy-kept : (new lent : List ℕ) (answer : Settings → Copied) (settings : List ℕ) → copyCall new lent answer settings .answer .number ≢ 0 → copyCall new lent answer settings .lent ≡ lent
 unfolding copyCall
 copy-kept new lent answer settings =
-    under (λ (x : CopyResult). x .answer .number ≢ 0 → x .lent ≡ lent) settings {refused = copyBy new lent (copied.Refused refusal.Settings)} {call = λ s. copyBy new lent (answer s)}
+    under (λ (x : CopyResult). x .answer .number ≢ 0 → x .lent ≡ lent) settings (λ why. copyBy new lent (copied.Refused why)) {call = λ s. copyBy new lent (answer s)}
     (copy-by new lent (copied.Refused refusal.Settings))
     (λ s. copy-by new lent (answer s))
 

@@ -1,4 +1,5 @@
 -- `model_step::take_in` meets its contract: the rule, then what the record asks of the store, then the next state.
+use Prim.Native.Nat.{_≤_}
 use mathlib.Core.Bool.{true, false}
 use mathlib.Core.Path.{_≡_, refl, sym, ap, _∙_}
 use native.Mathlib.Omega.{arith}
@@ -12,8 +13,10 @@ use Rattle.spec_model.specs.declared.Stepped.the-variants.{Refused}
 use Rattle.spec_model.specs.ModelBytes.{modelBytes, modelIn}
 use Rattle.spec_model.specs.Step.{recordAnswer, isTaken}
 use Rattle.spec_model.proofs.ModelRoundTrip.{model-encode-decode}
+use Rattle.state_bytes.specs.form.Stored.{InRange}
+use Rattle.state_bytes.proofs.RangeLaws.{model-in-range}
 use Rattle.model_store.specs.form.Touch.{touchStore, touchBytes}
-use Rattle.model_judge.proofs.ReadLaws.{right-length, legible}
+use Rattle.model_judge.proofs.ReadLaws.{right-length}
 use Rattle.model_step.specs.form.Take.{takeStore, takeRoom}
 use Rattle.model_step.proofs.TouchLaws.{Asks, asks}
 use Rattle.model_step.proofs.TakeLaws.{broken, passed, left-model, left-store, left-room, taken-model, took-store, took-room}
@@ -24,10 +27,8 @@ use Rattle.model_step.proofs.take_in.Tie as tie
 long : (z : tie.Start) → length (z .args .model .now) ≡ 792
 long z = right-length (contextOf (z .args .s)) (z .args .model .now) (z .pre .1 .0)
 
-touch-in-requires : tie.Need-touch-in-requires
-touch-in-requires c κs =
-    let z = c .before .before .before .before .before .before .before in
-    legible (contextOf (z .args .s)) (z .args .model .now) (z .pre .1 .0)
+legible : (z : tie.Start) → (752 ≤ length (z .args .model .now)) × InRange (z .args .model .now)
+legible z = (omega (arith, long z), model-in-range (contextOf (z .args .s)) (z .args .model .now) (z .pre .1 .0))
 
 -- the bytes are those of the state that they say
 back : (c : tie.After-slice-known) → modelBytes (modelIn (c .before .args .model .now)) ≡ c .before .args .model .now
@@ -124,6 +125,6 @@ pub take-in-spec : {M : Type 1} → statement M
 take-in-spec =
     tie.close
     (tie.spec
-    (λ c κs. c .before .before .before .before .pre .1 .0) (λ c. search needs) returns touch-in-requires (λ c κs. long (c .before .before .before .before .before .before .before .before .before)) access-requires
+    (λ c κs. c .before .before .before .before .pre .1 .0) (λ c. search needs) returns (λ c κs. legible (c .before .before .before .before .before .before .before)) (λ c κs. long (c .before .before .before .before .before .before .before .before .before)) access-requires
     (λ c κs. search needs) put-next-requires (λ c. search needs) (λ c. search needs) (λ c. search needs) returns-2 (λ c. search needs)
     (λ c. search needs) (λ c. search needs) returns-3)
