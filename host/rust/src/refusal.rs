@@ -258,6 +258,11 @@ impl fmt::Display for Refusal {
                 "the length is not one of whole records (32 bytes) or blocks (512 bytes), \
                  or of one request (24 bytes) or record; pass whole ones",
             ),
+            Refusal::Index { place } => write!(
+                f,
+                "word {place} (from 0) of the index is wrong, missing or surplus; \
+                 make the index of this log afresh"
+            ),
             Refusal::Overlap => f.write_str(
                 "an instant is less than 4 after the newest; \
                  feed each dualoct once, in rising order",
