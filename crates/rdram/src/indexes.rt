@@ -14,7 +14,12 @@ pub extern "C" fn rdram_index_make(settings: &[u8], log: &[u8], index: &mut [u8]
 
 // The index of a log to a buffer whose first `kept` words are there already: only the others are written.
 #[no_mangle]
-pub extern "C" fn rdram_index_add(settings: &[u8], log: &[u8], kept: usize, index: &mut [u8]) -> IndexAnswer
+pub extern "C" fn rdram_index_add(
+    settings: &[u8],
+    log: &[u8],
+    kept: usize,
+    index: &mut [u8],
+) -> IndexAnswer
     ensures { λ r. ⌜ (r ≡ indexAddCall (now (settings .entry)) (now (log .entry)) kept (now (index .entry)) .answer) × (now (index .exit) ≡ indexAddCall (now (settings .entry)) (now (log .entry)) kept (now (index .entry)) .lent) ⌝ }
 {
     calls_index::add_by(settings, log, kept, index)
@@ -22,7 +27,13 @@ pub extern "C" fn rdram_index_add(settings: &[u8], log: &[u8], kept: usize, inde
 
 // The numbers of the blocks that touch a bank, to the start of a buffer.
 #[no_mangle]
-pub extern "C" fn rdram_index_query(settings: &[u8], log: &[u8], index: &[u8], bank: u32, out: &mut [u8]) -> IndexAnswer
+pub extern "C" fn rdram_index_query(
+    settings: &[u8],
+    log: &[u8],
+    index: &[u8],
+    bank: u32,
+    out: &mut [u8],
+) -> IndexAnswer
     ensures { λ r. ⌜ (r ≡ indexQueryCall (now (settings .entry)) (now (log .entry)) (now (index .entry)) bank (now (out .entry)) .answer) × (now (out .exit) ≡ indexQueryCall (now (settings .entry)) (now (log .entry)) (now (index .entry)) bank (now (out .entry)) .lent) ⌝ }
 {
     calls_index::query_by(settings, log, index, bank, out)

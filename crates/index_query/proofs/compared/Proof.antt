@@ -1,6 +1,9 @@
 -- `compared` meets its contract.
 use mathlib.Core.Path.{_∙_, sym}
 use borrow.Author.Tests.{eq-eqb, ne-eqb}
+use Rattle.num.specs.Search.{firstFalse}
+use Rattle.log_index.specs.Index.{wordsOf, wordRight}
+use Rattle.index_words.specs.form.Fields.{fieldsWord}
 use Rattle.index_query.specs.form.Beside.{besideFields}
 use borrow.Author.Needs.{needs}
 use Rattle.index_query.proofs.compared.Statement.{statement}
@@ -15,8 +18,10 @@ first-wrong-requires c κs = search needs
 returns : tie.Need-returns
 unfolding besideFields
 returns c =
+    let a = c .before .before .before .before .before .args in
+    let n = wordsOf (a .log .now) (a .index .now) in
     let g = c .before .before .greater .ensures in
-    rw (eq-eqb _ _ (sym (rw g at (c .before .first-wrong .ensures)) ∙ c .if1 .taken ∙ g))
+    rw (eq-eqb (firstFalse (wordRight fieldsWord (a .log .now) (a .index .now)) n) n (sym (rw g at (c .before .first-wrong .ensures)) ∙ c .if1 .taken ∙ g))
 
 returns-2 : tie.Need-returns-2
 unfolding besideFields
