@@ -17,9 +17,14 @@ module _ {R : Type 0} (refused : Refusal → R) where
   abbrev pub wholeIn : ℕ → List ℕ → R → R
   wholeIn size b next = cond (eqb (length b % size) 0) next (refused Length)
 
-  -- "A whole list is tested [..] for 12, then for 10 [..]; 12 names the first bad block, the others the first bad record, from 0"
+  -- "12 names the first bad block"
+  abbrev pub rightBlocks : List ℕ → R → R
+  rightBlocks log next = cond (eqb (firstBadBlock log) (blocksIn log)) next (refused (Block (firstBadBlock log)))
+
+  -- "the others the first bad record, from 0": 10
+  abbrev pub rightRecords : Settings → List ℕ → R → R
+  rightRecords s list next = cond (eqb (firstBad s list) (recordsIn list)) next (refused (Word (firstBad s list)))
+
+  -- "A whole list is tested [..] for 12, then for 10": the blocks of a log, then the list that it keeps
   abbrev pub rightLog : Settings → List ℕ → R → R
-  rightLog s log next =
-      cond (eqb (firstBadBlock log) (blocksIn log))
-      (cond (eqb (firstBad s (listOf log)) (recordsIn (listOf log))) next (refused (Word (firstBad s (listOf log)))))
-      (refused (Block (firstBadBlock log)))
+  rightLog s log next = rightBlocks log (rightRecords s (listOf log) next)
