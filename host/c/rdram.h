@@ -1,6 +1,6 @@
 /*
- * rdram.h: Direct RDRAM packet words, block logs, timing rules, plans, a device model and a meter of
- * the data pins (rdram_meter.h, included below). Link with librdram.a. Common to all calls:
+ * rdram.h: Direct RDRAM packet words, block logs and their index (rdram_index.h), timing rules, plans,
+ * a device model, a meter of the data pins (rdram_meter.h). Link with librdram.a. Common to all calls:
  * - A buffer is a pointer and its length in bytes. A null pointer is allowed with length 0. No
  *   alignment is needed. Numbers in buffers have their low byte first.
  * - The buffers of one call must not overlap.
@@ -12,6 +12,7 @@
 #ifndef RDRAM_H
 #define RDRAM_H
 
+#include "rdram_index.h"
 #include "rdram_meter.h"
 #include <stddef.h>
 #include <stdint.h>

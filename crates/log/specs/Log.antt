@@ -1,18 +1,19 @@
 -- A list of records to a log and back: what each call answers, and what the lent buffer holds after it
 -- (document 01, "Blocks" and "What is turned back").
 -- Assumes nothing.
-use Prim.Native.Nat.{ℕ, _/_, _%_, _^_}
+use Prim.Native.Nat.{ℕ, _/_, _^_}
 use mathlib.Core.Bool.{Bool, cond, _&&_}
 use mathlib.Core.List.{List}
-use lib.Dec.{eqb, leb}
+use lib.Dec.{leb}
 use lib.ListN.{length}
 use Rattle.num.specs.Bytes.{splice}
 use Rattle.settings.specs.declared.Settings.{Settings}
-use Rattle.record.specs.declared.Refusal.the-variants.{Full, Word, Block, Length}
-use Rattle.record.specs.Record.{firstBad, recordsIn}
+use Rattle.record.specs.declared.Refusal.the-variants.{Full}
+use Rattle.record.specs.Record.{recordsIn}
 use Rattle.log.specs.declared.Copied.{Copied}
 use Rattle.log.specs.declared.Copied.the-variants.{Refused, Count}
-use Rattle.blocks.specs.Block.{blockCount, logOf, blocksIn, firstBadBlock, listOf}
+use Rattle.blocks.specs.Block.{blockCount, logOf, listOf}
+use Rattle.log_right.specs.Right.{wholeIn, rightRecords, rightLog}
 
 -- the lent buffer after a call: what was made goes to its start, and "a refusal changes no lent buffer"
 unfoldable pub copied : Copied → List ℕ → List ℕ → List ℕ
@@ -27,11 +28,7 @@ blocksFit l room = leb (blockCount (recordsIn l)) (room / 512) && leb (blockCoun
 -- a list to a log with room for so many bytes: 13, then 10 with the first bad record, then 8; else the number of blocks
 unfoldable pub encodeAnswer : Settings → List ℕ → ℕ → Copied
 encodeAnswer s l room =
-    cond (eqb (length l % 32) 0)
-    (cond (eqb (firstBad s l) (recordsIn l))
-    (cond (blocksFit l room) (Count (blockCount (recordsIn l))) (Refused Full))
-    (Refused (Word (firstBad s l))))
-    (Refused Length)
+    wholeIn Refused 32 l (rightRecords Refused s l (cond (blocksFit l room) (Count (blockCount (recordsIn l))) (Refused Full)))
 
 unfoldable pub encodeLog : Settings → List ℕ → List ℕ → List ℕ
 encodeLog s l log = copied (encodeAnswer s l (length log)) (logOf l) log
@@ -40,13 +37,8 @@ encodeLog s l log = copied (encodeAnswer s l (length log)) (logOf l) log
 -- then 8; else the number of records
 unfoldable pub decodeAnswer : Settings → List ℕ → ℕ → Copied
 decodeAnswer s log room =
-    cond (eqb (length log % 512) 0)
-    (cond (eqb (firstBadBlock log) (blocksIn log))
-    (cond (eqb (firstBad s (listOf log)) (recordsIn (listOf log)))
-    (cond (leb (recordsIn (listOf log)) (room / 32)) (Count (recordsIn (listOf log))) (Refused Full))
-    (Refused (Word (firstBad s (listOf log)))))
-    (Refused (Block (firstBadBlock log))))
-    (Refused Length)
+    wholeIn Refused 512 log
+    (rightLog Refused s log (cond (leb (recordsIn (listOf log)) (room / 32)) (Count (recordsIn (listOf log))) (Refused Full)))
 
 unfoldable pub decodeLog : Settings → List ℕ → List ℕ → List ℕ
 decodeLog s log list = copied (decodeAnswer s log (length list)) (listOf log) list

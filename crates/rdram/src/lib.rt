@@ -1,5 +1,6 @@
 // The C entry points. Buffers that are lent must not overlap.
 pub mod checks;
+pub mod indexes;
 pub mod logs;
 pub mod meters;
 pub mod models;

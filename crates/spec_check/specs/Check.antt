@@ -11,9 +11,10 @@ use Rattle.record.specs.declared.Record.{Record}
 use Rattle.record.specs.declared.Record.the-variants.{DataOf}
 use Rattle.record.specs.declared.RecordRead.{RecordRead}
 use Rattle.record.specs.declared.RecordRead.the-variants.{NoRecord, Known}
-use Rattle.record.specs.declared.Refusal.the-variants.{Word, Rule, Block, Length}
-use Rattle.record.specs.Record.{recordRead, wellFormed, recordAt, recordsIn, firstBad}
-use Rattle.blocks.specs.Block.{blockAt, blockRight, blocksIn, firstBadBlock, listOf}
+use Rattle.record.specs.declared.Refusal.the-variants.{Rule}
+use Rattle.record.specs.Record.{recordRead, wellFormed, recordAt, recordsIn}
+use Rattle.blocks.specs.Block.{blockAt, blockRight, blocksIn, listOf}
+use Rattle.log_right.specs.Right.{wholeIn, rightBlocks, rightRecords}
 use Rattle.spec_rules.specs.Neighbour.{Context}
 use Rattle.spec_rules.specs.Broken.{FirstBreach, ruleAt, firstBroken}
 use Rattle.spec_check.specs.declared.Judged.{Judged}
@@ -40,19 +41,15 @@ ruleAnswer cx rs =
 
 -- "A whole list is tested [..] for 10, then for 11": of whole records
 unfoldable pub recordsAnswer : Context → List ℕ → Judged
-recordsAnswer cx l =
-    cond (eqb (firstBad (cx .settings) l) (recordsIn l)) (ruleAnswer cx (recordsOf (cx .settings) l)) (Refused (Word (firstBad (cx .settings) l)))
+recordsAnswer cx l = rightRecords Refused (cx .settings) l (ruleAnswer cx (recordsOf (cx .settings) l))
 
 -- a list of records: 13, then 10, then 11
 unfoldable pub listAnswer : Context → List ℕ → Judged
-listAnswer cx l = cond (eqb (length l % 32) 0) (recordsAnswer cx l) (Refused Length)
+listAnswer cx l = wholeIn Refused 32 l (recordsAnswer cx l)
 
 -- a log of blocks: 13, then 12, then 10 and 11 of the list that it keeps
 unfoldable pub logAnswer : Context → List ℕ → Judged
-logAnswer cx log =
-    cond (eqb (length log % 512) 0)
-    (cond (eqb (firstBadBlock log) (blocksIn log)) (recordsAnswer cx (listOf log)) (Refused (Block (firstBadBlock log))))
-    (Refused Length)
+logAnswer cx log = wholeIn Refused 512 log (rightBlocks Refused log (recordsAnswer cx (listOf log)))
 
 -- what 11 with rule n and place j says of a list: whole records, all well formed; record j is the first that breaks a rule, and n
 -- the lowest that it breaks

@@ -1,4 +1,4 @@
-//! Times `log_encode` and `log_decode` on 1,000,000 records, and on a list that stays in the cache,
+//! Times `log_encode`, `log_decode`, `index_make` and `index_query` on 1,000,000 records, and on a list that stays in the cache,
 //! by the library and by plain Rust with the same checks: `bench [RECORDS [RUNS]]`.
 
 mod common;
@@ -74,6 +74,16 @@ fn plain_decode(settings: &[u8], log: &[u8], list: &mut [u8]) -> Option<usize> {
     plain::log_decode(settings, log, list).ok()
 }
 
+#[inline(never)]
+fn plain_index_make(settings: &[u8], log: &[u8], index: &mut [u8]) -> Result<usize, (u32, usize)> {
+    plain::index_make(settings, log, index)
+}
+
+#[inline(never)]
+fn plain_index_query(settings: &[u8], log: &[u8], index: &[u8], bank: u32, out: &mut [u8]) -> Result<usize, (u32, usize)> {
+    plain::index_query(settings, log, index, bank, out)
+}
+
 fn measure(records: usize, runs: usize) {
     let (blocks, stream) = (records.div_ceil(15), format!("{records} records"));
     let settings = SETTINGS.to_bytes();
@@ -118,6 +128,34 @@ fn measure(records: usize, runs: usize) {
     );
     assert!(back == list && plain_back == list, "other records");
     print_row("`rdram_log_decode`", &stream, library, plain, None);
+    measure_index(&log, records, runs, &stream);
+}
+
+fn measure_index(log: &[u8], records: usize, runs: usize, stream: &str) {
+    let settings = SETTINGS.to_bytes();
+    let (mut index, mut plain_index) = (vec![1; log.len() / 128], vec![1; log.len() / 128]);
+    let [library, plain] = best(
+        records,
+        runs,
+        [
+            &mut || vec![timed(|| rdram::index_make(&SETTINGS, black_box(log), &mut index))],
+            &mut || vec![timed(|| plain_index_make(&settings, black_box(log), &mut plain_index))],
+        ],
+    );
+    assert!(index == plain_index, "other words");
+    print_row("`rdram_index_make`", stream, library, plain, None);
+
+    let (mut found, mut plain_found) = (vec![1; index.len()], vec![1; index.len()]);
+    let [library, plain] = best(
+        records,
+        runs,
+        [
+            &mut || vec![timed(|| rdram::index_query(&SETTINGS, black_box(log), &index, 7, &mut found))],
+            &mut || vec![timed(|| plain_index_query(&settings, black_box(log), &index, 7, &mut plain_found))],
+        ],
+    );
+    assert!(found == plain_found, "other blocks");
+    print_row("`rdram_index_query`", stream, library, plain, None);
 }
 
 fn main() {

@@ -18,12 +18,14 @@
 //! ```
 #![no_std]
 
+mod index;
 mod meter;
 mod model;
 mod planner;
 pub mod raw;
 mod refusal;
 
+pub use index::{index_add, index_banks, index_check, index_make, index_query};
 pub use meter::Meter;
 pub use model::{Event, Model};
 pub use planner::{Planner, Request};
@@ -47,6 +49,8 @@ pub const PLANNER_BYTES: usize = 768;
 pub const MODEL_BYTES: usize = 792;
 /// Bytes of a meter.
 pub const METER_BYTES: usize = 136;
+/// Bytes of a word of an index.
+pub const INDEX_WORD_BYTES: usize = 4;
 /// Bytes of a dualoct.
 pub const DUALOCT_BYTES: usize = 16;
 /// The mask of a COL packet that is sent without one (M = 0).

@@ -20,6 +20,16 @@ pub struct Packet {
     pub mask: u32,
 }
 
+/// The answer of the calls on an index.
+#[repr(C)]
+#[derive(Clone, Copy, Debug, PartialEq, Eq)]
+pub struct Indexed {
+    pub number: u32,
+    pub rule: u32,
+    pub place: u64,
+    pub count: u64,
+}
+
 /// The answer of [`rdram_log_encode`] and [`rdram_log_decode`].
 #[repr(C)]
 #[derive(Clone, Copy, Debug, PartialEq, Eq)]
@@ -114,6 +124,48 @@ extern "C" {
         list: *mut u8,
         list_len: usize,
     ) -> Copied;
+
+    pub fn rdram_index_make(
+        settings: *const u8,
+        settings_len: usize,
+        log: *const u8,
+        log_len: usize,
+        index: *mut u8,
+        index_len: usize,
+    ) -> Indexed;
+
+    pub fn rdram_index_add(
+        settings: *const u8,
+        settings_len: usize,
+        log: *const u8,
+        log_len: usize,
+        kept: usize,
+        index: *mut u8,
+        index_len: usize,
+    ) -> Indexed;
+
+    pub fn rdram_index_query(
+        settings: *const u8,
+        settings_len: usize,
+        log: *const u8,
+        log_len: usize,
+        index: *const u8,
+        index_len: usize,
+        bank: u32,
+        out: *mut u8,
+        out_len: usize,
+    ) -> Indexed;
+
+    pub fn rdram_index_check(
+        settings: *const u8,
+        settings_len: usize,
+        log: *const u8,
+        log_len: usize,
+        index: *const u8,
+        index_len: usize,
+    ) -> Indexed;
+
+    pub fn rdram_index_banks(word: u32) -> u32;
 
     pub fn rdram_check(
         settings: *const u8,

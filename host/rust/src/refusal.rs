@@ -39,6 +39,9 @@ pub enum Refusal {
     Block { place: u64 },
     /// 13: a length is not one of whole records or blocks, or of one request or record.
     Length,
+    /// 14: an index differs from its log. `place` is the first word that is wrong, missing or surplus,
+    /// from 0.
+    Index { place: u64 },
     /// 16: an instant that is fed to a meter is less than 4 after the newest.
     Overlap,
     /// A number that this crate does not know: crate and archive are of different versions.
@@ -62,6 +65,7 @@ impl Refusal {
             Refusal::Rule { .. } | Refusal::Broken { .. } => 11,
             Refusal::Block { .. } => 12,
             Refusal::Length => 13,
+            Refusal::Index { .. } => 14,
             Refusal::Overlap => 16,
             Refusal::Other { number } => number,
         }
@@ -71,7 +75,7 @@ impl Refusal {
     pub fn place(&self) -> Option<u64> {
         match *self {
             Refusal::Word { place } => place,
-            Refusal::Rule { place, .. } | Refusal::Block { place } => Some(place),
+            Refusal::Rule { place, .. } | Refusal::Block { place } | Refusal::Index { place } => Some(place),
             _ => None,
         }
     }
@@ -144,6 +148,15 @@ impl Refusal {
             7 => Refusal::Horizon,
             16 => Refusal::Overlap,
             number => Refusal::Other { number },
+        }
+    }
+
+    /// The refusal of a call on an index.
+    pub(crate) fn of_index(number: u32, rule: u32, place: u64) -> Refusal {
+        match number {
+            4 => Refusal::Bank,
+            14 => Refusal::Index { place },
+            number => Refusal::of_check(number, rule, place),
         }
     }
 
@@ -245,6 +258,11 @@ impl fmt::Display for Refusal {
             Refusal::Length => f.write_str(
                 "the length is not one of whole records (32 bytes) or blocks (512 bytes), \
                  or of one request (24 bytes) or record; pass whole ones",
+            ),
+            Refusal::Index { place } => write!(
+                f,
+                "word {place} (from 0) of the index is wrong, missing or surplus; \
+                 make the index of this log afresh"
             ),
             Refusal::Overlap => f.write_str(
                 "an instant is less than 4 after the newest; \

@@ -6,6 +6,7 @@ mod buffers;
 mod calls;
 mod flat_memory;
 mod hand_lists;
+mod index;
 mod lists;
 mod logs;
 mod meter;

@@ -121,3 +121,62 @@ pub fn log_decode(settings: &[u8], log: &[u8], list: &mut [u8]) -> Result<usize,
     }
     Ok(count)
 }
+
+/// The word of a block whose used records are well formed.
+fn banks_of(block: &[u8; 512], used: usize) -> u32 {
+    block.as_chunks::<32>().0[..used].iter().fold(0, |words, record| {
+        let word = u64::from_le_bytes(record[8..16].try_into().unwrap());
+        let (row, col) = (record[4] == 0, record[4] == 1 && word >> 17 & 15 != 0);
+        let bank = if row { word >> 13 } else { word >> 29 } & 31;
+        words | u32::from(row | col) << bank
+    })
+}
+
+/// The words of a log that passes, in one pass.
+fn words(settings: &[u8], log: &[u8]) -> Result<Vec<u32>, Refused> {
+    let f = Figures::of(settings).ok_or((1, 0))?;
+    let (blocks, rest) = log.as_chunks::<512>();
+    if !rest.is_empty() {
+        return Err((13, 0));
+    }
+    let (mut count, mut bad, mut words) = (0, None, Vec::with_capacity(blocks.len()));
+    for (k, block) in blocks.iter().enumerate() {
+        let used = used(block, k, k + 1 == blocks.len()).ok_or((12, k))?;
+        if bad.is_none() {
+            bad = first_bad(&f, &block.as_chunks::<32>().0[..used]).map(|i| count + i);
+        }
+        count += used;
+        words.push(banks_of(block, used));
+    }
+    bad.map_or(Ok(words), |place| Err((10, place)))
+}
+
+pub fn index_make(settings: &[u8], log: &[u8], index: &mut [u8]) -> Result<usize, Refused> {
+    let words = words(settings, log)?;
+    let places = index.as_chunks_mut::<4>().0;
+    if places.len() < words.len() {
+        return Err((8, 0));
+    }
+    for (place, word) in places.iter_mut().zip(&words) {
+        *place = word.to_le_bytes();
+    }
+    Ok(words.len())
+}
+
+pub fn index_query(settings: &[u8], log: &[u8], index: &[u8], bank: u32, out: &mut [u8]) -> Result<usize, Refused> {
+    let words = words(settings, log)?;
+    let held = index.as_chunks::<4>().0;
+    let wrong = |k: &usize| held.get(*k) != words.get(*k).map(|w| w.to_le_bytes()).as_ref();
+    if let Some(k) = (0..held.len().max(words.len())).find(wrong) {
+        return Err((14, k));
+    }
+    let found: Vec<u32> = (0..words.len() as u32).filter(|k| words[*k as usize] >> bank & 1 == 1).collect();
+    let places = out.as_chunks_mut::<4>().0;
+    if places.len() < found.len() {
+        return Err((8, 0));
+    }
+    for (place, k) in places.iter_mut().zip(&found) {
+        *place = k.to_le_bytes();
+    }
+    Ok(found.len())
+}

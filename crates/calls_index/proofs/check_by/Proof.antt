@@ -1,0 +1,46 @@
+-- `check_by` meets its contract: each arm is a case of the definition.
+use mathlib.Core.Path.{_∙_, sym}
+use Rattle.spec_calls.specs.Settings.{underSettings}
+use Rattle.calls_index.specs.Results.{indexCheckCall}
+use borrow.Author.Needs.{needs}
+use Rattle.calls_index.proofs.check_by.Statement.{statement}
+use Rattle.calls_index.proofs.check_by.Tie as tie
+
+read-settings-requires : tie.Need-read-settings-requires
+read-settings-requires c κs = search needs
+
+enum-told : tie.Need-enum-told
+enum-told c = search needs
+
+index-answer-requires : tie.Need-index-answer-requires
+index-answer-requires c κs = search needs
+
+enum-known-s : tie.Need-enum-known-s
+enum-known-s c = search needs
+
+checked-requires : tie.Need-checked-requires
+checked-requires c κs = search needs
+
+index-answer-requires-2 : tie.Need-index-answer-requires-2
+index-answer-requires-2 c κs = search needs
+
+returns : tie.Need-returns
+unfolding underSettings indexCheckCall
+returns c = rw (sym (c .before .before .before .read-settings .ensures) ∙ c .before .enum-told .given .1) (c .index-answer .ensures)
+
+returns-2 : tie.Need-returns-2
+unfolding underSettings indexCheckCall
+returns-2 c = rw (sym (c .before .before .before .before .before .read-settings .ensures) ∙ c .before .before .before .s .given .1) (rw (c .before .checked .ensures) at (c .index-answer2 .ensures))
+
+pub check-by-spec : {M : Type 1} → statement M
+check-by-spec =
+    tie.close
+    (tie.spec
+    read-settings-requires
+    enum-told
+    index-answer-requires
+    enum-known-s
+    checked-requires
+    index-answer-requires-2
+    returns
+    returns-2)

@@ -1,0 +1,41 @@
+-- `index_answer` meets its contract: each arm is a case of the definition.
+use Rattle.calls_index.specs.Results.{indexAnswer}
+use borrow.Author.Needs.{needs}
+use Rattle.calls_index.proofs.index_answer.Statement.{statement}
+use Rattle.calls_index.proofs.index_answer.Tie as tie
+
+enum-known-x : tie.Need-enum-known-x
+enum-known-x c = search needs
+
+answer-requires : tie.Need-answer-requires
+answer-requires c κs = search needs
+
+enum-known-x-2 : tie.Need-enum-known-x-2
+enum-known-x-2 c = search needs
+
+enum-known-x-3 : tie.Need-enum-known-x-3
+enum-known-x-3 c = search needs
+
+returns : tie.Need-returns
+unfolding indexAnswer
+returns c = rw (c .before .before .x .given .1, c .answer .ensures)
+
+returns-2 : tie.Need-returns-2
+unfolding indexAnswer
+returns-2 c = rw (c .before .x2 .given .1)
+
+returns-3 : tie.Need-returns-3
+unfolding indexAnswer
+returns-3 c = rw (c .before .x3 .given .1)
+
+pub index-answer-spec : {M : Type 1} → statement M
+index-answer-spec =
+    tie.close
+    (tie.spec
+    enum-known-x
+    answer-requires
+    enum-known-x-2
+    enum-known-x-3
+    returns
+    returns-2
+    returns-3)

@@ -1,0 +1,4 @@
+pub mod IndexLaws
+pub mod ListLaws
+pub mod QueryLaws
+pub mod Worked

@@ -1,0 +1,1 @@
+// The tests that calls on whole logs share: a definition.
