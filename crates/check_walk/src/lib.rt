@@ -8,6 +8,7 @@ ghost use Rattle.spec_rules.specs.Neighbour.{contextOf};
 ghost use Rattle.check_walk.specs.form.Walk.{placeIn, stopOf};
 use crate::turn::channel_of;
 use crate::turn::larger;
+use crate::turn::next_slot;
 use crate::turn::no_lasts;
 use crate::turn::opened_track;
 use crate::turn::pick;
@@ -71,8 +72,7 @@ pub fn walk(s: Settings, b: &[u8], n: usize, blocks: bool) -> Stop
         let y = first_near(s, x);
         let z = last_near(s, x);
         let w = slot_of(h.bank);
-        let o = slot_of(h.next);
-        let k = tracks_of(banks[x], banks[y], banks[z], banks[w], banks[o]);
+        let k = tracks_of(banks[x], banks[y], banks[z], banks[w], banks[next_slot(h)]);
         if !passes(s, r, h, k, l, PacketAt(newest)) {
             let rule = judge(s, channel_of(banks, l, buffer, due), r);
             if rule != 0 {

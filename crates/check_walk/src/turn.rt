@@ -1,12 +1,15 @@
 // What one record is to the walk, and what it makes of one bank.
 ghost use mathlib.Core.Path.{_≡_};
 ghost use mathlib.Core.Bool.{cond};
-ghost use Prim.Native.Nat.{max};
+ghost use Prim.Native.Nat.{_<_, max};
+ghost use Rattle.chan_view.specs.form.Beside.{slotOf};
 ghost use Rattle.chan_view.specs.form.View.{seenOf};
 ghost use Rattle.check_walk.specs.form.Turn.{viewIn, tracksWith, noLasts, channelOf, openedTrack};
+use chan_view::Held;
 use chan_view::Seen;
 use chan_view::Tracks;
 use chan_view::View;
+use chan_view::banks::slot_of;
 use chan_view::views::seen_of;
 use record::Record;
 use settings::PacketAt;
@@ -39,6 +42,14 @@ pub(crate) fn view_of(r: Record) -> View
             masked: false,
         },
     }
+}
+
+// Where the bank of the newer write stands.
+pub(crate) fn next_slot(h: Held) -> usize
+    ensures { λ r. ⌜ r ≡ slotOf (h .next) ⌝ }
+    ensures { λ r. ⌜ r < 32 ⌝ }
+{
+    slot_of(h.next)
 }
 
 // The tracks of five banks.

@@ -138,7 +138,8 @@ loop-again c =
     let ch : Channel = channelOf (k .banks) (k .l) (k .buffer) (k .due) in
     let v = g .before .before .before .before .before .view-of .result in
     let w = g .slot-of2 .result in
-    let t : Turn (a .s) r (k .banks) (k .l) (k .newest) (k .buffer) (k .due) v (g .before .before .before .before .held-of .result) (g .before .before .before .slot-of .result) (g .before .before .first-near .result) (g .before .last-near .result) w (c .before .before .before .before .before .before .before .before .before .before .before .before .before .before .slot-of3 .result) =
+    let o = c .before .before .before .before .before .before .before .before .before .before .next-slot in
+    let t : Turn (a .s) r (k .banks) (k .l) (k .newest) (k .buffer) (k .due) v (g .before .before .before .before .held-of .result) (g .before .before .before .slot-of .result) (g .before .before .first-near .result) (g .before .last-near .result) w (o .result) =
     record {
       size = k .inv .2;
       top = k .inv .3;
@@ -150,7 +151,7 @@ loop-again c =
       low = g .before .before .first-near .ensures .0;
       high = g .before .last-near .ensures .0;
       waiting = g .slot-of2 .ensures .0;
-      second = c .before .before .before .before .before .before .before .before .before .before .before .before .before .before .slot-of3 .ensures .0;
+      second = o .ensures .0;
     } in
     let zero : judged (contextOf (a .s)) ch r ≡ 0 =
     ⊎-elim (λ o. sym (o .2 .ensures ∙ ap (λ (n : Channel). judged (contextOf (a .s)) n r) (o .1 .ensures)) ∙ o .3 .left) (λ o. quick-here t _ _ (c .before .before .before .before .before .before .before .before .tracks-of .ensures) (c .before .before .before .before .before .before .before .passes .ensures) (not-false _ (o .left))) (c .before .before .before .before .before .before .if1 .came)
@@ -201,15 +202,15 @@ walk-spec =
     (λ c κs. search needs)
     (λ c κs. search needs)
     (λ c κs. search needs)
+    (λ c. search needs)
+    (λ c. search needs)
+    (λ c. search needs)
+    (λ c. search needs)
+    (λ c. search needs)
+    (λ c. search needs)
+    (λ c. search needs)
+    (λ c. search needs)
     (λ c κs. search needs)
-    (λ c. search needs)
-    (λ c. search needs)
-    (λ c. search needs)
-    (λ c. search needs)
-    (λ c. search needs)
-    (λ c. search needs)
-    (λ c. search needs)
-    (λ c. search needs)
     (λ c. search needs)
     (λ c. search needs)
     (λ c κs. search needs)
