@@ -20,11 +20,11 @@ use Rattle.record.specs.declared.Record.the-variants.{RowAt, ColAt, DataOf}
 use Rattle.record.specs.Record.{recordFits}
 use Rattle.spec_rules.specs.declared.Write.{Write}
 use Rattle.spec_rules.specs.declared.Buffer.{Buffer}
-use Rattle.spec_rules.specs.declared.Buffer.the-variants.{Empty, One}
+use Rattle.spec_rules.specs.declared.Buffer.the-variants.{Empty, One, Two}
 use Rattle.spec_rules.specs.declared.Channel.{Channel}
 use Rattle.spec_rules.specs.Neighbour.{Context, contextOf, bankCount}
-use Rattle.spec_rules.specs.Packets.{traits, rowTraits, colTraits}
-use Rattle.spec_rules.specs.History.{onlyWrite, first, leaving, allWrites}
+use Rattle.spec_rules.specs.Packets.{traits, rowTraits, colTraits, instant}
+use Rattle.spec_rules.specs.History.{onlyWrite, first, passed, leaving, allWrites}
 use Rattle.spec_rules.specs.Channel.{stateOf, waitingOf}
 use Rattle.spec_rules.proofs.Bools.{and-left, and-right}
 use Rattle.spec_state.specs.Valid.{writeValid, channelValid}
@@ -89,6 +89,10 @@ module _ (cx : Context) (ch : Channel) (k : Sound cx ch) where
       let q : x ≡ w = cc in
       let l : ltb (x .bank) 32 ≡ true = and-left (ltb (x .bank) 32) _ (and-left (writeValid cx x) true v) in
       rw (slot-is (x .bank) l, q)
+  held-at (Two x y) due true w v e =
+      let q : x ≡ w = cc in
+      let l : ltb (x .bank) 32 ≡ true = and-left (ltb (x .bank) 32) _ (and-left (writeValid cx x) _ v) in
+      rw (slot-is (x .bank) l, q)
 
   read-at : (r : Record) → recordFits (cx .settings) r ≡ true → (b : ℕ) → traits r .reads ≡ some b → stateOf ch (slotOf (named (seenOf r))) ≡ stateOf ch b
   unfolding recordFits colFits traits colTraits named seenOf colView
@@ -101,7 +105,7 @@ module _ (cx : Context) (ch : Channel) (k : Sound cx ch) where
   found : (r : Record) → recordFits (cx .settings) r ≡ true
       → Found cx ch r (stateOf ch (slotOf (named (seenOf r)))) (stateOf ch (slotOf (heldOf (ch .buffer) (ch .due) .bank)))
   unfolding leaving
-  found r f = record { read = read-at r f; retired = λ w e. held-at (ch .buffer) (ch .due) (traits r .notRead) w (k .write) e }
+  found r f = record { read = read-at r f; retired = λ w e. held-at (ch .buffer) (ch .due) (traits r .notRead && passed cx (first (waitingOf (ch .buffer))) (instant r)) w (k .write) e }
 
 -- ---- what is asked
 
@@ -115,7 +119,7 @@ pub record Asks (cx : Context) (m : ModelState) (r : Record) (t : Touch) : Type 
 right-sound : (cx : Context) (b : List ℕ) → modelRight cx b ≡ true → Sound cx (modelIn b .channel)
 unfolding modelRight modelValid
 right-sound cx b r =
-    let v = and-right (channelSpare b && (zeroPart b 754 6 && zeroPart b 776 16)) _ (and-right (eqb (length b) modelLength) _ r) in
+    let v = and-right (channelSpare b && zeroPart b 754 6) _ (and-right (eqb (length b) modelLength) _ r) in
     valid-sound cx (modelIn b .channel) (and-left (channelValid cx (modelIn b .channel)) _ v)
 
 pub asks : (cx : Context) → valid (cx .settings) ≡ true → (b : List ℕ) → modelRight cx b ≡ true → (r : Record) → recordFits (cx .settings) r ≡ true

@@ -24,7 +24,7 @@ unfoldable pub named : Seen → ℕ
 named (Packet v) = v .bank
 named (Data t) = 0
 
--- from the states at the indices of the bank that the record names and of the bank of the waiting write
+-- from the states at the indices of the bank that the record names and of the bank of the older write
 unfoldable pub touchFor : Context → Channel → Record → Touch
 touchFor cx ch r =
     touchOf r (leavingOf cx ch r) (stateOf ch (slotOf (named (seenOf r)))) (stateOf ch (slotOf (heldOf (ch .buffer) (ch .due) .bank)))
