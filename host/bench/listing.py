@@ -178,11 +178,11 @@ def largest():
     for i in range(2730):
         r = bytearray(24)
         pick = below(32)
-        if i % 300 < 16:  # every other bank opened, so that a drain has the most to close
+        if i % 300 < 16:  # every other bank opened and two writes, so that a drain has the most to do
             r[0], r[1] = 0, 2 * (i % 300)
-        elif i % 300 == 16:
+        elif i % 300 < 18:
             r[0], r[1], r[4], r[6] = 1, 30, below(4), below(256)
-        elif i % 300 == 17 or pick == 31:
+        elif i % 300 == 18 or pick == 31:
             r[0] = 4
         elif pick < 28:
             r[0], r[1], r[2], r[4] = pick % 2, below(33), below(32) // 15, below(33) // 8

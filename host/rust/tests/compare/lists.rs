@@ -121,6 +121,16 @@ impl SettingsSeen {
 
 // ---- Legal lists ----
 
+/// A packet with row or column 0, and a mask if it is a COL packet.
+fn first_place(command: u32, bank: u32, mask: u32) -> Fields {
+    Fields {
+        command,
+        bank,
+        place: 0,
+        mask: if command < NOCOP { 0 } else { mask },
+    }
+}
+
 /// Makes legal lists: each packet at the least instant that the distances allow, plus a delay.
 pub struct Maker {
     numbers: [u16; 16],
@@ -208,15 +218,19 @@ impl Maker {
         legal
     }
 
+    /// Adds a packet as early as the distances allow, and its D after a WR, if it breaks no rule.
+    fn send(&mut self, command: u32, bank: u32) {
+        let p = first_place(command, bank, 0xFFFF);
+        let at = rules::least(&self.t, &self.steps, p);
+        if self.push(at, Some(p)) && command == WR {
+            self.push(at + self.t.cwd, None);
+        }
+    }
+
     /// Adds a first packet at a given instant.
     pub fn start(&mut self, random: &mut Random, at: u32) {
         let (command, bank) = (random.pick(&[ACT, PRER, REFA, REFP]), self.banks[0]);
-        let p = Fields {
-            command,
-            bank,
-            place: 0,
-            mask: 0,
-        };
+        let p = first_place(command, bank, 0);
         assert!(self.push(at.into(), Some(p)), "a legal first packet");
     }
 
@@ -268,6 +282,35 @@ pub fn half_legal(random: &mut Random, numbers: &[u16; 16], packets: usize) -> V
             return items;
         }
     }
+    items
+}
+
+/// Two writes, to one bank or to two, as early as may be, and after them a record that waiting writes
+/// may forbid, at about the least instant that the distances allow.
+pub fn over_writes(random: &mut Random, numbers: &[u16; 16]) -> Vec<Item> {
+    let mut maker = Maker::new(random, numbers);
+    let first = random.below(32) as u32;
+    let banks = [first, (first + random.pick(&[0, 2, 16, 17])) % 32];
+    for command in [ACT, WR] {
+        banks.iter().for_each(|bank| maker.send(command, *bank));
+    }
+    if random.chance(4) {
+        maker.send(NOCOP, 0);
+    }
+    let command = random.pick(&[NOCOP, WR, RD, PRER, PRER, REFP]);
+    let beside = random.pick(&[0, 0, 1, 31]);
+    let bank = match command {
+        NOCOP => 0,
+        WR | RD => random.pick(&banks),
+        _ => (random.pick(&banks) + beside) % 32,
+    };
+    let p = first_place(command, bank, random.pick(&[0xFFFF, 0xFFFF, 0, 3]));
+    let at = rules::least(&maker.t, &maker.steps, p) as u32 + random.pick(&[0, 0, 0, 1, 80]);
+    let mut items = maker.items();
+    items.push(Item {
+        at: at - random.pick(&[0, 0, 0, 1, 2]),
+        packet: Some(p),
+    });
     items
 }
 

@@ -2,7 +2,9 @@
 
 use crate::calls::Seen as Numbers;
 use crate::hand_lists::item;
-use crate::lists::{any_items, change, half_legal, legal, list_bytes, Item, SettingsSeen, LAST};
+use crate::lists::{
+    any_items, change, half_legal, legal, list_bytes, over_writes, Item, SettingsSeen, LAST,
+};
 use crate::model_calls::{any_store, compare, fresh, small_numbers, Case, Run, Seen};
 use crate::random::{bytes, rounds, set_h, Random};
 use crate::reference::{number, COLUMNS, NOCOP, ROWS, T_CWD};
@@ -24,8 +26,9 @@ fn remask(random: &mut Random, items: &mut [Item]) {
 }
 
 fn items(random: &mut Random, numbers: &[u16; 16], records: usize) -> Vec<Item> {
-    let mut items = match random.below(8) {
+    let mut items = match random.below(9) {
         0 => any_items(random, numbers, records),
+        8 => over_writes(random, numbers),
         1 | 2 => half_legal(random, numbers, records),
         _ => legal(random, numbers, records),
     };

@@ -312,13 +312,16 @@ pub fn least(t: &Timings, earlier: &[Step], packet: Fields) -> u64 {
 
 // ---- Calls ----
 
-/// The answer of a check. `broken` has all rules that the named record breaks.
-#[derive(Clone, Copy, Debug, Default, PartialEq, Eq)]
+/// The answer of a check. `broken` has all rules that the named record breaks; its command, None for
+/// a D, and for each waiting write whether the record closes its bank are told too.
+#[derive(Clone, Debug, Default, PartialEq, Eq)]
 pub struct Answer {
     pub number: u32,
     pub rule: u32,
     pub place: u64,
     pub broken: Rules,
+    pub command: Option<u32>,
+    pub closes: Vec<bool>,
 }
 
 fn refused(number: u32, place: usize) -> Answer {
@@ -346,6 +349,11 @@ fn judge(settings: &[u8], list: &[u8]) -> Answer {
             return Answer {
                 rule: broken.lowest(),
                 broken,
+                command: new.packet.map(|p| p.command),
+                closes: waiting(&earlier)
+                    .iter()
+                    .map(|(_, b)| new.closes >> b & 1 == 1)
+                    .collect(),
                 ..refused(11, place)
             };
         }

@@ -1,7 +1,7 @@
 //! The checks of the library, each compared with the reference: C functions and safe wrappers.
 
 use crate::calls::{typed, Seen};
-use crate::reference::blocks;
+use crate::reference::{blocks, NOCOP, RD, WR};
 use crate::reference_rules::{self as rules, Answer};
 use rdram::{raw, Refusal, Settings};
 
@@ -12,15 +12,46 @@ pub struct Verdicts {
     rules: [u64; 17],
     /// Those in which the named record breaks no other rule.
     single: [u64; 17],
+    /// Those in which the waiting writes decide.
+    shapes: [u64; Self::SHAPES.len()],
 }
 
 impl Verdicts {
+    const SHAPES: [&'static str; 8] = [
+        "12 by NOCOP, one waits",
+        "12 by NOCOP, two wait",
+        "12 by WR, two wait",
+        "12 by RD, two wait",
+        "14 of the older of two",
+        "14 of the newer of two",
+        "16 by NOCOP, none waits",
+        "16 by WR, one waits",
+    ];
+
     fn add(&mut self, answer: &Answer) {
         self.numbers.add(answer.number);
         if answer.number == 11 {
             let rule = answer.rule as usize;
             self.rules[rule] += 1;
             self.single[rule] += u64::from(answer.broken.single());
+            let by = |n, command, waiting| {
+                answer.rule == n
+                    && answer.command == Some(command)
+                    && answer.closes.len() == waiting
+            };
+            let shapes = [
+                by(12, NOCOP, 1),
+                by(12, NOCOP, 2),
+                by(12, WR, 2),
+                by(12, RD, 2),
+                rule == 14 && answer.closes == [true, false],
+                rule == 14 && answer.closes == [false, true],
+                by(16, NOCOP, 0),
+                by(16, WR, 1),
+            ];
+            for (count, shape) in self.shapes.iter_mut().zip(shapes) {
+                *count += u64::from(shape);
+            }
         }
     }
 
@@ -32,6 +63,9 @@ impl Verdicts {
             .collect();
         if expected.contains(&11) {
             println!("{name}: rules (as the only one): {}", counts.join(", "));
+            let shapes = Self::SHAPES.iter().zip(self.shapes);
+            let shapes: Vec<String> = shapes.map(|(name, n)| format!("{name}: {n}")).collect();
+            println!("{name}: {}", shapes.join(", "));
         }
     }
 
@@ -40,6 +74,15 @@ impl Verdicts {
         for rule in 1..=16 {
             assert!(self.single[rule] > 0, "{name}: rule {rule} alone");
         }
+    }
+
+    /// Fails unless the waiting writes decided in each way.
+    pub fn all_shapes(&self, name: &str) {
+        assert!(
+            self.shapes.iter().all(|n| *n > 0),
+            "{name}: {:?}",
+            self.shapes
+        );
     }
 }
 

@@ -1,7 +1,7 @@
 //! The rules on random lists, as lists and as logs.
 
 use crate::lists::{
-    any_items, change, half_legal, legal, list_bytes, rule_numbers, SettingsSeen, LAST,
+    any_items, change, half_legal, legal, list_bytes, over_writes, rule_numbers, SettingsSeen, LAST,
 };
 use crate::random::{bytes, rounds, Random};
 use crate::reference::{blocks, seal};
@@ -81,14 +81,16 @@ fn short_lists() {
         let numbers = rule_numbers(&mut random);
         let records = 1 + random.below(14);
         let settings = bytes(&numbers);
-        let items = match round % 3 {
+        let items = match round % 4 {
             0 => any_items(&mut random, &numbers, records),
+            1 => over_writes(&mut random, &numbers),
             _ => half_legal(&mut random, &numbers, records),
         };
         check(&mut seen, &settings, &list_bytes(&settings, &items));
     }
     seen.report(name, &[0, 11]);
     seen.all_rules(name);
+    seen.all_shapes(name);
 }
 
 /// Lists moved so that a record lies near 4, near the last instant or near 2^32 - 1.
