@@ -49,12 +49,15 @@ module _ (cx : Context) where
   unfolding flushed
   flushed-blind l d = sent-blind (colPacket (Nocop 0xFFFF)) l d
 
+  -- NOCOP where the waiting writes pass a test
+  pub again-blind : (test : List Write → Bool) → Blind (λ d. when (test (waiting d)) (flushed cx) d)
+  again-blind test l d = when-blind (flushed cx) flushed-blind (test (waiting d)) l d
+
   pub while-blind : (test : List Write → Bool) → Blind (flushedWhile cx test)
   unfolding flushedWhile
   while-blind test l d =
       let z : Draft = when (test (waiting d)) (flushed cx) d in
-      ap (λ (y : Draft). when (test (waiting y)) (flushed cx) y) (when-blind (flushed cx) flushed-blind (test (waiting d)) l d)
-      ∙ when-blind (flushed cx) flushed-blind (test (waiting z)) l z
+      ap (λ (y : Draft). when (test (waiting y)) (flushed cx) y) (again-blind test l d) ∙ again-blind test l z
 
   pub closed-blind : (x : ℕ) → Blind (closed cx x)
   unfolding closed

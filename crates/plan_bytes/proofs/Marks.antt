@@ -121,7 +121,7 @@ module _ (s : Settings) (v : valid s ≡ true) where
 
   -- ---- steps
 
-  marked-when : (b : Bool) (top : ℕ) (d : Draft) → Marked s top d → top ≤ far → Marked s (top + 64) (when b (flushed cx) d)
+  pub marked-when : (b : Bool) (top : ℕ) (d : Draft) → Marked s top d → top ≤ far → Marked s (top + 64) (when b (flushed cx) d)
   unfolding flushed
   marked-when b top d k h = when-either (Marked s (top + 64)) b (flushed cx) d (λ _. marked-sent top d k h (colPacket (Nocop 0xFFFF))) (λ _. marked-more s top (top + 64) (omega arith) d k)
 

@@ -51,10 +51,7 @@ fn highest(b: &[u8]) -> u32
     requires { ⌜ length (now b) ≡ 768 ⌝ }
     ensures { λ r. ⌜ r ≡ highestIn (now (b .entry)) ⌝ }
 {
-    let last = latest(
-        u32_at(b, 740),
-        latest(u32_at(b, 748), u32_at(b, 752)),
-    );
+    let last = latest(u32_at(b, 740), latest(u32_at(b, 748), u32_at(b, 752)));
     let cols = latest(
         u32_at(b, 712),
         latest(u32_at(b, 716), latest(u32_at(b, 720), last)),

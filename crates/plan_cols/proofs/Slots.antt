@@ -136,7 +136,7 @@ module _ (s : Settings) (p : PlannerState) (e : length (p .channel .banks) ≡ 3
     unfolding waitingOf
     two-leaver w y z l =
         let late : leb (w .at .0 + s .rtr) (slot (contextOf s) p wr) ≡ true =
-            rw (wr-two w y z l) (le-leb (w .at .0 + s .rtr) (max (wrFloor x) (retireAsks w)) (omega (arith, since-some (w .at .0) (s .rtr) (omega arith)))) in
+        rw (wr-two w y z l) (le-leb (w .at .0 + s .rtr) (max (wrFloor x) (retireAsks w)) (omega (arith, since-some (w .at .0) (s .rtr) (omega arith)))) in
         first-leaver w (y ∷ []) (rw z) ∙ ap (λ (q : Bool). onlyWrite q (some w)) late
 
 -- ---- in stored numbers

@@ -14,37 +14,25 @@ use Rattle.record.specs.declared.Record.{Record}
 use Rattle.spec_rules.specs.declared.Write.{Write}
 use Rattle.spec_rules.specs.Neighbour.{bankCount, Context, contextOf, near}
 use Rattle.spec_rules.specs.History.{isClosed, anyWrite}
+use Rattle.spec_rules.proofs.Bools.{not-both}
 use Rattle.spec_rules.proofs.NeighbourLaws.{split-neighbours}
 use Rattle.spec_plan.specs.declared.PlannerState.{PlannerState}
 use Rattle.spec_plan.specs.Plan.{Draft, rowPacket, colPacket, when, waiting, stateIn, openOn, anyWaits, sent, flushed, flushedWhile, closed, closedUpTo, reached}
 use Rattle.spec_plan.specs.PlannerBytes.{plannerBytes, plannerIn}
 use Rattle.spec_plan.proofs.Trace.{trace-start}
-use Rattle.spec_plan.proofs.SentLaws.{while-state}
-use Rattle.spec_plan.proofs.PlanLaws.{Good, good-while, good-up-to, good-cleared}
+use Rattle.spec_plan.proofs.SentLaws.{when-either, while-state}
+use Rattle.spec_plan.proofs.PlanLaws.{Good, good-flushed, good-while, good-up-to, good-cleared}
 use Rattle.plan_bytes.specs.form.Drawn.{bare, drafted, Ready, OpenAt, NearShut, Fits, Drawn}
-use Rattle.plan_bytes.proofs.Marks.{Marked, marked-more, marked-while, marked-up-to, marked-all}
+use Rattle.plan_bytes.proofs.Marks.{Marked, marked-more, marked-when, marked-while, marked-up-to, marked-all}
 use Rattle.plan_bytes.proofs.ReadyLaws.{readies, inv}
 use Rattle.plan_bytes.proofs.Again.{start, After, after-step}
-use Rattle.plan_bytes.proofs.Compose.{Blind, sent-blind, drawn-none, fits-first, fits-then, drawn-then, one-sent}
+use Rattle.plan_bytes.proofs.Compose.{Blind, sent-blind, again-blind, drawn-none, fits-first, fits-then, drawn-then, one-sent}
 use Rattle.plan_steps.proofs.Ranges.{up-to-none, up-to-next, up-to-grows, turn-blind}
 
 -- one record
 pub one-flushed : (cx : Context) (p : PlannerState) → length (flushed cx (bare p) .records) ≡ 1
 unfolding flushed
 one-flushed cx p = one-sent cx (colPacket (Nocop 0xFFFF)) p
-
--- a test on a waiting write passes only where one waits
-pub any-waits : (q : Write → Bool) (ws : List Write) → anyWrite q ws ≡ true → anyWaits ws ≡ true
-any-waits q [] e = e
-any-waits q (w ∷ ws) e = refl
-
-pub loses-waits : (cx : Context) (d : Draft) (x : ℕ) (q : Bool) → q ≡ true → q ≡ anyWrite (λ w. near cx x (w .bank)) (waiting d) → anyWaits (waiting d) ≡ true
-loses-waits cx d x q w e = any-waits (λ w. near cx x (w .bank)) (waiting d) (sym e ∙ w)
-
--- a NOCOP that is sent where a test passes
-pub while-is : (cx : Context) (test : List Write → Bool) (d : Draft) (b : Bool) → b ≡ test (waiting d) → when b (flushed cx) d ≡ flushedWhile cx test d
-unfolding flushedWhile
-while-is cx test d b e = ap (λ (b : Bool). when b (flushed cx) d) e
 
 module _ (s : Settings) (top : ℕ) (b : List ℕ) (k : Ready s top b) where
   abbrev cx : Context
@@ -60,25 +48,70 @@ module _ (s : Settings) (top : ℕ) (b : List ℕ) (k : Ready s top b) where
   pub after-of : (hi high : ℕ) (z : Draft) → hi ≤ high + 3 → high ≤ 999999000 → Marked s hi z → Good cx (plannerIn b) z → (b1 : List ℕ) → b1 ≡ plannerBytes (z .planner) → After s high z b1
   after-of hi high z l h m g b1 e = after-step s (readies s top b k .figures) high z (omega arith) (marked-more s hi (high + 3) l z m) (g .inv) b1 e
 
+  -- ---- NOCOP while the waiting writes pass a test, at most twice
+
+  module _ (h : top ≤ 999998000) (test : List Write → Bool) (quiet : test [] ≡ false) where
+    abbrev step : Draft → Draft
+    step y = when (test (waiting y)) (flushed cx) y
+
+    abbrev once : Draft
+    once = step d
+
+    once-after : (b1 : List ℕ) → b1 ≡ plannerBytes (once .planner) → After s 999999000 once b1
+    once-after =
+        after-of (top + 3 + 64) 999999000 once (omega arith) (omega arith) (marked-when s (readies s top b k .figures) (test (waiting d)) (top + 3) d (start s top b k) (omega arith))
+        (when-either (Good cx (plannerIn b)) (test (waiting d)) (flushed cx) d (λ _. good-flushed cx (split-neighbours s) (plannerIn b) d good) (λ _. good))
+
+    -- it passes only where a write waits
+    pub passes : (z : Draft) (q : Bool) → q ≡ test (waiting z) → q ≡ true → anyWaits (waiting z) ≡ true
+    passes z q e w = go (waiting z) (sym e ∙ w)
+      where
+        go : (ws : List Write) → test ws ≡ true → anyWaits ws ≡ true
+        go [] e = not-both (test []) e quiet
+        go (w ∷ ws) e = refl
+
+    module _ (room : List ℕ) (at : ℕ) (fits : Fits (flushedWhile cx test d) room at) where
+      both-fits : Fits (step once) room at
+      unfolding flushedWhile
+      both-fits = fits
+
+      pub once-fits : (q : Bool) → q ≡ test (waiting d) → Fits (when q (flushed cx) d) room at
+      once-fits q e = rw e (fits-first step (again-blind cx test) once room at both-fits)
+
+      module _ (q : Bool) (e : q ≡ test (waiting d)) (b1 room1 : List ℕ) (to1 : ℕ) (w : Drawn s (when q (flushed cx) d) room at b1 room1 to1) where
+        once-drawn : Drawn s once room at b1 room1 to1
+        once-drawn = rw e at w
+
+        pub again-after : After s 999999000 once b1
+        again-after = once-after b1 (once-drawn .planner)
+
+        module _ (q′ : Bool) (f : q′ ≡ test (waiting (drafted b1))) where
+          pub again-fits : Fits (when q′ (flushed cx) (drafted b1)) room1 to1
+          again-fits = rw f (fits-then s step (again-blind cx test) once room at b1 room1 to1 once-drawn (again-after .back) both-fits)
+
+          pub both-drawn : (b2 room2 : List ℕ) (to2 : ℕ) → Drawn s (when q′ (flushed cx) (drafted b1)) room1 to1 b2 room2 to2 → Drawn s (flushedWhile cx test d) room at b2 room2 to2
+          unfolding flushedWhile
+          both-drawn b2 room2 to2 v = drawn-then s step (again-blind cx test) once room at b1 room1 to1 once-drawn (again-after .back) both-fits b2 room2 to2 (rw f at v)
+
   -- ---- a bank closed
 
   module _ (h : top ≤ 999998000) (x : ℕ) (l : x < 32) where
-    abbrev test : List Write → Bool
-    test = anyWrite (λ w. near cx x (w .bank))
+    abbrev lost : List Write → Bool
+    lost = anyWrite (λ w. near cx x (w .bank))
 
     abbrev saved : Draft
-    saved = flushedWhile cx test d
+    saved = flushedWhile cx lost d
 
     pub saved-after : (b1 : List ℕ) → b1 ≡ plannerBytes (saved .planner) → After s 999999000 saved b1
     saved-after =
-        after-of (top + 3 + 64) 999999000 saved (omega arith) (omega arith) (marked-while s (readies s top b k .figures) test (top + 3) d (start s top b k) (omega arith))
-        (good-while cx (split-neighbours s) (plannerIn b) d good test refl)
+        after-of (top + 3 + 128) 999999000 saved (omega arith) (omega arith) (marked-while s (readies s top b k .figures) lost (top + 3) d (start s top b k) (omega arith))
+        (good-while cx (split-neighbours s) (plannerIn b) d good lost refl)
 
     pub saved-open : (b1 : List ℕ) → plannerIn b1 ≡ saved .planner → OpenAt b x → OpenAt b1 x
     unfolding bankCount
-    saved-open b1 back o = rw back (rw (while-state cx test refl d (inv s top b k .size) x l) o)
+    saved-open b1 back o = rw back (rw (while-state cx lost refl d (inv s top b k .size) x l) o)
 
-    -- the room of the NOCOP, of the PRER, and what both make
+    -- the room of the NOCOPs, of the PRER, and what both make
     module _ (room : List ℕ) (at : ℕ) (fits : Fits (closed cx x d) room at) where
       abbrev prer : Record
       prer = rowPacket (Prer x)
@@ -87,12 +120,8 @@ module _ (s : Settings) (top : ℕ) (b : List ℕ) (k : Ready s top b) where
       unfolding closed
       all-fits = fits
 
-      -- by a test of the code
-      pub close-first : (q : Bool) → q ≡ test (waiting d) → Fits (when q (flushed cx) d) room at
-      close-first q e = rw (while-is cx test d q e) (fits-first (sent cx prer) (sent-blind cx prer) saved room at all-fits)
-
-      pub saved-drawn : (q : Bool) → q ≡ test (waiting d) → (b1 room1 : List ℕ) (to1 : ℕ) → Drawn s (when q (flushed cx) d) room at b1 room1 to1 → Drawn s saved room at b1 room1 to1
-      saved-drawn q e b1 room1 to1 w = rw (while-is cx test d q e) at w
+      pub close-first : Fits saved room at
+      close-first = fits-first (sent cx prer) (sent-blind cx prer) saved room at all-fits
 
       module _ (b1 room1 : List ℕ) (to1 : ℕ) (w : Drawn s saved room at b1 room1 to1) where
         abbrev back : plannerIn b1 ≡ saved .planner
@@ -117,7 +146,7 @@ module _ (s : Settings) (top : ℕ) (b : List ℕ) (k : Ready s top b) where
     pub up-to-after : (n : ℕ) → n ≤ end → (b1 : List ℕ) → b1 ≡ plannerBytes (upTo n .planner) → After s 999998000 (upTo n) b1
     unfolding bankCount
     up-to-after n l =
-        after-of (top + 3 + 128 * n) 999998000 (upTo n) (omega arith) (omega arith) (marked-up-to s (readies s top b k .figures) pick n (top + 3) d (start s top b k) (omega arith))
+        after-of (top + 3 + 192 * n) 999998000 (upTo n) (omega arith) (omega arith) (marked-up-to s (readies s top b k .figures) pick n (top + 3) d (start s top b k) (omega arith))
         (good-up-to cx (split-neighbours s) (plannerIn b) d good pick n (omega arith))
 
     -- before the first turn of the loop
@@ -152,7 +181,7 @@ module _ (s : Settings) (top : ℕ) (b : List ℕ) (k : Ready s top b) where
 
     pub cleared-after : (b1 : List ℕ) → b1 ≡ plannerBytes (cleared .planner) → After s 999998000 cleared b1
     cleared-after =
-        after-of (top + 3 + 4096) 999998000 cleared (omega arith) (omega arith) (marked-all s (readies s top b k .figures) (near cx x) (top + 3) d (start s top b k) (omega arith))
+        after-of (top + 3 + 6144) 999998000 cleared (omega arith) (omega arith) (marked-all s (readies s top b k .figures) (near cx x) (top + 3) d (start s top b k) (omega arith))
         (good-cleared cx (split-neighbours s) (plannerIn b) d good x .0)
 
     pub cleared-shut : (b1 : List ℕ) → plannerIn b1 ≡ cleared .planner → NearShut s b1 x

@@ -2,42 +2,52 @@
 -- Assumes nothing.
 use Prim.Native.Nat.{ℕ, _+_, _*_, _-_, _<_}
 use mathlib.Core.Path.{_≡_, refl, sym, ap, _∙_}
-use mathlib.Core.Bool.{Bool, true, false, not, cond, _&&_, or-false}
-use mathlib.Core.List.{List}
+use mathlib.Core.Bool.{Bool, true, false, cond, _&&_, _||_, or-false}
+use mathlib.Core.List.{List, [], _∷_}
 use native.Mathlib.Omega.{arith}
 use borrow.Author.Tests.{eqb-true, eqb-false, eq-eqb, ne-eqb}
 use lib.Dec.{eqb}
-use lib.ListN.{getD}
+use Rattle.record.specs.declared.Place.{Place}
 use Rattle.spec_rules.specs.declared.Bank.{Bank}
 use Rattle.spec_rules.specs.declared.Bank.the-variants.{Closed, Open, Refresh}
 use Rattle.spec_rules.specs.declared.BankTrack.{BankTrack}
 use Rattle.spec_rules.specs.declared.Write.{Write}
-use Rattle.spec_rules.specs.declared.Buffer.the-variants.{Empty, One}
-use Rattle.spec_rules.specs.Neighbour.{bankCount}
+use Rattle.spec_rules.specs.Neighbour.{bankCount, Context}
 use Rattle.spec_rules.specs.History.{isClosed, anyWrite}
 use Rattle.spec_rules.specs.Channel.{waitingOf}
-use Rattle.spec_state.specs.ChannelBytes.{bankIn, trackIn, writeIn, bufferIn, channelIn}
+use Rattle.spec_rules.proofs.Bools.{not-both}
+use Rattle.spec_state.specs.ChannelBytes.{bankIn, trackIn, writeIn, channelIn}
 use Rattle.spec_state.proofs.PlaneLaws.{tracks-at}
-use Rattle.spec_plan.specs.Plan.{waiting, stateIn, openOn}
+use Rattle.spec_plan.specs.Plan.{waiting, stateIn, openOn, hits, delays}
 use Rattle.spec_plan.specs.PlannerBytes.{plannerIn}
-use Rattle.plan_bytes.specs.form.Numbers.{half, waitsIn}
+use Rattle.plan_bytes.specs.form.Numbers.{half, waitsIn, twoIn}
 use Rattle.plan_bytes.specs.form.Drawn.{drafted}
+use Rattle.plan_bytes.proofs.States.{two-waits, two-is, one-is, none-is}
 
--- a test of the waiting write
-pub any-is : (b : List ℕ) (test : Write → Bool) → (waitsIn b && test (writeIn b 736)) ≡ anyWrite test (waiting (drafted b))
-unfolding plannerIn channelIn bufferIn waitingOf
-any-is b test = go (eqb (getD b 728 0) 0)
-  where
-    go : (q : Bool) → (not q && test (writeIn b 736)) ≡ anyWrite test (waitingOf (cond q Empty (One (writeIn b 736))))
-    go true = refl
-    go false = sym (or-false (test (writeIn b 736)))
+-- tests of the waiting writes
+module _ (b : List ℕ) where
+  -- by how many wait
+  waits-by : (P : Bool → Bool → List Write → Type 0) → P true true (writeIn b 736 ∷ writeIn b 744 ∷ []) → P true false (writeIn b 736 ∷ []) → P false false [] → P (waitsIn b) (twoIn b) (waiting (drafted b))
+  unfolding waitingOf
+  waits-by P f g h = go (twoIn b) refl (waitsIn b) refl
+    where
+      go : (t : Bool) → twoIn b ≡ t → (w : Bool) → waitsIn b ≡ w → P w t (waiting (drafted b))
+      go true e true d = rw (two-is b e) f
+      go true e false d = not-both (waitsIn b) (two-waits b e) d
+      go false e true d = rw (one-is b d e) g
+      go false e false d = rw (none-is b d) h
 
-pub waits-is : (b : List ℕ) → waitsIn b ≡ anyWrite (λ w. true) (waiting (drafted b))
-waits-is b = sym (and-true (waitsIn b)) ∙ any-is b (λ w. true)
-  where
-    and-true : (q : Bool) → (q && true) ≡ q
-    and-true true = refl
-    and-true false = refl
+  pub any-is : (test : Write → Bool) → ((waitsIn b && test (writeIn b 736)) || (twoIn b && test (writeIn b 744))) ≡ anyWrite test (waiting (drafted b))
+  any-is test =
+      waits-by (λ w t ws. ((w && test (writeIn b 736)) || (t && test (writeIn b 744))) ≡ anyWrite test ws)
+      (ap (λ (q : Bool). test (writeIn b 736) || q) (sym (or-false (test (writeIn b 744))))) refl refl
+
+  pub delays-is : (cx : Context) (at : Place) → (twoIn b || (waitsIn b && hits (at .bank) (at .column) (writeIn b 736))) ≡ delays cx at (waiting (drafted b))
+  delays-is cx at =
+      waits-by (λ w t ws. (t || (w && hits (at .bank) (at .column) (writeIn b 736))) ≡ delays cx at ws) refl (sym (or-false (hits (at .bank) (at .column) (writeIn b 736)))) refl
+
+  pub waits-is : waitsIn b ≡ anyWrite (λ w. true) (waiting (drafted b))
+  waits-is = waits-by (λ w t ws. w ≡ anyWrite (λ w. true) ws) refl refl refl
 
 -- the state of a bank
 state-is : (b : List ℕ) (x : ℕ) → x < 32 → stateIn (drafted b) x ≡ bankIn (half b (640 + 2 * x))

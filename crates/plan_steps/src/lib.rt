@@ -7,20 +7,24 @@ ghost use lib.Dec.{leb};
 ghost use Rattle.packet.specs.declared.RowPacket.the-variants.{Act};
 ghost use Rattle.spec_rules.specs.Neighbour.{bankCount, contextOf, near};
 ghost use Rattle.spec_rules.specs.History.{isClosed, anyWrite};
-ghost use Rattle.spec_plan.specs.Plan.{rowPacket, when, waiting, stateIn, openOn, hits, anyWaits, sent, flushed, closed, closedUpTo, reached};
+ghost use Rattle.spec_plan.specs.Plan.{rowPacket, when, waiting, stateIn, openOn, delays, anyWaits, sent, flushed, flushedWhile, closed, closedUpTo, reached};
 ghost use Rattle.plan_bytes.specs.form.Numbers.{half};
 ghost use Rattle.plan_bytes.specs.form.Drawn.{drafted, Ready, OpenAt, Fits, Drawn};
 use chan_view::neighbours::first_near;
 use chan_view::neighbours::is_near;
 use chan_view::neighbours::last_near;
 use num::both;
+use num::either;
 use num::u16_at;
 use num::wide;
 use plan_bytes::held_bank;
+use plan_bytes::next_bank;
+use plan_bytes::two;
 use plan_bytes::waits;
 use plan_cols::nocop;
 use plan_rows::act;
 use plan_rows::prer;
+use record::Place;
 use settings::Settings;
 
 // The state of a bank as it is stored: 0 closed, 1 + its row where it is open.
@@ -32,25 +36,27 @@ fn tag(b: &[u8], x: usize) -> u32
     u16_at(b, 640 + 2 * x)
 }
 
-// Whether the waiting write has that bank and column.
-pub fn hit(b: &[u8], bank: u32, column: u32) -> bool
+// Whether an RD must not come yet: two writes wait, or one of that bank and column does.
+fn delayed(s: Settings, b: &[u8], at: Place) -> bool
     requires { ⌜ length (now b) ≡ 768 ⌝ }
-    ensures { λ r. ⌜ r ≡ anyWrite (hits bank column) (waiting (drafted (now (b .entry)))) ⌝ }
+    ensures { λ r. ⌜ r ≡ delays (contextOf s) at (waiting (drafted (now (b .entry)))) ⌝ }
 {
-    let own = both(held_bank(b) == bank, wide(b[737]) == column);
-    both(waits(b), own)
+    let own = both(held_bank(b) == at.bank, wide(b[737]) == at.column);
+    either(two(b), both(waits(b), own))
 }
 
-// Whether a PRER to a bank would lose the waiting write.
+// Whether a PRER to a bank would lose a waiting write.
 fn loses(s: Settings, b: &[u8], bank: u32) -> bool
     requires { ⌜ length (now b) ≡ 768 ⌝ }
     ensures { λ r. ⌜ r ≡ anyWrite (λ w. near (contextOf s) bank (w .bank)) (waiting (drafted (now (b .entry)))) ⌝ }
 {
-    both(waits(b), is_near(s, bank, held_bank(b)))
+    let older = both(waits(b), is_near(s, bank, held_bank(b)));
+    let newer = both(two(b), is_near(s, bank, next_bank(b)));
+    either(older, newer)
 }
 
 // NOCOP where a test has passed that no empty buffer passes.
-pub fn flush_if(s: Settings, b: &mut [u8], test: bool, room: &mut [u8], to: usize) -> usize
+fn flush_if(s: Settings, b: &mut [u8], test: bool, room: &mut [u8], to: usize) -> usize
     requires { ⌜ Ready s 999999000 (now b) ⌝ }
     requires { ⌜ length (now b) ≡ 768 ⌝ }
     requires { ⌜ (test ≡ true → anyWaits (waiting (drafted (now b))) ≡ true) ⌝ }
@@ -63,7 +69,46 @@ pub fn flush_if(s: Settings, b: &mut [u8], test: bool, room: &mut [u8], to: usiz
     to
 }
 
-// "each by PRER; before a PRER that would lose a buffered write, send NOCOP"
+// NOCOP until no write waits that a PRER to a bank would lose.
+fn flush_losing(s: Settings, b: &mut [u8], bank: u32, room: &mut [u8], to: usize) -> usize
+    requires { ⌜ Ready s 999998000 (now b) ⌝ }
+    requires { ⌜ length (now b) ≡ 768 ⌝ }
+    requires { ⌜ Fits (flushedWhile (contextOf s) (anyWrite (λ w. near (contextOf s) bank (w .bank))) (drafted (now b))) (now room) to ⌝ }
+    ensures { λ r. ⌜ Drawn s (flushedWhile (contextOf s) (anyWrite (λ w. near (contextOf s) bank (w .bank))) (drafted (now (b .entry)))) (now (room .entry)) to (now (b .exit)) (now (room .exit)) r ⌝ }
+{
+    let first = loses(s, b, bank);
+    let next = flush_if(s, b, first, room, to);
+    let again = loses(s, b, bank);
+    flush_if(s, b, again, room, next)
+}
+
+// NOCOP until an RD may come.
+pub fn flush_delaying(s: Settings, b: &mut [u8], at: Place, room: &mut [u8], to: usize) -> usize
+    requires { ⌜ Ready s 999998000 (now b) ⌝ }
+    requires { ⌜ length (now b) ≡ 768 ⌝ }
+    requires { ⌜ Fits (flushedWhile (contextOf s) (delays (contextOf s) at) (drafted (now b))) (now room) to ⌝ }
+    ensures { λ r. ⌜ Drawn s (flushedWhile (contextOf s) (delays (contextOf s) at) (drafted (now (b .entry)))) (now (room .entry)) to (now (b .exit)) (now (room .exit)) r ⌝ }
+{
+    let first = delayed(s, b, at);
+    let next = flush_if(s, b, first, room, to);
+    let again = delayed(s, b, at);
+    flush_if(s, b, again, room, next)
+}
+
+// NOCOP until no write waits.
+pub fn flush_all(s: Settings, b: &mut [u8], room: &mut [u8], to: usize) -> usize
+    requires { ⌜ Ready s 999998000 (now b) ⌝ }
+    requires { ⌜ length (now b) ≡ 768 ⌝ }
+    requires { ⌜ Fits (flushedWhile (contextOf s) anyWaits (drafted (now b))) (now room) to ⌝ }
+    ensures { λ r. ⌜ Drawn s (flushedWhile (contextOf s) anyWaits (drafted (now (b .entry)))) (now (room .entry)) to (now (b .exit)) (now (room .exit)) r ⌝ }
+{
+    let first = waits(b);
+    let next = flush_if(s, b, first, room, to);
+    let again = waits(b);
+    flush_if(s, b, again, room, next)
+}
+
+// "each by PRER"; "The planner sends NOCOP [..] before a read or a PRER until the write concerned has retired"
 fn close_bank(s: Settings, b: &mut [u8], x: usize, room: &mut [u8], to: usize) -> usize
     requires { ⌜ Ready s 999998000 (now b) ⌝ }
     requires { ⌜ length (now b) ≡ 768 ⌝ }
@@ -72,8 +117,7 @@ fn close_bank(s: Settings, b: &mut [u8], x: usize, room: &mut [u8], to: usize) -
     requires { ⌜ Fits (closed (contextOf s) x (drafted (now b))) (now room) to ⌝ }
     ensures { λ r. ⌜ Drawn s (closed (contextOf s) x (drafted (now (b .entry)))) (now (room .entry)) to (now (b .exit)) (now (room .exit)) r ⌝ }
 {
-    let test = loses(s, b, x as u32);
-    let next = flush_if(s, b, test, room, to);
+    let next = flush_losing(s, b, x as u32, room, to);
     prer(s, b, x, room, next)
 }
 
