@@ -1,4 +1,6 @@
 pub mod FitLaws
-pub mod ModelLaws
-pub mod NextLaws
+pub mod TailLaws
 pub mod TakenLaws
+pub mod RightLaws
+pub mod LeftLaws
+pub mod ModelLaws

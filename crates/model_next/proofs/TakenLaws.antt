@@ -1,29 +1,25 @@
 -- What is known of a state and a record that breaks no rule in it.
 -- Assumes nothing.
-use Prim.Native.Nat.{_<_, _≤_}
+use Prim.Native.Nat.{_≤_}
 use mathlib.Core.Path.{_≡_, refl, sym}
-use mathlib.Core.Bool.{Bool, true, false, cond, not, _||_}
-use lib.Dec.{ltb}
-use borrow.Author.Tests.{ltb-true}
+use mathlib.Core.Bool.{Bool, true, false, not, _||_}
 use Rattle.settings.specs.declared.PacketAt.{PacketAt}
 use Rattle.packet.specs.declared.RowPacket.{RowPacket}
 use Rattle.packet.specs.declared.ColPacket.{ColPacket}
 use Rattle.record.specs.declared.Record.{Record}
 use Rattle.record.specs.declared.Record.the-variants.{RowAt, ColAt}
-use Rattle.spec_rules.specs.declared.Write.{Write}
 use Rattle.spec_rules.specs.declared.Buffer.{Buffer}
-use Rattle.spec_rules.specs.declared.Buffer.the-variants.{Empty, One}
+use Rattle.spec_rules.specs.declared.Buffer.the-variants.{Empty, One, Two}
 use Rattle.spec_rules.specs.declared.Channel.{Channel}
-use Rattle.spec_rules.specs.Neighbour.{bankCount, Context}
+use Rattle.spec_rules.specs.Neighbour.{Context}
 use Rattle.spec_rules.specs.Packets.{instant, isPacket}
-use Rattle.spec_rules.specs.History.{only, anyWrite, allWrites}
+use Rattle.spec_rules.specs.History.{only, anyWrite}
 use Rattle.spec_rules.specs.Rules.{dataInPlace}
 use Rattle.spec_rules.specs.Channel.{waitingOf, newestDue, dueOf}
 use Rattle.spec_rules.specs.Checks.{checks, judged}
-use Rattle.spec_rules.proofs.Bools.{not-both, and-left}
+use Rattle.spec_rules.proofs.Bools.{not-both}
 use Rattle.spec_rules.proofs.BrokenLaws.{lowest-none}
 use Rattle.spec_rules.proofs.CheckerRight.{in-time}
-use Rattle.spec_state.specs.Valid.{writeValid}
 use Rattle.spec_state.proofs.NextValid.{Sound}
 
 -- rule 1: an instant can be stored less 3
@@ -36,13 +32,6 @@ unfolding isPacket instant
 col-late cx ch t p j = in-time cx ch (ColAt t p) j refl .0
 
 module _ (cx : Context) (ch : Channel) (k : Sound cx ch) where
-  -- a write waits for a bank
-  pub held-in : (empty : Bool) (w : Write) → ch .buffer ≡ cond empty Empty (One w) → empty ≡ false → w .bank < 32
-  unfolding waitingOf writeValid bankCount
-  held-in empty w z e =
-      let h : allWrites (writeValid cx) (waitingOf (One w)) ≡ true = rw (z, e) at (k .write) in
-      ltb-true (w .bank) 32 (and-left (ltb (w .bank) 32) _ (and-left (writeValid cx w) _ h))
-
   module _ (r : Record) (j : judged cx ch r ≡ 0) where
     -- rule 15
     in-place : dataInPlace (only (ch .due) (newestDue cx (waitingOf (ch .buffer)))) r ≡ true
@@ -57,14 +46,16 @@ module _ (cx : Context) (ch : Channel) (k : Sound cx ch) where
         go : (due : Bool) (b : Buffer) → dataInPlace (only due (newestDue cx (waitingOf b))) r ≡ true → not due || anyWrite (λ w. true) (waitingOf b) ≡ true → due ≡ false
         go false b h d = refl
         go true Empty h d = sym d
-        go true (One w) h d = sym (rw p at h)
+        go true (One x) h d = sym (rw p at h)
+        go true (Two x y) h d = sym (rw p at h)
 
     -- at data a write waits
-    pub one-waits : isPacket r ≡ false → (b : Buffer) → ch .buffer ≡ b → anyWrite (λ w. true) (waitingOf b) ≡ true
+    pub some-waits : isPacket r ≡ false → (b : Buffer) → ch .buffer ≡ b → anyWrite (λ w. true) (waitingOf b) ≡ true
     unfolding waitingOf
-    one-waits p b z = go (ch .due) b (rw z at in-place)
+    some-waits p b z = go (ch .due) b (rw z at in-place)
       where
         go : (due : Bool) (b : Buffer) → dataInPlace (only due (newestDue cx (waitingOf b))) r ≡ true → anyWrite (λ w. true) (waitingOf b) ≡ true
-        go due (One w) h = refl
+        go due (One x) h = refl
+        go due (Two x y) h = refl
         go true Empty h = not-both (isPacket r) h p
         go false Empty h = not-both (isPacket r) h p

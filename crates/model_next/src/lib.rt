@@ -27,7 +27,7 @@ pub fn put_next(s: Settings, b: &mut [u8], r: Record)
 {
     match r {
         Record::RowAt(t, p) => put_row(s, b, p, wide32(t.0) - 3),
-        Record::ColAt(t, p) => put_col(b, p, wide32(t.0) - 3),
+        Record::ColAt(t, p) => put_col(s, b, p, wide32(t.0) - 3),
         Record::DataOf(_, d) => put_data(b, d),
     }
 }

@@ -6,7 +6,8 @@ use Rattle.settings.proofs.SettingsLaws.{bounds}
 use Rattle.record.specs.Record.{recordFits}
 use Rattle.model_next.proofs.FitLaws.{fits-more}
 use Rattle.model_next.proofs.TakenLaws.{row-late, col-late}
-use Rattle.model_next.proofs.ModelLaws.{right-length, refr-in, bank-in, row-next, col-next, data-next}
+use Rattle.model_next.proofs.RightLaws.{right-length, refr-in, bank-in}
+use Rattle.model_next.proofs.ModelLaws.{row-next, col-next, data-next}
 use borrow.Author.Needs.{needs}
 use Rattle.model_next.proofs.put_next.Statement.{statement}
 use Rattle.model_next.proofs.put_next.Tie as tie

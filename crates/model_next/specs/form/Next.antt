@@ -1,13 +1,13 @@
 -- What the code stores into the 792 bytes of a model for a record that is taken, in stored instants (less 3). The laws in proofs/
 -- say that this is the model after the record.
 -- Assumes nothing.
-use Prim.Native.Nat.{ℕ, _<_}
+use Prim.Native.Nat.{ℕ, _+_, _-_, _<_}
 use mathlib.Core.Path.{_≡_}
-use mathlib.Core.Bool.{false, cond}
+use mathlib.Core.Bool.{Bool, false, not, _&&_, cond}
 use mathlib.Core.List.{List}
-use lib.Dec.{eqb}
+use lib.Dec.{eqb, leb}
 use lib.ListN.{getD}
-use Rattle.num.specs.Bytes.{bytes, splice}
+use Rattle.num.specs.Bytes.{bytes, number, part, splice}
 use Rattle.settings.specs.declared.Settings.{Settings}
 use Rattle.packet.specs.declared.RowPacket.{RowPacket}
 use Rattle.packet.specs.declared.RowPacket.the-variants.{Act, Prer, Refa, Refp}
@@ -15,7 +15,7 @@ use Rattle.packet.specs.declared.ColPacket.{ColPacket}
 use Rattle.packet.specs.declared.ColPacket.the-variants.{Nocop, Wr, Rd}
 use Rattle.record.specs.declared.Dualoct.{Dualoct}
 use Rattle.spec_rules.specs.Neighbour.{contextOf}
-use Rattle.spec_state.specs.form.Stores.{colStored, actStored, refaStored, prerStored, rdStored, retireStored, emptyStored, writeStored}
+use Rattle.spec_state.specs.form.Stores.{colStored, actStored, refaStored, prerStored, rdStored, retireStored, shiftStored, writeStored, besideStored, dataStored}
 use Rattle.chan_view.specs.form.Beside.{lowOf, highOf}
 use Rattle.spec_model.specs.Store.{dualoctBytes}
 use Rattle.spec_model.specs.Model.{refrBy}
@@ -35,15 +35,33 @@ rowNext s b (Refp x) t = prerStored b x (lowOf s x) (highOf s x) t
 abbrev pub HeldIn : List ℕ → Type 0
 HeldIn b = eqb (getD b 728 0) 0 ≡ false → getD b 736 0 < 32
 
--- the retire of the waiting write, where one waits
-unfoldable pub leftNext : List ℕ → ℕ → List ℕ
-leftNext b t = cond (eqb (getD b 728 0) 0) b (emptyStored (retireStored b (getD b 736 0) t))
+-- whether the older write leaves at a stored instant: one waits, and tRTR has passed since its WR
+unfoldable pub leavesAt : Settings → List ℕ → ℕ → Bool
+leavesAt s b t = not (eqb (getD b 728 0) 0) && leb (number (part b 740 4) + s .rtr) t
 
--- the data of a WR are due after it
-unfoldable pub colNext : List ℕ → ColPacket → ℕ → List ℕ
-colNext b (Nocop m) t = colStored (leftNext b t) t
-colNext b (Wr x c m) t = colStored (writeStored (leftNext b t) 257 x c t) t
-colNext b (Rd x c m) t = rdStored b x t
+-- the retire of the older write: the newer and its data move up
+unfoldable pub movedUp : List ℕ → ℕ → List ℕ
+movedUp b t = splice (shiftStored (retireStored b (getD b 736 0) t) (getD b 728 0 - 1)) 760 (dualoctBytes (modelIn b .second))
 
+-- the bytes, and how many writes wait, once the older write has left, if it leaves
+unfoldable pub leftNext : Settings → List ℕ → ℕ → List ℕ
+leftNext s b t = cond (leavesAt s b t) (movedUp b t) b
+
+unfoldable pub leftCount : Settings → List ℕ → ℕ → ℕ
+leftCount s b t = cond (leavesAt s b t) (getD b 728 0 - 1) (getD b 728 0)
+
+-- a write where so many wait, its data due: alone, or beside another
+abbrev pub joined : List ℕ → ℕ → ℕ → ℕ → ℕ → List ℕ
+joined b left x c t = cond (eqb left 0) (writeStored b 257 x c t) (besideStored b 258 x c t)
+
+unfoldable pub joinNext : Settings → List ℕ → ℕ → ℕ → ℕ → List ℕ
+joinNext s b x c t = joined (leftNext s b t) (leftCount s b t) x c t
+
+unfoldable pub colNext : Settings → List ℕ → ColPacket → ℕ → List ℕ
+colNext s b (Nocop m) t = colStored (leftNext s b t) t
+colNext s b (Wr x c m) t = colStored (joinNext s b x c t) t
+colNext s b (Rd x c m) t = rdStored b x t
+
+-- the data of the newest write: the second, where two wait
 unfoldable pub dataNext : List ℕ → Dualoct → List ℕ
-dataNext b d = splice (splice b 728 (bytes 8 1)) 760 (dualoctBytes d)
+dataNext b d = splice (dataStored b (getD b 728 0)) (cond (eqb (getD b 728 0) 2) 776 760) (dualoctBytes d)
