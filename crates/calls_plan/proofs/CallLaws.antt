@@ -124,7 +124,7 @@ module _ (s : Settings) (planner : List ℕ) where
     unfolding served outcomeBy outcomeOf
     late t r a = rw t (a, (refl, refl))
 
-    pub in-time : 544 ≤ length room → timely (contextOf s) (planned (contextOf s) q (plannerIn planner)) ≡ true → (n : ℕ)
+    pub in-time : 576 ≤ length room → timely (contextOf s) (planned (contextOf s) q (plannerIn planner)) ≡ true → (n : ℕ)
         → n ≡ length (planned (contextOf s) q (plannerIn planner) .records) → (r : PlanAnswer) → r ≡ planAnswer (Made n) → (after left : List ℕ)
         → after ≡ plannerBytes (planned (contextOf s) q (plannerIn planner) .planner)
         → left ≡ splice room 0 (listBytes s (planned (contextOf s) q (plannerIn planner) .records))

@@ -43,7 +43,7 @@ fn served(s: Settings, planner: &mut [u8], q: Request, room: &mut [u8]) -> PlanA
     requires { ⌜ plannerRight (contextOf s) (now planner) ≡ true ⌝ }
     requires { ⌜ isCalm (now planner) ≡ true ⌝ }
     requires { ⌜ InRange s q ⌝ }
-    requires { ⌜ 544 ≤ length (now room) ⌝ }
+    requires { ⌜ 576 ≤ length (now room) ⌝ }
     ensures { λ r. ⌜ r ≡ served (contextOf s) (now (planner .entry)) (Accepted q) (now (room .entry)) .answer ⌝ }
     ensures { λ _. ⌜ now (planner .exit) ≡ served (contextOf s) (now (planner .entry)) (Accepted q) (now (room .entry)) .planner ⌝ }
     ensures { λ _. ⌜ now (room .exit) ≡ served (contextOf s) (now (planner .entry)) (Accepted q) (now (room .entry)) .room ⌝ }
@@ -65,7 +65,7 @@ pub(crate) fn in_place(
     requires { ⌜ valid s ≡ true ⌝ }
     requires { ⌜ plannerRight (contextOf s) (now planner) ≡ true ⌝ }
     requires { ⌜ isCalm (now planner) ≡ true ⌝ }
-    requires { ⌜ 544 ≤ length (now room) ⌝ }
+    requires { ⌜ 576 ≤ length (now room) ⌝ }
     ensures { λ r. ⌜ r ≡ planUnder (now (planner .entry)) (now (request .entry)) (now (room .entry)) s .answer ⌝ }
     ensures { λ _. ⌜ now (planner .exit) ≡ planUnder (now (planner .entry)) (now (request .entry)) (now (room .entry)) s .planner ⌝ }
     ensures { λ _. ⌜ now (room .exit) ≡ planUnder (now (planner .entry)) (now (request .entry)) (now (room .entry)) s .room ⌝ }

@@ -166,7 +166,7 @@ module _ (s : Settings) (v : valid s ≡ true) where
     marked-read at =
         let z : Draft = reached cx (at .bank) (at .row) d in
         let m : Marked s (top + 6208) z = marked-reached (at .bank) (at .row) top d k (omega arith) in
-        let test : List Write → Bool = delays cx at in
+        let test : List Write → Bool = delays at in
         marked-more s (top + 6208 + 128 + 64) (top + 6400) (omega arith) _ (marked-sent (top + 6208 + 128) (flushedWhile cx test z) (marked-while test (top + 6208) z m (omega arith)) (omega arith) (colPacket (Rd (at .bank) (at .column) 0xFFFF)))
 
     pub marked-write : (at : Place) (mask : ℕ) (bytes : Dualoct) → Marked s (top + 6400) (plannedWrite cx at mask bytes d)

@@ -42,9 +42,9 @@ module _ (b : List ℕ) where
       waits-by (λ w t ws. ((w && test (writeIn b 736)) || (t && test (writeIn b 744))) ≡ anyWrite test ws)
       (ap (λ (q : Bool). test (writeIn b 736) || q) (sym (or-false (test (writeIn b 744))))) refl refl
 
-  pub delays-is : (cx : Context) (at : Place) → (twoIn b || (waitsIn b && hits (at .bank) (at .column) (writeIn b 736))) ≡ delays cx at (waiting (drafted b))
+  pub delays-is : (cx : Context) (at : Place) → (twoIn b || (waitsIn b && hits (at .bank) (at .column) (writeIn b 736))) ≡ delays at (waiting (drafted b))
   delays-is cx at =
-      waits-by (λ w t ws. (t || (w && hits (at .bank) (at .column) (writeIn b 736))) ≡ delays cx at ws) refl (sym (or-false (hits (at .bank) (at .column) (writeIn b 736)))) refl
+      waits-by (λ w t ws. (t || (w && hits (at .bank) (at .column) (writeIn b 736))) ≡ delays at ws) refl (sym (or-false (hits (at .bank) (at .column) (writeIn b 736)))) refl
 
   pub waits-is : waitsIn b ≡ anyWrite (λ w. true) (waiting (drafted b))
   waits-is = waits-by (λ w t ws. w ≡ anyWrite (λ w. true) ws) refl refl refl

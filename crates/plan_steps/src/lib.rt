@@ -39,7 +39,7 @@ fn tag(b: &[u8], x: usize) -> u32
 // Whether an RD must not come yet: two writes wait, or one of that bank and column does.
 fn delayed(s: Settings, b: &[u8], at: Place) -> bool
     requires { ⌜ length (now b) ≡ 768 ⌝ }
-    ensures { λ r. ⌜ r ≡ delays (contextOf s) at (waiting (drafted (now (b .entry)))) ⌝ }
+    ensures { λ r. ⌜ r ≡ delays at (waiting (drafted (now (b .entry)))) ⌝ }
 {
     let own = both(held_bank(b) == at.bank, wide(b[737]) == at.column);
     either(two(b), both(waits(b), own))
@@ -86,8 +86,8 @@ fn flush_losing(s: Settings, b: &mut [u8], bank: u32, room: &mut [u8], to: usize
 pub fn flush_delaying(s: Settings, b: &mut [u8], at: Place, room: &mut [u8], to: usize) -> usize
     requires { ⌜ Ready s 999998000 (now b) ⌝ }
     requires { ⌜ length (now b) ≡ 768 ⌝ }
-    requires { ⌜ Fits (flushedWhile (contextOf s) (delays (contextOf s) at) (drafted (now b))) (now room) to ⌝ }
-    ensures { λ r. ⌜ Drawn s (flushedWhile (contextOf s) (delays (contextOf s) at) (drafted (now (b .entry)))) (now (room .entry)) to (now (b .exit)) (now (room .exit)) r ⌝ }
+    requires { ⌜ Fits (flushedWhile (contextOf s) (delays at) (drafted (now b))) (now room) to ⌝ }
+    ensures { λ r. ⌜ Drawn s (flushedWhile (contextOf s) (delays at) (drafted (now (b .entry)))) (now (room .entry)) to (now (b .exit)) (now (room .exit)) r ⌝ }
 {
     let first = delayed(s, b, at);
     let next = flush_if(s, b, first, room, to);

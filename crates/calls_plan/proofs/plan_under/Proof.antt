@@ -22,7 +22,7 @@ in-place-requires : tie.Need-in-place-requires
 in-place-requires c κs =
     let calm = c .before .before .before .before .before .before .calm in
     let test = c .before .before .if3 .taken in
-    (c .before .before .before .before .before .before .before .before .before .before .before .before .pre, (sym (c .before .before .before .before .right .ensures) ∙ not-false _ (c .before .before .before .if2 .left), (sym (calm .ensures) ∙ and-left (calm .result) _ test, leb-true 544 _ (and-right (calm .result) _ test))))
+    (c .before .before .before .before .before .before .before .before .before .before .before .before .pre, (sym (c .before .before .before .before .right .ensures) ∙ not-false _ (c .before .before .before .if2 .left), (sym (calm .ensures) ∙ and-left (calm .result) _ test, leb-true 576 _ (and-right (calm .result) _ test))))
 
 returns-3 : tie.Need-returns-3
 returns-3 c = c .before .before .before .before .in-place .ensures

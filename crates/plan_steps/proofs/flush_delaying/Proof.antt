@@ -15,7 +15,7 @@ flush-if-requires c κs =
     let z = c .before .before .before .before .before .before in
     let e = (c .before .before .delayed .ensures) in (
       ready-more _ 999998000 999999000 _ (omega arith) (z .pre .0),
-      (z .pre .1 .0, (passes _ _ _ (z .pre .0) (omega arith) (delays (contextOf (z .args .s)) (z .args .at)) refl (drafted (z .args .b .now)) _ e, once-fits _ _ _ (z .pre .0) (omega arith) (delays (contextOf (z .args .s)) (z .args .at)) refl (z .args .room .now) (z .args .to) (z .pre .1 .1) _ e)),
+      (z .pre .1 .0, (passes _ _ _ (z .pre .0) (omega arith) (delays (z .args .at)) refl (drafted (z .args .b .now)) _ e, once-fits _ _ _ (z .pre .0) (omega arith) (delays (z .args .at)) refl (z .args .room .now) (z .args .to) (z .pre .1 .1) _ e)),
     )
 
 flush-if-requires-2 : tie.Need-flush-if-requires-2
@@ -24,13 +24,13 @@ flush-if-requires-2 c κs =
     let e = (c .before .before .before .before .before .before .before .before .before .before .before .delayed .ensures) in
     let f = (c .before .before .delayed2 .ensures) in
     let w = c .before .before .before .before .before .before .before .before .flush-if .ensures in
-    let a = again-after _ _ _ (z .pre .0) (omega arith) (delays (contextOf (z .args .s)) (z .args .at)) refl (z .args .room .now) (z .args .to) (z .pre .1 .1) _ e _ _ _ w in
-    (a .ready, (a .size, (passes _ _ _ (z .pre .0) (omega arith) (delays (contextOf (z .args .s)) (z .args .at)) refl (drafted _) _ f, again-fits _ _ _ (z .pre .0) (omega arith) (delays (contextOf (z .args .s)) (z .args .at)) refl (z .args .room .now) (z .args .to) (z .pre .1 .1) _ e _ _ _ w _ f)))
+    let a = again-after _ _ _ (z .pre .0) (omega arith) (delays (z .args .at)) refl (z .args .room .now) (z .args .to) (z .pre .1 .1) _ e _ _ _ w in
+    (a .ready, (a .size, (passes _ _ _ (z .pre .0) (omega arith) (delays (z .args .at)) refl (drafted _) _ f, again-fits _ _ _ (z .pre .0) (omega arith) (delays (z .args .at)) refl (z .args .room .now) (z .args .to) (z .pre .1 .1) _ e _ _ _ w _ f)))
 
 returns : tie.Need-returns
 returns c =
     let z = c .before .before .before .before .before .before .before .before .before .before .before .before .before .before .before .before .before .before .before .before in
-    both-drawn _ _ _ (z .pre .0) (omega arith) (delays (contextOf (z .args .s)) (z .args .at)) refl (z .args .room .now) (z .args .to) (z .pre .1 .1) _ (c .before .before .before .before .before .before .before .before .before .before .before .before .before .before .before .before .delayed .ensures) _ _ _ (c .before .before .before .before .before .before .before .before .before .before .before .before .before .flush-if .ensures) _ (c .before .before .before .before .before .before .before .delayed2 .ensures) _ _ _ (c .before .before .before .before .flush-if2 .ensures)
+    both-drawn _ _ _ (z .pre .0) (omega arith) (delays (z .args .at)) refl (z .args .room .now) (z .args .to) (z .pre .1 .1) _ (c .before .before .before .before .before .before .before .before .before .before .before .before .before .before .before .before .delayed .ensures) _ _ _ (c .before .before .before .before .before .before .before .before .before .before .before .before .before .flush-if .ensures) _ (c .before .before .before .before .before .before .before .delayed2 .ensures) _ _ _ (c .before .before .before .before .flush-if2 .ensures)
 
 pub flush-delaying-spec : {M : Type 1} → statement M
 flush-delaying-spec =
