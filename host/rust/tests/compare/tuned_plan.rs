@@ -310,8 +310,8 @@ impl Planner {
         self.channel.encode(state.first_chunk_mut().unwrap());
         state[752..756].copy_from_slice(&self.now.to_le_bytes());
         state[756..760].copy_from_slice(&u32::from(self.refresh).to_le_bytes());
-        state[760..762].copy_from_slice(&self.mask.to_le_bytes());
-        state[762..].copy_from_slice(&[self.second.to_le_bytes(), [0; 2], [0; 2]].concat());
+        let masks = u64::from(self.second) << 16 | u64::from(self.mask);
+        state[760..].copy_from_slice(&masks.to_le_bytes());
     }
 }
 
