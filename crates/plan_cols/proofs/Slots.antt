@@ -28,7 +28,7 @@ use Rattle.spec_rules.specs.Earliest.{placedAt, earliest, leastFrom, retireBoun
 use Rattle.spec_rules.proofs.Bools.{iff-eq}
 use Rattle.spec_rules.proofs.ByCommand.{nocop-bounds, rd-bounds, wr-bounds, retire-bounds}
 use Rattle.spec_state.specs.ChannelBytes.{instantOf, trackIn, lastsIn, writeIn, channelIn}
-use Rattle.spec_state.proofs.ColLaws.{leaving-first, leaving-none}
+use Rattle.spec_rules.proofs.LeavingLaws.{leaving-first, leaving-none}
 use Rattle.chan_view.proofs.BoundLaws.{own-bound}
 use Rattle.spec_plan.specs.declared.PlannerState.{PlannerState}
 use Rattle.spec_plan.specs.Plan.{colPacket, slot, leaver}
