@@ -28,13 +28,13 @@ use Rattle.spec_rules.specs.Checks.{since}
 use Rattle.spec_rules.proofs.Bools.{iff-eq}
 use Rattle.spec_rules.proofs.NeighbourLaws.{split-neighbours}
 use Rattle.spec_plan.specs.declared.PlannerState.{PlannerState}
-use Rattle.spec_plan.specs.Plan.{Draft, rowPacket, colPacket, when, waiting, stateIn, hits, anyWaits, sent, flushed, flushedWhile, closed, closedUpTo, reached, plannedRead, loaded, written, plannedWrite, turned, plannedRefresh, plannedWait, plannedDrain, stepsOf, planned}
+use Rattle.spec_plan.specs.Plan.{Draft, rowPacket, colPacket, stateIn, delays, anyWaits, sent, flushed, flushedWhile, closed, closedUpTo, reached, plannedRead, loaded, written, plannedWrite, turned, plannedRefresh, plannedWait, plannedDrain, stepsOf, planned}
 use Rattle.spec_plan.specs.Call.{listBytes, inTime, timely}
 use Rattle.spec_plan.specs.PlannerBytes.{plannerBytes, plannerIn, plannerRight}
 use Rattle.spec_plan.proofs.SentLaws.{when-either, sent-refresh, while-keeps}
 use Rattle.spec_plan.proofs.PlanLaws.{Good, good-while, good-reached}
 use Rattle.spec_plan.proofs.Bound.{most}
-use Rattle.plan_bytes.specs.form.Numbers.{word, half, waitsIn}
+use Rattle.plan_bytes.specs.form.Numbers.{word, half}
 use Rattle.plan_bytes.specs.form.Drawn.{bare, drafted, Ready, Fits, Drawn}
 use Rattle.plan_bytes.proofs.Since.{since-some}
 use Rattle.plan_bytes.proofs.Marks.{Marked, marked-while, marked-reached, marked-read, marked-write, marked-refresh, marked-drain}
@@ -43,9 +43,8 @@ use Rattle.plan_bytes.proofs.Puts.{now-stored, refresh-stored}
 use Rattle.plan_bytes.proofs.ReadyLaws.{readies, inv}
 use Rattle.plan_bytes.proofs.Again.{start, After, ready-call}
 use Rattle.plan_bytes.proofs.Compose.{Blind, sent-blind, while-blind, up-to-blind, written-blind, fits-first, fits-then, drawn-then, one-sent}
-use Rattle.plan_steps.proofs.Tested.{waits-is}
 use Rattle.plan_steps.proofs.Ranges.{up-to-ext}
-use Rattle.plan_steps.proofs.Stepwise.{any-waits, while-is, good, after-of, cleared-first, cleared-fits, cleared-drawn}
+use Rattle.plan_steps.proofs.Stepwise.{good, after-of, cleared-first, cleared-fits, cleared-drawn}
 use Rattle.plan_calm.specs.form.Calm.{isCalm}
 use Rattle.plan_calm.proofs.CalmLaws.{calm-below}
 
@@ -65,17 +64,14 @@ up-to-refresh cx pick (suc n) d =
     when-either (λ y. f y ≡ f d) (pick n && not (isClosed (stateIn z n))) (closed cx n) z
     (λ _. sent-refresh cx (rowPacket (Prer n)) (flushedWhile cx test z) ∙ save ∙ up-to-refresh cx pick n d) (λ _. up-to-refresh cx pick n d)
 
-pub hit-waits : (d : Draft) (bank column : ℕ) (q : Bool) → q ≡ true → q ≡ anyWrite (hits bank column) (waiting d) → anyWaits (waiting d) ≡ true
-hit-waits d bank column q w e = any-waits (hits bank column) (waiting d) (sym e ∙ w)
-
-module _ (s : Settings) (b : List ℕ) (k : Ready s 999990000 b) (room : List ℕ) (m : 544 ≤ length room) where
+module _ (s : Settings) (b : List ℕ) (k : Ready s 999990000 b) (room : List ℕ) (m : 576 ≤ length room) where
   abbrev cx : Context
   cx = contextOf s
 
   abbrev d : Draft
   d = drafted b
 
-  -- "No request makes more than 17 records."
+  -- "No request makes more than 18 records."
   enough : (q : Request) → Fits (planned cx q (plannerIn b)) room 0
   enough q = omega (arith, most s (plannerIn b) (readies s 999990000 b k .right) q)
 
@@ -88,21 +84,21 @@ module _ (s : Settings) (b : List ℕ) (k : Ready s 999990000 b) (room : List �
     unfolding bankCount contextOf
     reached-good = good-reached cx (split-neighbours s) (plannerIn b) d (good s 999990000 b k) (at .bank) (at .row) (i .0) (i .1) .0
 
-    reached-marked : Marked s 999994163 there
+    reached-marked : Marked s 999996211 there
     reached-marked = marked-reached s (readies s 999990000 b k .figures) (at .bank) (at .row) 999990003 d (start s 999990000 b k) (omega arith)
 
     pub reached-after : (b1 : List ℕ) → b1 ≡ plannerBytes (there .planner) → After s 999998000 there b1
-    reached-after = after-of s 999990000 b k 999994163 999998000 there (omega arith) (omega arith) reached-marked reached-good
+    reached-after = after-of s 999990000 b k 999996211 999998000 there (omega arith) (omega arith) reached-marked reached-good
 
     -- ---- read
 
     abbrev test : List Write → Bool
-    test = anyWrite (hits (at .bank) (at .column))
+    test = delays at
 
     abbrev rd : Record
     rd = colPacket (Rd (at .bank) (at .column) 0xFFFF)
 
-    -- the row reached, and the write that the RD would pass retired
+    -- the row reached, and the writes that delay the RD retired
     abbrev clean : Draft
     clean = flushedWhile cx test there
 
@@ -118,19 +114,19 @@ module _ (s : Settings) (b : List ℕ) (k : Ready s 999990000 b) (room : List �
 
     clean-after : (b2 : List ℕ) → b2 ≡ plannerBytes (clean .planner) → After s 999999000 clean b2
     clean-after =
-        after-of s 999990000 b k (999994163 + 64) 999999000 clean (omega arith) (omega arith) (marked-while s (readies s 999990000 b k .figures) test 999994163 there reached-marked (omega arith))
+        after-of s 999990000 b k (999996211 + 128) 999999000 clean (omega arith) (omega arith) (marked-while s (readies s 999990000 b k .figures) test 999996211 there reached-marked (omega arith))
         (good-while cx (split-neighbours s) (plannerIn b) there reached-good test refl)
 
-    module _ (b1 room1 : List ℕ) (to1 : ℕ) (w : Drawn s there room 0 b1 room1 to1) (q : Bool) (e : q ≡ test (waiting (drafted b1))) where
+    module _ (b1 room1 : List ℕ) (to1 : ℕ) (w : Drawn s there room 0 b1 room1 to1) where
       back : plannerIn b1 ≡ there .planner
       back = reached-after b1 (w .planner) .back
 
-      pub flush-fits : Fits (when q (flushed cx) (drafted b1)) room1 to1
-      flush-fits = rw (while-is cx test (drafted b1) q e) (fits-then s (flushedWhile cx test) (while-blind cx test) there room 0 b1 room1 to1 w back clean-fits)
+      pub flush-fits : Fits (flushedWhile cx test (drafted b1)) room1 to1
+      flush-fits = fits-then s (flushedWhile cx test) (while-blind cx test) there room 0 b1 room1 to1 w back clean-fits
 
-      module _ (b2 room2 : List ℕ) (to2 : ℕ) (v : Drawn s (when q (flushed cx) (drafted b1)) room1 to1 b2 room2 to2) where
+      module _ (b2 room2 : List ℕ) (to2 : ℕ) (v : Drawn s (flushedWhile cx test (drafted b1)) room1 to1 b2 room2 to2) where
         clean-drawn : Drawn s clean room 0 b2 room2 to2
-        clean-drawn = drawn-then s (flushedWhile cx test) (while-blind cx test) there room 0 b1 room1 to1 w back clean-fits b2 room2 to2 (rw (while-is cx test (drafted b1) q e) at v)
+        clean-drawn = drawn-then s (flushedWhile cx test) (while-blind cx test) there room 0 b1 room1 to1 w back clean-fits b2 room2 to2 v
 
         pub read-after : After s 999999000 clean b2
         read-after = clean-after b2 (clean-drawn .planner)
@@ -195,14 +191,14 @@ module _ (s : Settings) (b : List ℕ) (k : Ready s 999990000 b) (room : List �
   -- REFA and REFP leave the refresh bank, and so does every PRER before them
   refresh-is : plannedRefresh cx d ≡
       let z : Draft = refreshed (half b 756) cleared in
-      record { planner = record { channel = z .planner .channel; now = z .planner .now; refresh = (half b 756 + 1) % 32; mask = z .planner .mask }; records = z .records }
+      record { planner = record { channel = z .planner .channel; now = z .planner .now; refresh = (half b 756 + 1) % 32; mask = z .planner .mask; second = z .planner .second }; records = z .records }
   unfolding plannedRefresh turned plannerIn bankCount
   refresh-is =
       let x : ℕ = half b 756 in
       let y : Draft = sent cx (rowPacket (Refa x)) cleared in
       let same : sent cx (rowPacket (Refp x)) y .planner .refresh ≡ x = sent-refresh cx (rowPacket (Refp x)) y ∙ sent-refresh cx (rowPacket (Refa x)) cleared ∙ up-to-refresh cx (near cx x) 32 d in
       let z : Draft = sent cx (rowPacket (Refp x)) y in
-      ap (λ (n : ℕ). record { planner = record { channel = z .planner .channel; now = z .planner .now; refresh = (n + 1) % 32; mask = z .planner .mask }; records = z .records }) same
+      ap (λ (n : ℕ). record { planner = record { channel = z .planner .channel; now = z .planner .now; refresh = (n + 1) % 32; mask = z .planner .mask; second = z .planner .second }; records = z .records }) same
 
   two-refreshed : (x : ℕ) (p : PlannerState) → length (refreshed x (bare p) .records) ≡ 2
   unfolding sent
@@ -238,7 +234,7 @@ module _ (s : Settings) (b : List ℕ) (k : Ready s 999990000 b) (room : List �
 
   emptied-after : (b1 : List ℕ) → b1 ≡ plannerBytes (emptied .planner) → After s 999991000 emptied b1
   emptied-after =
-      after-of s 999990000 b k (999990003 + 64) 999991000 emptied (omega arith) (omega arith) (marked-while s (readies s 999990000 b k .figures) anyWaits 999990003 d (start s 999990000 b k) (omega arith))
+      after-of s 999990000 b k (999990003 + 128) 999991000 emptied (omega arith) (omega arith) (marked-while s (readies s 999990000 b k .figures) anyWaits 999990003 d (start s 999990000 b k) (omega arith))
       (good-while cx (split-neighbours s) (plannerIn b) d (good s 999990000 b k) anyWaits refl)
 
   -- all banks from the first on
@@ -246,30 +242,19 @@ module _ (s : Settings) (b : List ℕ) (k : Ready s 999990000 b) (room : List �
   unfolding bankCount
   all-shut z = up-to-ext cx z (λ y. leb 0 y) (λ y. true) 32 (λ y l. le-leb 0 y (omega arith))
 
-  pub drain-waits : (q : Bool) → q ≡ true → q ≡ waitsIn b → anyWaits (waiting d) ≡ true
-  drain-waits q w e = sym (e ∙ waits-is b) ∙ w
+  pub drain-first : Fits emptied room 0
+  drain-first = fits-first shut (up-to-blind cx (λ x. true) bankCount) emptied room 0 drain-fits
 
-  module _ (q : Bool) (e : q ≡ waitsIn b) where
-    waits : q ≡ anyWaits (waiting d)
-    waits = e ∙ waits-is b
+  module _ (b1 room1 : List ℕ) (to1 : ℕ) (v : Drawn s emptied room 0 b1 room1 to1) where
+    pub drain-after : After s 999991000 emptied b1
+    drain-after = emptied-after b1 (v .planner)
 
-    pub drain-first : Fits (when q (flushed cx) d) room 0
-    drain-first = rw (while-is cx anyWaits d q waits) (fits-first shut (up-to-blind cx (λ x. true) bankCount) emptied room 0 drain-fits)
+    pub drain-room : Fits (closedUpTo cx (λ y. leb 0 y) 32 (drafted b1)) room1 to1
+    drain-room = rw (all-shut (drafted b1)) (fits-then s shut (up-to-blind cx (λ x. true) bankCount) emptied room 0 b1 room1 to1 v (drain-after .back) drain-fits)
 
-    module _ (b1 room1 : List ℕ) (to1 : ℕ) (v : Drawn s (when q (flushed cx) d) room 0 b1 room1 to1) where
-      emptied-drawn : Drawn s emptied room 0 b1 room1 to1
-      emptied-drawn = rw (while-is cx anyWaits d q waits) at v
-
-      pub drain-after : After s 999991000 emptied b1
-      drain-after = emptied-after b1 (emptied-drawn .planner)
-
-      pub drain-room : Fits (closedUpTo cx (λ y. leb 0 y) 32 (drafted b1)) room1 to1
-      drain-room = rw (all-shut (drafted b1)) (fits-then s shut (up-to-blind cx (λ x. true) bankCount) emptied room 0 b1 room1 to1 emptied-drawn (drain-after .back) drain-fits)
-
-      pub drain-drawn : (b2 room2 : List ℕ) (to2 : ℕ) → Drawn s (closedUpTo cx (λ y. leb 0 y) 32 (drafted b1)) room1 to1 b2 room2 to2 → Drawn s (plannedDrain cx d) room 0 b2 room2 to2
-      unfolding plannedDrain
-      drain-drawn b2 room2 to2 u =
-          drawn-then s shut (up-to-blind cx (λ x. true) bankCount) emptied room 0 b1 room1 to1 emptied-drawn (drain-after .back) drain-fits b2 room2 to2 (rw (all-shut (drafted b1)) at u)
+    pub drain-drawn : (b2 room2 : List ℕ) (to2 : ℕ) → Drawn s (closedUpTo cx (λ y. leb 0 y) 32 (drafted b1)) room1 to1 b2 room2 to2 → Drawn s (plannedDrain cx d) room 0 b2 room2 to2
+    unfolding plannedDrain
+    drain-drawn b2 room2 to2 u = drawn-then s shut (up-to-blind cx (λ x. true) bankCount) emptied room 0 b1 room1 to1 v (drain-after .back) drain-fits b2 room2 to2 (rw (all-shut (drafted b1)) at u)
 
 -- ---- wait
 
@@ -297,7 +282,7 @@ NoWait RefreshBank = Unit {0}
 NoWait (Wait n) = ⊥
 NoWait Drain = Unit {0}
 
-marked-timely : (s : Settings) (d : Draft) → Marked s 999994403 d → timely (contextOf s) d ≡ true
+marked-timely : (s : Settings) (d : Draft) → Marked s 999996403 d → timely (contextOf s) d ≡ true
 unfolding timely
 marked-timely s d m = rw (m .timely, le-leb (d .planner .now .0) horizon (omega (arith, m .now)))
 

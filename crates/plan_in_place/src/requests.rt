@@ -15,14 +15,13 @@ ghost use Rattle.plan_calm.specs.form.Calm.{isCalm};
 use num::u16_at;
 use num::wide32;
 use plan_bytes::after;
-use plan_bytes::waits;
 use plan_cols::rd;
 use plan_cols::wr;
 use plan_rows::refresh_bank;
 use plan_steps::close_from;
 use plan_steps::close_near;
-use plan_steps::flush_if;
-use plan_steps::hit;
+use plan_steps::flush_all;
+use plan_steps::flush_delaying;
 use plan_steps::reach;
 use puts::put_u16;
 use puts::put_u32;
@@ -31,17 +30,16 @@ use record::Place;
 use record::Request;
 use settings::Settings;
 
-// "Read: NOCOP first if the buffered write has that bank and column; then RD."
+// "The planner sends NOCOP before an RD while two wait, and before a read [..] until the write concerned has retired"; then RD.
 fn read(s: Settings, b: &mut [u8], at: Place, room: &mut [u8]) -> usize
     requires { ⌜ Ready s 999990000 (now b) ⌝ }
     requires { ⌜ length (now b) ≡ 768 ⌝ }
     requires { ⌜ InPlace s at ⌝ }
-    requires { ⌜ 544 ≤ length (now room) ⌝ }
+    requires { ⌜ 576 ≤ length (now room) ⌝ }
     ensures { λ r. ⌜ Drawn s (plannedRead (contextOf s) at (drafted (now (b .entry)))) (now (room .entry)) 0 (now (b .exit)) (now (room .exit)) r ⌝ }
 {
     let to = reach(s, b, at.bank, at.row, room);
-    let test = hit(b, at.bank, at.column);
-    let next = flush_if(s, b, test, room, to);
+    let next = flush_delaying(s, b, at, room, to);
     rd(s, b, at.bank, at.column, room, next)
 }
 
@@ -50,7 +48,7 @@ fn write(s: Settings, b: &mut [u8], at: Place, mask: u32, d: Dualoct, room: &mut
     requires { ⌜ Ready s 999990000 (now b) ⌝ }
     requires { ⌜ length (now b) ≡ 768 ⌝ }
     requires { ⌜ InPlace s at ⌝ }
-    requires { ⌜ 544 ≤ length (now room) ⌝ }
+    requires { ⌜ 576 ≤ length (now room) ⌝ }
     ensures { λ r. ⌜ Drawn s (plannedWrite (contextOf s) at mask d (drafted (now (b .entry)))) (now (room .entry)) 0 (now (b .exit)) (now (room .exit)) r ⌝ }
 {
     let to = reach(s, b, at.bank, at.row, room);
@@ -61,7 +59,7 @@ fn write(s: Settings, b: &mut [u8], at: Place, mask: u32, d: Dualoct, room: &mut
 fn refresh(s: Settings, b: &mut [u8], room: &mut [u8]) -> usize
     requires { ⌜ Ready s 999990000 (now b) ⌝ }
     requires { ⌜ length (now b) ≡ 768 ⌝ }
-    requires { ⌜ 544 ≤ length (now room) ⌝ }
+    requires { ⌜ 576 ≤ length (now room) ⌝ }
     ensures { λ r. ⌜ Drawn s (plannedRefresh (contextOf s) (drafted (now (b .entry)))) (now (room .entry)) 0 (now (b .exit)) (now (room .exit)) r ⌝ }
 {
     let bank = u16_at(b, 756);
@@ -80,15 +78,14 @@ fn wait(s: Settings, b: &mut [u8], cycles: u32)
     put_u32(b, 752, after(b, 752, cycles));
 }
 
-// "Drain: NOCOP if a write is buffered, then PRER to each open bank in rising order."
+// "A drain first retires both"; "then PRER to each open bank in rising order."
 fn drain(s: Settings, b: &mut [u8], room: &mut [u8]) -> usize
     requires { ⌜ Ready s 999990000 (now b) ⌝ }
     requires { ⌜ length (now b) ≡ 768 ⌝ }
-    requires { ⌜ 544 ≤ length (now room) ⌝ }
+    requires { ⌜ 576 ≤ length (now room) ⌝ }
     ensures { λ r. ⌜ Drawn s (plannedDrain (contextOf s) (drafted (now (b .entry)))) (now (room .entry)) 0 (now (b .exit)) (now (room .exit)) r ⌝ }
 {
-    let test = waits(b);
-    let to = flush_if(s, b, test, room, 0);
+    let to = flush_all(s, b, room, 0);
     close_from(s, b, 0, 32, room, to)
 }
 
@@ -98,7 +95,7 @@ pub fn plan(s: Settings, planner: &mut [u8], q: Request, room: &mut [u8]) -> usi
     requires { ⌜ plannerRight (contextOf s) (now planner) ≡ true ⌝ }
     requires { ⌜ isCalm (now planner) ≡ true ⌝ }
     requires { ⌜ InRange s q ⌝ }
-    requires { ⌜ 544 ≤ length (now room) ⌝ }
+    requires { ⌜ 576 ≤ length (now room) ⌝ }
     ensures { λ _. ⌜ now (planner .exit) ≡ plannerBytes (planned (contextOf s) q (plannerIn (now (planner .entry))) .planner) ⌝ }
     ensures { λ _. ⌜ now (room .exit) ≡ splice (now (room .entry)) 0 (listBytes s (planned (contextOf s) q (plannerIn (now (planner .entry))) .records)) ⌝ }
     ensures { λ r. ⌜ r ≡ length (planned (contextOf s) q (plannerIn (now (planner .entry))) .records) ⌝ }
