@@ -76,7 +76,7 @@ module _ (s : Settings) (planner : List ℕ) where
   pub right-valid : plannerRight (contextOf s) planner ≡ true → plannerValid (contextOf s) (plannerIn planner) ≡ true
   unfolding plannerRight
   right-valid h =
-      and-right (channelSpare planner && (zeroPart planner 758 2 && zeroPart planner 762 6)) _ (and-right (eqb (length planner) plannerLength) _ h)
+      and-right (channelSpare planner && (zeroPart planner 758 2 && zeroPart planner 764 4)) _ (and-right (eqb (length planner) plannerLength) _ h)
 
   module _ (request room : List ℕ) where
     pub turned-back : plannerRight (contextOf s) planner ≡ false → (r : PlanAnswer) → r ≡ planAnswer (Refused refusal.Settings)
