@@ -49,6 +49,7 @@ fn make_list(records: usize) -> Vec<u8> {
                     break;
                 }
                 4 | 9 | 14 | 16 => break, // not for any instant
+                12 if matches!(packet, Packet::Rd { .. }) => break, // two writes wait
                 _ => {}
             }
         }
