@@ -390,9 +390,8 @@ uint32_t rdram_model_fresh(uint8_t *model, size_t model_len);
  */
 rdram_stepped rdram_model_step(const uint8_t *settings, size_t settings_len,
                                uint8_t *model, size_t model_len,
-                               uint8_t *store, size_t store_len,
-                               const uint8_t *record, size_t record_len,
-                               uint8_t *answer, size_t answer_len);
+                               uint8_t *store, size_t store_len, const uint8_t *record,
+                               size_t record_len, uint8_t *answer, size_t answer_len);
 
 #ifdef __cplusplus
 }
