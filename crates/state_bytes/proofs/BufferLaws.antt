@@ -73,29 +73,32 @@ may-due true false true false z e = sym (and-false z)
 may-due true false false true z e = refl
 may-due true false false false z e = refl
 
-none-shuffle : (d a x : Bool) → ((((d && true) && a) && x) || false) || false ≡ (d && ((a && x) && true)) && true
-none-shuffle d a x = simp (and-true, or-false, and-assoc)
+none-shuffle : (d due may a x z q : Bool) → cond (d && not due) ((z && a) && x) ((z && false) && q) ≡ ((d && ((a && x) && not due)) && (may || not due)) && z
+none-shuffle true true may a x z q = rw (and-false z, and-false (a && x))
+none-shuffle true false may a x z q = rw (or-true may) (simp (and-true, and-assoc, and-comm, and-shift))
+none-shuffle false due may a x z q = rw (and-false z)
 
-one-shuffle : (d m b v x : Bool) → (((d && m) && (b && v)) && x) || false ≡ (d && ((b && x) && v)) && m
-one-shuffle d m b v x = simp (or-false, and-assoc, and-comm, and-shift)
+one-shuffle : (d m b v x z q : Bool) → cond (d && m) ((z && (b && v)) && x) (((z && (b && v)) && false) && q) ≡ ((d && ((b && x) && v)) && m) && z
+one-shuffle true true b v x z q = simp (and-true, and-assoc, and-comm, and-shift)
+one-shuffle true false b v x z q = rw (and-false (z && (b && v)), and-false ((b && x) && v))
+one-shuffle false m b v x z q = rw (and-false (z && (b && v)))
 
-two-shuffle : (d m b v y w : Bool) → ((d && m) && (b && v)) && (y && w) ≡ (d && ((b && y) && (v && w))) && m
-two-shuffle d m b v y w = simp (and-assoc, and-comm, and-shift)
+two-shuffle : (two d m b v y w z : Bool) → ((z && (b && v)) && (two && (d && m))) && (y && w) ≡ (((two && d) && ((b && y) && (v && w))) && m) && z
+two-shuffle two d m b v y w z = simp (and-assoc, and-comm, and-shift)
 
 -- the buffer's tests by the number of writes: what is asked of the older's bytes and of the newer's, unused or used, and of the writes
-by-counts : (none one two due may d older first newer second v w : Bool) → none && one ≡ false → none && two ≡ false → one && two ≡ false
-    → ((((none && (d && not due)) && older) && newer) || (((one && (d && (may || not due))) && (first && v)) && newer))
-    || (((two && (d && (may || not due))) && (first && v)) && (second && w))
-    ≡ ((((none || one) || two) && d) && ((cond none older first && cond (none || one) newer second) && cond none (not due) (cond one v (v && w))))
-    && (may || not due)
-by-counts true true two due may d a b x y v w e f g = not-both true refl e
-by-counts true false true due may d a b x y v w e f g = not-both true refl f
-by-counts true false false true may d a b x y v w e f g = rw (and-false (a && x), and-false d)
-by-counts true false false false may d a b x y v w e f g = rw (or-true may) (none-shuffle d a x)
-by-counts false true true due may d a b x y v w e f g = not-both true refl g
-by-counts false true false due may d a b x y v w e f g = one-shuffle d (may || not due) b v x
-by-counts false false true due may d a b x y v w e f g = two-shuffle d (may || not due) b v y w
-by-counts false false false due may d a b x y v w e f g = refl
+by-counts : (none one two due may d older first newer second v w z : Bool) → none && one ≡ false → none && two ≡ false → one && two ≡ false
+    → cond (none && (d && not due)) ((z && older) && newer)
+    (cond (one && (d && (may || not due))) ((z && (first && v)) && newer) (((z && (first && v)) && (two && (d && (may || not due)))) && (second && w)))
+    ≡ (((((none || one) || two) && d) && ((cond none older first && cond (none || one) newer second) && cond none (not due) (cond one v (v && w))))
+    && (may || not due)) && z
+by-counts true true two due may d a b x y v w z e f g = not-both true refl e
+by-counts true false true due may d a b x y v w z e f g = not-both true refl f
+by-counts true false false due may d a b x y v w z e f g =
+    rw (and-assoc z (b && v) false, and-false (b && v)) (none-shuffle d due may a x z (y && w))
+by-counts false true true due may d a b x y v w z e f g = not-both true refl g
+by-counts false true false due may d a b x y v w z e f g = one-shuffle d (may || not due) b v x z (y && w)
+by-counts false false two due may d a b x y v w z e f g = two-shuffle two d (may || not due) b v y w z
 
 -- ---- the writes
 
@@ -186,9 +189,8 @@ module _ (s : Settings) (b : List ℕ) where
           write-tested 736,
           write-tested 744,
         )
-        (ap (λ q. q && zeroPart b 724 4)
-        (by-counts (eqb n 0) (eqb n 1) (eqb n 2) (eqb d 1) may ((eqb d 0 || eqb d 1) && eqb z 0) (zeroPart b 736 8) (zeroPart b 738 2) (zeroPart b 744 8) (zeroPart b 746 2) older newer
-        (not-two n 0 1 (omega arith)) (not-two n 0 2 (omega arith)) (not-two n 1 2 (omega arith))))
+        (by-counts (eqb n 0) (eqb n 1) (eqb n 2) (eqb d 1) may ((eqb d 0 || eqb d 1) && eqb z 0) (zeroPart b 736 8) (zeroPart b 738 2) (zeroPart b 744 8) (zeroPart b 746 2) older newer (zeroPart b 724 4)
+        (not-two n 0 1 (omega arith)) (not-two n 0 2 (omega arith)) (not-two n 1 2 (omega arith)))
 
 -- ---- the channel
 

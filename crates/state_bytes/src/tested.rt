@@ -104,20 +104,23 @@ fn write_right(s: Settings, b: &[u8], p: usize) -> bool
     fields & (tag != 0) & (tag != 65535) & (at != 0) & (at <= LATEST)
 }
 
-// The buffer: no write waits, or one or two, with one of two counts; the bytes that no field uses are 0.
+// The buffer: no write waits, or one or two, with one of two counts; the bytes that no field uses are 0. Only a write that waits is
+// tested.
 pub(crate) fn buffer_right(s: Settings, due: u64, b: &[u8]) -> bool
     requires { ⌜ 752 ≤ length (now b) ⌝ }
     requires { ⌜ due ≤ 256 ⌝ }
     ensures { λ r. ⌜ r ≡ bufferRight s due (now (b .entry)) ⌝ }
 {
     let count = num::u64_at(b, 728);
-    let older = write_right(s, b, 736);
-    let newer = write_right(s, b, 744);
-    let unused = num::u64_at(b, 744) == 0;
-    let none = (count == 0) & (num::u64_at(b, 736) == 0) & unused;
-    let one = ((count == 1) | (count == 1 + due)) & older & unused;
-    let two = ((count == 2) | (count == 2 + due)) & older & newer;
-    (none | one | two) & (num::u32_at(b, 724) == 0)
+    let spare = num::u32_at(b, 724) == 0;
+    if count == 0 {
+        return spare & (num::u64_at(b, 736) == 0) & (num::u64_at(b, 744) == 0);
+    }
+    let older = spare & write_right(s, b, 736);
+    if (count == 1) | (count == 1 + due) {
+        return older & (num::u64_at(b, 744) == 0);
+    }
+    older & ((count == 2) | (count == 2 + due)) & write_right(s, b, 744)
 }
 
 // Whether the channel's bytes are not refused, where the tag `also` is allowed too, and counts that are `due` more.

@@ -47,10 +47,11 @@ writeRight s b p =
 unfoldable pub bufferRight : Settings → ℕ → List ℕ → Bool
 bufferRight s due b =
     let count : ℕ = number (part b 728 8) in
-    ((((eqb count 0 && zeroPart b 736 8) && zeroPart b 744 8)
-    || (((eqb count 1 || eqb count (1 + due)) && writeRight s b 736) && zeroPart b 744 8))
-    || (((eqb count 2 || eqb count (2 + due)) && writeRight s b 736) && writeRight s b 744))
-    && zeroPart b 724 4
+    cond (eqb count 0)
+    ((zeroPart b 724 4 && zeroPart b 736 8) && zeroPart b 744 8)
+    (cond (eqb count 1 || eqb count (1 + due))
+    ((zeroPart b 724 4 && writeRight s b 736) && zeroPart b 744 8)
+    (((zeroPart b 724 4 && writeRight s b 736) && (eqb count 2 || eqb count (2 + due))) && writeRight s b 744))
 
 -- ---- the channel
 
