@@ -22,17 +22,26 @@ use Rattle.spec_plan.specs.PlannerBytes.{plannerBytes, plannerIn}
 use Rattle.spec_plan.proofs.Trace.{trace-start}
 use Rattle.spec_plan.proofs.SentLaws.{when-either, while-state}
 use Rattle.spec_plan.proofs.PlanLaws.{Good, good-flushed, good-while, good-up-to, good-cleared}
+use Rattle.plan_bytes.specs.form.Numbers.{waitsIn}
 use Rattle.plan_bytes.specs.form.Drawn.{bare, drafted, Ready, OpenAt, NearShut, Fits, Drawn}
 use Rattle.plan_bytes.proofs.Marks.{Marked, marked-more, marked-when, marked-while, marked-up-to, marked-all}
 use Rattle.plan_bytes.proofs.ReadyLaws.{readies, inv}
 use Rattle.plan_bytes.proofs.Again.{start, After, after-step}
 use Rattle.plan_bytes.proofs.Compose.{Blind, sent-blind, again-blind, drawn-none, fits-first, fits-then, drawn-then, one-sent}
+use Rattle.plan_steps.proofs.Tested.{waits-is}
 use Rattle.plan_steps.proofs.Ranges.{up-to-none, up-to-next, up-to-grows, turn-blind}
 
 -- one record
 pub one-flushed : (cx : Context) (p : PlannerState) → length (flushed cx (bare p) .records) ≡ 1
 unfolding flushed
 one-flushed cx p = one-sent cx (colPacket (Nocop 0xFFFF)) p
+
+-- no NOCOP where the test fails at first
+none-flushed : (cx : Context) (test : List Write → Bool) (d : Draft) → test (waiting d) ≡ false → flushedWhile cx test d ≡ d
+unfolding flushedWhile
+none-flushed cx test d e =
+    let f : when (test (waiting d)) (flushed cx) d ≡ d = rw e in
+    rw (f, e)
 
 module _ (s : Settings) (top : ℕ) (b : List ℕ) (k : Ready s top b) where
   abbrev cx : Context
@@ -75,23 +84,34 @@ module _ (s : Settings) (top : ℕ) (b : List ℕ) (k : Ready s top b) where
       unfolding flushedWhile
       both-fits = fits
 
-      pub once-fits : (q : Bool) → q ≡ test (waiting d) → Fits (when q (flushed cx) d) room at
-      once-fits q e = rw e (fits-first step (again-blind cx test) once room at both-fits)
+      -- it fails at first
+      pub none-drawn : test (waiting d) ≡ false → Drawn s (flushedWhile cx test d) room at b room at
+      none-drawn e = rw (none-flushed cx test d e) (drawn-none s b room at (readies s top b k .exact))
 
-      module _ (q : Bool) (e : q ≡ test (waiting d)) (b1 room1 : List ℕ) (to1 : ℕ) (w : Drawn s (when q (flushed cx) d) room at b1 room1 to1) where
-        once-drawn : Drawn s once room at b1 room1 to1
-        once-drawn = rw e at w
+      -- it passes at first: a write waits, and there is room for a NOCOP
+      module _ (e : test (waiting d) ≡ true) where
+        pub first-waits : waitsIn b ≡ true
+        first-waits = waits-is b ∙ passes d true (sym e) refl
 
-        pub again-after : After s 999999000 once b1
-        again-after = once-after b1 (once-drawn .planner)
+        pub first-fits : at + 32 ≤ length room
+        first-fits =
+            let f : Fits (flushed cx d) room at = rw e at (fits-first step (again-blind cx test) once room at both-fits) in
+            omega (arith, one-flushed cx (plannerIn b))
 
-        module _ (q′ : Bool) (f : q′ ≡ test (waiting (drafted b1))) where
-          pub again-fits : Fits (when q′ (flushed cx) (drafted b1)) room1 to1
-          again-fits = rw f (fits-then s step (again-blind cx test) once room at b1 room1 to1 once-drawn (again-after .back) both-fits)
+        module _ (b1 room1 : List ℕ) (to1 : ℕ) (w : Drawn s (flushed cx d) room at b1 room1 to1) where
+          once-drawn : Drawn s once room at b1 room1 to1
+          once-drawn = rw e w
 
-          pub both-drawn : (b2 room2 : List ℕ) (to2 : ℕ) → Drawn s (when q′ (flushed cx) (drafted b1)) room1 to1 b2 room2 to2 → Drawn s (flushedWhile cx test d) room at b2 room2 to2
-          unfolding flushedWhile
-          both-drawn b2 room2 to2 v = drawn-then s step (again-blind cx test) once room at b1 room1 to1 once-drawn (again-after .back) both-fits b2 room2 to2 (rw f at v)
+          pub again-after : After s 999999000 once b1
+          again-after = once-after b1 (once-drawn .planner)
+
+          module _ (q : Bool) (f : q ≡ test (waiting (drafted b1))) where
+            pub again-fits : Fits (when q (flushed cx) (drafted b1)) room1 to1
+            again-fits = rw f (fits-then s step (again-blind cx test) once room at b1 room1 to1 once-drawn (again-after .back) both-fits)
+
+            pub both-drawn : (b2 room2 : List ℕ) (to2 : ℕ) → Drawn s (when q (flushed cx) (drafted b1)) room1 to1 b2 room2 to2 → Drawn s (flushedWhile cx test d) room at b2 room2 to2
+            unfolding flushedWhile
+            both-drawn b2 room2 to2 v = drawn-then s step (again-blind cx test) once room at b1 room1 to1 once-drawn (again-after .back) both-fits b2 room2 to2 (rw f at v)
 
   -- ---- a bank closed
 

@@ -76,10 +76,12 @@ fn flush_losing(s: Settings, b: &mut [u8], bank: u32, room: &mut [u8], to: usize
     requires { ⌜ Fits (flushedWhile (contextOf s) (anyWrite (λ w. near (contextOf s) bank (w .bank))) (drafted (now b))) (now room) to ⌝ }
     ensures { λ r. ⌜ Drawn s (flushedWhile (contextOf s) (anyWrite (λ w. near (contextOf s) bank (w .bank))) (drafted (now (b .entry)))) (now (room .entry)) to (now (b .exit)) (now (room .exit)) r ⌝ }
 {
-    let first = loses(s, b, bank);
-    let next = flush_if(s, b, first, room, to);
-    let again = loses(s, b, bank);
-    flush_if(s, b, again, room, next)
+    if loses(s, b, bank) {
+        let next = nocop(s, b, room, to);
+        let again = loses(s, b, bank);
+        return flush_if(s, b, again, room, next);
+    }
+    to
 }
 
 // NOCOP until an RD may come.
@@ -89,10 +91,12 @@ pub fn flush_delaying(s: Settings, b: &mut [u8], at: Place, room: &mut [u8], to:
     requires { ⌜ Fits (flushedWhile (contextOf s) (delays at) (drafted (now b))) (now room) to ⌝ }
     ensures { λ r. ⌜ Drawn s (flushedWhile (contextOf s) (delays at) (drafted (now (b .entry)))) (now (room .entry)) to (now (b .exit)) (now (room .exit)) r ⌝ }
 {
-    let first = delayed(s, b, at);
-    let next = flush_if(s, b, first, room, to);
-    let again = delayed(s, b, at);
-    flush_if(s, b, again, room, next)
+    if delayed(s, b, at) {
+        let next = nocop(s, b, room, to);
+        let again = delayed(s, b, at);
+        return flush_if(s, b, again, room, next);
+    }
+    to
 }
 
 // NOCOP until no write waits.
@@ -102,10 +106,12 @@ pub fn flush_all(s: Settings, b: &mut [u8], room: &mut [u8], to: usize) -> usize
     requires { ⌜ Fits (flushedWhile (contextOf s) anyWaits (drafted (now b))) (now room) to ⌝ }
     ensures { λ r. ⌜ Drawn s (flushedWhile (contextOf s) anyWaits (drafted (now (b .entry)))) (now (room .entry)) to (now (b .exit)) (now (room .exit)) r ⌝ }
 {
-    let first = waits(b);
-    let next = flush_if(s, b, first, room, to);
-    let again = waits(b);
-    flush_if(s, b, again, room, next)
+    if waits(b) {
+        let next = nocop(s, b, room, to);
+        let again = waits(b);
+        return flush_if(s, b, again, room, next);
+    }
+    to
 }
 
 // "each by PRER"; "The planner sends NOCOP [..] before a read or a PRER until the write concerned has retired"
