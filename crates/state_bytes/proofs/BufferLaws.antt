@@ -1,6 +1,6 @@
 -- What is tested of the buffer's bytes, and of the channel's, is what is asked of the bytes and of the state that they say.
 -- Assumes nothing.
-use Prim.Native.Nat.{ℕ, _+_, _*_, _<_, _≤_}
+use Prim.Native.Nat.{ℕ, _+_, _*_, _%_, _<_, _≤_}
 use mathlib.Core.Path.{_≡_, refl, sym, ap, ap₂}
 use mathlib.Core.Bool.{Bool, true, false, not, _&&_, _||_, cond, and-assoc, and-comm, and-true, and-false, or-false, or-true, or-self}
 use mathlib.Core.List.{List}
@@ -110,17 +110,18 @@ module _ (s : Settings) (b : List ℕ) where
   abbrev write-open : ℕ → Bool
   write-open p = isOpen (stateOf (channelIn b) (getD b p 0))
 
-  write-tested : (p : ℕ) → writeRight s b p ≡ zeroPart b (p + 2) 2 && (write-valid p && write-open p)
+  write-tested : (p : ℕ) → writeRight (s .columns) b p ≡ zeroPart b (p + 2) 2 && (write-valid p && write-open p)
   unfolding writeRight writeValid bankCount contextOf
   write-tested p = go (ltb (getD b p 0) 32) refl
     where
       at : ℕ
       at = number (part b (p + 4) 4)
 
-      go : (q : Bool) → ltb (getD b p 0) 32 ≡ q → writeRight s b p ≡ zeroPart b (p + 2) 2 && (write-valid p && write-open p)
+      go : (q : Bool) → ltb (getD b p 0) 32 ≡ q → writeRight (s .columns) b p ≡ zeroPart b (p + 2) 2 && (write-valid p && write-open p)
       go true e =
           let tag : ℕ = tagIn s b (getD b p 0) in
-          rw (e, instant-stored at, state-at s b (getD b p 0) (ltb-true _ 32 e), tag-open tag)
+          let slot : getD b p 0 % 32 ≡ getD b p 0 = omega (arith, ltb-true (getD b p 0) 32 e) in
+          rw (e, slot, instant-stored at, state-at s b (getD b p 0) (ltb-true _ 32 e), tag-open tag)
           (shuffle (ltb (getD b (p + 1) 0) (s .columns)) (zeroPart b (p + 2) 2) (not (eqb tag 0)) (not (eqb tag 0xFFFF)) (not (eqb at 0)) (leb at latest))
         where
           shuffle : (c z o r a l : Bool) → ((((c && z) && o) && r) && a) && l ≡ z && ((c && (a && l)) && (o && r))
@@ -162,7 +163,7 @@ module _ (s : Settings) (b : List ℕ) where
 
   module _ (w : Bytes b) (l : 752 ≤ length b) where
     -- where the counts 257 and 258 may be, or not
-    held-tested : (may : Bool) → bufferRight s (256 * cond may 1 0) b
+    held-tested : (may : Bool) → bufferRight (s .columns) (256 * cond may 1 0) b
         ≡ ((count-right && (spare-right && (waits-valid && (waits-open && due-right)))) && (may || not (eqb (getD b 729 0) 1))) && zeroPart b 724 4
     unfolding bufferRight
     held-tested may =

@@ -6,7 +6,6 @@ ghost use Prim.Native.Nat.{ℕ, _+_, _*_, _≤_, _<_};
 ghost use lib.ListN.{length};
 ghost use Rattle.num.specs.Bytes.{number, part};
 ghost use Rattle.state_bytes.specs.form.Tested.{allStored, mostTag, tagRight, tagsRight, writeRight, bufferRight, channelTested};
-use chan_view::banks::slot_of;
 use chan_view::neighbours::low_of;
 use settings::Settings;
 
@@ -92,35 +91,35 @@ pub(crate) fn tags_right(s: Settings, also: u16, b: &[u8]) -> bool
 }
 
 // Whether the fields of the waiting write at a place are in range and its bank is open by ACT.
-fn write_right(s: Settings, b: &[u8], p: usize) -> bool
+fn write_right(columns: u32, b: &[u8], p: usize) -> bool
     requires { ⌜ 752 ≤ length (now b) ⌝ }
     requires { ⌜ p + 8 ≤ 752 ⌝ }
-    ensures { λ r. ⌜ r ≡ writeRight s (now (b .entry)) p ⌝ }
+    ensures { λ r. ⌜ r ≡ writeRight columns (now (b .entry)) p ⌝ }
 {
     let bank = num::wide(b[p]);
-    let tag = num::u16_at(b, 640 + 2 * slot_of(bank));
+    let tag = num::u16_at(b, 640 + 2 * ((bank % 32) as usize));
     let at = num::u32_at(b, p + 4);
-    let fields = (bank < 32) & (num::wide(b[p + 1]) < s.columns) & (num::u16_at(b, p + 2) == 0);
+    let fields = (bank < 32) & (num::wide(b[p + 1]) < columns) & (num::u16_at(b, p + 2) == 0);
     fields & (tag != 0) & (tag != 65535) & (at != 0) & (at <= LATEST)
 }
 
 // The buffer: no write waits, or one or two, with one of two counts; the bytes that no field uses are 0. Only a write that waits is
 // tested.
-pub(crate) fn buffer_right(s: Settings, due: u64, b: &[u8]) -> bool
+pub(crate) fn buffer_right(columns: u32, due: u64, b: &[u8]) -> bool
     requires { ⌜ 752 ≤ length (now b) ⌝ }
     requires { ⌜ due ≤ 256 ⌝ }
-    ensures { λ r. ⌜ r ≡ bufferRight s due (now (b .entry)) ⌝ }
+    ensures { λ r. ⌜ r ≡ bufferRight columns due (now (b .entry)) ⌝ }
 {
     let count = num::u64_at(b, 728);
     let spare = num::u32_at(b, 724) == 0;
     if count == 0 {
         return spare & (num::u64_at(b, 736) == 0) & (num::u64_at(b, 744) == 0);
     }
-    let older = spare & write_right(s, b, 736);
+    let older = spare & write_right(columns, b, 736);
     if (count == 1) | (count == 1 + due) {
         return older & (num::u64_at(b, 744) == 0);
     }
-    older & ((count == 2) | (count == 2 + due)) & write_right(s, b, 744)
+    older & ((count == 2) | (count == 2 + due)) & write_right(columns, b, 744)
 }
 
 // Whether the channel's bytes are not refused, where the tag `also` is allowed too, and counts that are `due` more.
@@ -129,5 +128,5 @@ pub(crate) fn channel_right(s: Settings, also: u16, due: u64, b: &[u8]) -> bool
     requires { ⌜ due ≤ 256 ⌝ }
     ensures { λ r. ⌜ r ≡ channelTested s also due (now (b .entry)) ⌝ }
 {
-    instants_right(b) & tags_right(s, also, b) & buffer_right(s, due, b)
+    instants_right(b) & tags_right(s, also, b) & buffer_right(s.columns, due, b)
 }

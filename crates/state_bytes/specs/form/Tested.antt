@@ -1,7 +1,7 @@
 -- What the code tests of the bytes of a state: stored instants, the tags of the banks, the buffer. The laws in proofs/ say that these
 -- are the tests of the state that the bytes say.
 -- Assumes nothing.
-use Prim.Native.Nat.{ℕ, _+_, _*_}
+use Prim.Native.Nat.{ℕ, _+_, _*_, _%_}
 use mathlib.Core.Bool.{Bool, not, _&&_, _||_, cond}
 use mathlib.Core.List.{List}
 use lib.Dec.{eqb, leb, ltb}
@@ -10,7 +10,7 @@ use Rattle.num.specs.Bytes.{number, part}
 use Rattle.num.specs.Search.{allUpTo}
 use Rattle.settings.specs.declared.Settings.{Settings}
 use Rattle.spec_state.specs.ChannelBytes.{zeroPart}
-use Rattle.chan_view.specs.form.Beside.{lowOf, slotOf}
+use Rattle.chan_view.specs.form.Beside.{lowOf}
 use Rattle.state_bytes.specs.form.Stored.{latest}
 
 -- ---- stored instants
@@ -35,28 +35,28 @@ tagsRight s also b = allUpTo (λ x. tagRight s (mostTag (s .rows)) also x (numbe
 -- ---- the buffer
 
 -- the waiting write whose bytes are at a place, and the tag of its bank
-unfoldable pub writeRight : Settings → List ℕ → ℕ → Bool
-writeRight s b p =
-    let tag : ℕ = number (part b (640 + 2 * slotOf (getD b p 0)) 2) in
+unfoldable pub writeRight : ℕ → List ℕ → ℕ → Bool
+writeRight columns b p =
+    let tag : ℕ = number (part b (640 + 2 * (getD b p 0 % 32)) 2) in
     let at : ℕ = number (part b (p + 4) 4) in
-    (((((ltb (getD b p 0) 32 && ltb (getD b (p + 1) 0) (s .columns)) && zeroPart b (p + 2) 2) && not (eqb tag 0)) && not (eqb tag 0xFFFF)) && not (eqb at 0))
+    (((((ltb (getD b p 0) 32 && ltb (getD b (p + 1) 0) columns) && zeroPart b (p + 2) 2) && not (eqb tag 0)) && not (eqb tag 0xFFFF)) && not (eqb at 0))
     && leb at latest
 
 -- in eight bytes: no write waits, or one or two do, whose data are not due (1, 2) or may be due (as much more: 256 of a model, 0 of a
 -- planner)
-unfoldable pub bufferRight : Settings → ℕ → List ℕ → Bool
-bufferRight s due b =
+unfoldable pub bufferRight : ℕ → ℕ → List ℕ → Bool
+bufferRight columns due b =
     let count : ℕ = number (part b 728 8) in
     cond (eqb count 0)
     ((zeroPart b 724 4 && zeroPart b 736 8) && zeroPart b 744 8)
     (cond (eqb count 1 || eqb count (1 + due))
-    ((zeroPart b 724 4 && writeRight s b 736) && zeroPart b 744 8)
-    (((zeroPart b 724 4 && writeRight s b 736) && (eqb count 2 || eqb count (2 + due))) && writeRight s b 744))
+    ((zeroPart b 724 4 && writeRight columns b 736) && zeroPart b 744 8)
+    (((zeroPart b 724 4 && writeRight columns b 736) && (eqb count 2 || eqb count (2 + due))) && writeRight columns b 744))
 
 -- ---- the channel
 
 unfoldable pub channelTested : Settings → ℕ → ℕ → List ℕ → Bool
-channelTested s also due b = ((allStored b 0 160 && allStored b 704 5) && tagsRight s also b) && bufferRight s due b
+channelTested s also due b = ((allStored b 0 160 && allStored b 704 5) && tagsRight s also b) && bufferRight (s .columns) due b
 
 -- ---- the fields after the channel's
 

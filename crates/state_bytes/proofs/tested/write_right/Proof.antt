@@ -9,12 +9,11 @@ unfolding writeRight
 returns c =
     rw (
       c .u16-at2 .ensures .0,
-      c .before .before .wide2 .ensures .0,
-      c .before .before .before .before .u32-at .ensures,
-      c .before .before .before .before .before .u16-at .ensures .0,
-      c .before .before .before .before .before .before .slot-of .ensures .0,
-      c .before .before .before .before .before .before .before .wide .ensures .0,
+      c .before .wide2 .ensures .0,
+      c .before .before .before .u32-at .ensures,
+      c .before .before .before .before .u16-at .ensures .0,
+      c .before .before .before .before .before .wide .ensures .0,
     )
 
 pub write-right-spec : {M : Type 1} → statement M
-write-right-spec = tie.close (tie.spec (λ c. search needs) (λ c κs. search needs) (λ c κs. search needs) (λ c. search needs) (λ c. search needs) (λ c κs. search needs) (λ c. search needs) (λ c κs. search needs) (λ c. search needs) (λ c. search needs) (λ c κs. search needs) (λ c. search needs) (λ c κs. search needs) returns)
+write-right-spec = tie.close (tie.spec (λ c. search needs) (λ c κs. search needs) (λ c. search needs) (λ c. search needs) (λ c. search needs) (λ c κs. search needs) (λ c. search needs) (λ c κs. search needs) (λ c. search needs) (λ c. search needs) (λ c κs. search needs) (λ c. search needs) (λ c κs. search needs) returns)
