@@ -2,14 +2,21 @@
 -- Assumes nothing.
 use Prim.Native.Nat.{ℕ, _*_, _<_}
 use mathlib.Core.Path.{_≡_, refl, sym, ap}
-use mathlib.Core.Bool.{true}
+use mathlib.Core.Bool.{Bool, true, false, cond}
 use mathlib.Core.List.{List}
 use borrow.Author.Tests.{eqb-true}
-use lib.Dec.{eqb}
+use lib.Dec.{eqb, ltb}
 use lib.ListN.{length, getD}
+use Rattle.settings.specs.declared.Settings.{Settings}
 use Rattle.spec_rules.specs.declared.BankTrack.{BankTrack}
+use Rattle.spec_rules.specs.declared.LastInstants.{LastInstants}
+use Rattle.spec_rules.specs.History.{isClosed}
+use Rattle.chan_view.specs.declared.View.{View}
+use Rattle.chan_view.specs.declared.Held.{Held}
+use Rattle.chan_view.specs.form.Beside.{lowOf, highOf, slotOf, aroundOf}
+use Rattle.chan_judge.specs.form.Tests.{rowTests, colTests, bufferTests, packetRule}
 use Rattle.spec_rules.specs.Neighbour.{bankCount, Context}
-use Rattle.spec_rules.specs.Channel.{idle}
+use Rattle.spec_rules.specs.Channel.{never, idle}
 use Rattle.spec_rules.proofs.Bools.{and-left}
 use Rattle.spec_state.specs.ChannelBytes.{bufferIn, lastsIn, instantIn, trackIn, channelIn}
 use Rattle.spec_state.proofs.PlaneLaws.{length-tracks, tracks-at}
@@ -38,3 +45,16 @@ opened-read b x l = ap (λ (t : BankTrack). t .opened) (track-read b x l)
 pub right-length : (cx : Context) (b : List ℕ) → modelRight cx b ≡ true → length b ≡ 792
 unfolding modelRight modelLength
 right-length cx b r = eqb-true (length b) 792 (and-left (eqb (length b) 792) _ r)
+
+-- of the newer write's bank the state is enough
+pub state-enough : (s : Settings) (v : View) (h : Held) (l : List BankTrack) (act : ℕ) (lasts : LastInstants)
+    → let at : ℕ → BankTrack = λ x. getD l (slotOf x) idle in
+    let next : BankTrack = record { bank = at (h .next) .bank; opened = never; act = never; pre = never; rd = never; retire = never } in
+    packetRule s v h (aroundOf s (v .bank) h (at (v .bank)) (at (lowOf s (v .bank))) (at (highOf s (v .bank))) (at (h .bank)) next) act lasts
+    ≡ packetRule s v h (aroundOf s (v .bank) h (at (v .bank)) (at (lowOf s (v .bank))) (at (highOf s (v .bank))) (at (h .bank)) (at (h .next))) act lasts
+unfolding packetRule rowTests colTests bufferTests
+state-enough s v h l act lasts = rw (shut (getD l (slotOf (h .next)) idle) (ltb (h .next) 32))
+  where
+    shut : (k : BankTrack) (q : Bool) → isClosed (cond q (record { bank = k .bank; opened = never; act = never; pre = never; rd = never; retire = never }) idle .bank) ≡ isClosed (cond q k idle .bank)
+    shut k true = refl
+    shut k false = refl

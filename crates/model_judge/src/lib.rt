@@ -4,7 +4,7 @@ ghost use mathlib.Core.Bool.{true};
 ghost use Prim.Native.Nat.{_≤_};
 ghost use lib.ListN.{length, getD};
 ghost use Rattle.spec_rules.specs.Neighbour.{contextOf};
-ghost use Rattle.spec_rules.specs.Channel.{idle};
+ghost use Rattle.spec_rules.specs.Channel.{never, idle};
 ghost use Rattle.spec_rules.specs.Checks.{judged};
 ghost use Rattle.spec_state.specs.ChannelBytes.{channelIn};
 ghost use Rattle.spec_model.specs.ModelBytes.{modelIn, modelRight};
@@ -20,6 +20,7 @@ use chan_view::Seen;
 use chan_view::View;
 use chan_view::banks::around;
 use chan_view::banks::slot_of;
+use chan_view::banks::unused;
 use chan_view::neighbours::high_of;
 use chan_view::neighbours::low_of;
 use chan_view::views::held_of;
@@ -40,6 +41,17 @@ pub fn track_for(b: &[u8], x: u32) -> BankTrack
     ensures { λ r. ⌜ r ≡ getD (channelIn (now (b .entry)) .banks) (slotOf x) idle ⌝ }
 {
     track_at(b, slot_of(x))
+}
+
+// A bank's state without its instants: rule 14 asks no more of the newer write's bank.
+fn state_alone(k: BankTrack) -> BankTrack
+    ensures { λ r. ⌜ r ≡ record { bank = k .bank; opened = never; act = never; pre = never; rd = never; retire = never } ⌝ }
+{
+    let bank = k.bank;
+    BankTrack {
+        bank: bank,
+        ..unused()
+    }
 }
 
 // The write buffer in numbers.
@@ -77,7 +89,7 @@ fn packet_in(s: Settings, b: &[u8], h: Held, v: View) -> u32
     let low = track_for(b, low_of(s, v.bank));
     let high = track_for(b, high_of(s, v.bank));
     let held = track_for(b, h.bank);
-    let next = track_for(b, h.next);
+    let next = state_alone(track_for(b, h.next));
     let k = around(s, v.bank, h, own, low, high, held, next);
     let l = lasts_at(b);
     if v.opens {
