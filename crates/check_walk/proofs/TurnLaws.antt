@@ -10,6 +10,7 @@ use lib.ListN.{length, getD, set}
 use Rattle.num.specs.Bytes.{part}
 use Rattle.settings.specs.declared.Settings.{Settings}
 use Rattle.settings.specs.declared.DataAt.{DataAt}
+use Rattle.packet.specs.declared.ColPacket.the-variants.{Nocop, Wr, Rd}
 use Rattle.record.specs.declared.Record.{Record}
 use Rattle.record.specs.declared.Record.the-variants.{RowAt, ColAt, DataOf}
 use Rattle.record.specs.declared.RecordRead.the-variants.{NoRecord, Known}
@@ -23,16 +24,17 @@ use Rattle.spec_rules.specs.Neighbour.{contextOf}
 use Rattle.spec_rules.specs.Broken.{recordIn}
 use Rattle.spec_rules.specs.Channel.{never, idle, after}
 use Rattle.spec_rules.specs.Checks.{judged, channelAfter}
-use Rattle.spec_rules.proofs.Bools.{and-left}
+use Rattle.spec_rules.proofs.Bools.{not-both, and-left}
+use Rattle.spec_rules.proofs.TrackLaws.{buffer-waiting}
 use Rattle.chan_view.specs.declared.View.{View}
 use Rattle.chan_view.specs.declared.Seen.{Seen}
 use Rattle.chan_view.specs.declared.Seen.the-variants.{Packet, Data}
 use Rattle.chan_view.specs.declared.Held.{Held}
 use Rattle.chan_view.specs.declared.Tracks.{Tracks}
 use Rattle.chan_view.specs.form.Beside.{firstNear, lastNear, slotOf}
-use Rattle.chan_view.specs.form.View.{plain, seenOf, heldOf, leaves}
+use Rattle.chan_view.specs.form.View.{plain, colView, seenOf, heldOf, leaves}
 use Rattle.chan_step.specs.form.Banks.{prerTrack, sideTrack, retiredBanks, banksNext}
-use Rattle.chan_step.specs.form.Lasts.{lastsNext, bufferNext}
+use Rattle.chan_step.specs.form.Lasts.{lastsNext, leftBuffer, colBuffer, bufferNext}
 use Rattle.chan_step.proofs.AfterLaws.{packet-after, data-after}
 use Rattle.chan_least.specs.form.Quick.{actBy, recordWell}
 use Rattle.chan_least.proofs.PassLaws.{Met, passes-legal, passes-data}
@@ -81,6 +83,15 @@ unfolding seenOf banksNext lastsNext bufferNext
 data-same s (RowAt t p) d q banks l out b = absurd (let z : _≡_ {A = ℕ} 0 1 = cc in omega arith)
 data-same s (ColAt t p) d q banks l out b = absurd (let z : _≡_ {A = ℕ} 0 1 = cc in omega arith)
 data-same s (DataOf t p) d q banks l out b = (refl, refl, refl)
+
+-- only a COL packet other than RD changes the waiting writes
+buffer-same : (r : Record) (b : Buffer) → viewIn (seenOf r) .other ≡ false → bufferNext r false b ≡ b
+unfolding bufferNext colBuffer leftBuffer viewIn seenOf colView
+buffer-same (RowAt t p) b e = refl
+buffer-same (ColAt t (Nocop m)) b e = not-both true refl e
+buffer-same (ColAt t (Wr x c m)) b e = not-both true refl e
+buffer-same (ColAt t (Rd x c m)) b e = buffer-waiting b
+buffer-same (DataOf t d) b e = refl
 
 -- ---- the state before a turn, and the values that it finds
 
@@ -169,6 +180,11 @@ module _ {s : Settings} {r : Record} {banks : List BankTrack} {lasts : LastInsta
 
   pub opened-here : (u : ℕ) → u ≡ newestNext v newest → Opened u next
   opened-here u q = rw (q, t .view) (opened-next s r newest (leaves s h (viewIn (seenOf r))) (h .bank) (viewIn (seenOf r) .at) banks (t .size) (t .top))
+
+  pub kept-here : (out : Bool) (c : Buffer) → out ≡ leaves s h v → v .other ≡ false → c ≡ buffer → c ≡ bufferNext r out buffer
+  kept-here out c oq e cq =
+      let f : leaves s h v ≡ false = rw e (and-false (h .waits)) in
+      rw (cq, oq, f) (sym (buffer-same r buffer (sym (ap (λ (u : View). u .other) (t .view)) ∙ e)))
 
   pub within-here : (out : Bool) (c : Buffer) → c ≡ bufferNext r out buffer → Within c
   within-here out c q = rw q (within-next r out buffer (t .inside) (t .within))

@@ -92,7 +92,9 @@ pub fn walk(s: Settings, b: &[u8], n: usize, blocks: bool) -> Stop
             banks[x].rd.0 = v.at.0;
         }
         l = lasts_after(r, l);
-        buffer = buffer_after(r, leaves, buffer);
+        if v.other {
+            buffer = buffer_after(r, leaves, buffer);
+        }
         due = v.writes;
     }
     Stop { at: n, rule: 0 }

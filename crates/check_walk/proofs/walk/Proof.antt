@@ -13,11 +13,12 @@ use Rattle.spec_rules.specs.declared.Channel.{Channel}
 use Rattle.spec_rules.specs.Neighbour.{bankCount, contextOf}
 use Rattle.spec_rules.specs.Channel.{idle, fresh}
 use Rattle.spec_rules.specs.Checks.{judged, channelAfter}
+use Rattle.chan_step.specs.form.Lasts.{bufferNext}
 use Rattle.check_walk.specs.form.Turn.{channelOf}
 use Rattle.check_walk.specs.form.Walk.{recordsVia}
 use Rattle.check_walk.proofs.StopLaws.{holds, stop-end, stop-bad, stop-broken}
 use Rattle.check_walk.proofs.StoreLaws.{Within, Opened, within-none, opened-fresh, opened-same, withRetire}
-use Rattle.check_walk.proofs.TurnLaws.{Turn, Stored, formed-here, bank-here, found-here, after-here, holds-here, unformed, quick-here, open-here, close-here, read-here, none-here, banks-here, length-here, opened-here, within-here, state-here}
+use Rattle.check_walk.proofs.TurnLaws.{Turn, Stored, formed-here, bank-here, found-here, after-here, holds-here, unformed, quick-here, open-here, close-here, read-here, none-here, banks-here, length-here, opened-here, kept-here, within-here, state-here}
 use borrow.Author.Needs.{needs}
 use Rattle.check_walk.proofs.walk.Statement.{statement}
 use Rattle.check_walk.proofs.walk.Tie as tie
@@ -165,13 +166,16 @@ loop-again c =
     (⊎-elim (λ o. read-here t m n u (o .0 .left) (o .1 .left) (o .2 .taken) (o .4) (o .5)) (λ o. none-here t m n u (o .0 .left) (o .1 .left) (o .2 .left) (o .3) (o .4))))
     (c .before .before .if3 .came)
     in
+    let buffer : c .if6 .buffer ≡ bufferNext r (c .before .before .before .before .before .leaving .result) (k .buffer) =
+    ⊎-elim (λ o. o .2 ∙ o .1 .ensures) (λ o. kept-here t _ _ (c .before .before .before .before .before .leaving .ensures) (o .0 .left) (o .1)) (c .if6 .came)
+    in
     let banks = banks-here t _ _ m n (c .before .before .before .before .before .leaving .ensures) (c .before .before .before .before .pick .ensures) refl (stored .0) in (
       omega arith,
-      ap (λ (n : List BankTrack). channelOf n (c .before .lasts-after .result) (c .buffer-after .result) (v .writes)) banks ∙ state-here t _ _ _ (c .before .lasts-after .ensures) (c .before .before .before .before .before .leaving .ensures) (c .buffer-after .ensures)
+      ap (λ (n : List BankTrack). channelOf n (c .before .lasts-after .result) (c .if6 .buffer) (v .writes)) banks ∙ state-here t _ _ _ (c .before .lasts-after .ensures) (c .before .before .before .before .before .leaving .ensures) buffer
           ∙ after-here (a .s) (a .blocks) (a .b .now) (a .n) (k .i) lt r e ch (k .inv .1),
       ap length banks ∙ length-here t,
       opened-same _ _ _ banks (opened-here t _ (stored .1)),
-      within-here t _ _ (c .buffer-after .ensures),
+      within-here t _ _ buffer,
       below-more _ _ (k .inv .5) (holds-here (a .s) (a .blocks) (a .b .now) (a .n) (k .i) lt r e ch (k .inv .1) zero),
     )
 
