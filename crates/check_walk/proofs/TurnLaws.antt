@@ -7,6 +7,7 @@ use mathlib.Core.List.{List}
 use native.Mathlib.Omega.{arith}
 use borrow.Author.Tests.{eq-eqb, eqb-true}
 use lib.ListN.{length, getD, set}
+use lib.Seq.{set-getD}
 use Rattle.num.specs.Bytes.{part}
 use Rattle.settings.specs.declared.Settings.{Settings}
 use Rattle.settings.specs.declared.DataAt.{DataAt}
@@ -171,9 +172,19 @@ module _ {s : Settings} {r : Record} {banks : List BankTrack} {lasts : LastInsta
       (turn-stored s r (leaves s h (viewIn (seenOf r))) (h .bank) banks (t .size)
       (λ m. rw (t .held) (held-within buffer due (t .within) .0 (rw (t .held) at (and-left (h .waits) _ m)))) (t .inside))
 
-  pub banks-here : (out : Bool) (retire : ℕ) (m n : List BankTrack) → out ≡ leaves s h v → retire ≡ cond out (v .at .0) (getD banks w idle .retire .0)
-      → m ≡ set banks w (withRetire retire (getD banks w idle)) → n ≡ ownStores v x y z m → n ≡ next
-  banks-here out retire m n uq rq mq nq = nq ∙ rw (mq, rq, uq) stores-here
+  -- the store of a retire, which only a COL packet other than RD makes
+  pub left-here : (out : Bool) (retire : ℕ) (m : List BankTrack) → out ≡ leaves s h v → retire ≡ cond out (v .at .0) (getD banks w idle .retire .0)
+      → m ≡ set banks w (withRetire retire (getD banks w idle)) → m ≡ retireStore (leaves s h v) w (v .at) banks
+  left-here out retire m uq rq mq = rw (mq, rq, uq)
+
+  none-leaves : v .other ≡ false → leaves s h v ≡ false
+  none-leaves e = rw e (and-false (h .waits))
+
+  pub not-left : (m : List BankTrack) → v .other ≡ false → m ≡ banks → m ≡ retireStore (leaves s h v) w (v .at) banks
+  not-left m e mq = mq ∙ rw (none-leaves e) (sym (set-getD banks w idle))
+
+  pub banks-here : (m n : List BankTrack) → m ≡ retireStore (leaves s h v) w (v .at) banks → n ≡ ownStores v x y z m → n ≡ next
+  banks-here m n mq nq = nq ∙ rw mq stores-here
 
   pub length-here : length next ≡ 32
   length-here = length-next s r _ ∙ length-retired (leaves s h v) (h .bank) (v .at) banks ∙ t .size
@@ -181,10 +192,8 @@ module _ {s : Settings} {r : Record} {banks : List BankTrack} {lasts : LastInsta
   pub opened-here : (u : ℕ) → u ≡ newestNext v newest → Opened u next
   opened-here u q = rw (q, t .view) (opened-next s r newest (leaves s h (viewIn (seenOf r))) (h .bank) (viewIn (seenOf r) .at) banks (t .size) (t .top))
 
-  pub kept-here : (out : Bool) (c : Buffer) → out ≡ leaves s h v → v .other ≡ false → c ≡ buffer → c ≡ bufferNext r out buffer
-  kept-here out c oq e cq =
-      let f : leaves s h v ≡ false = rw e (and-false (h .waits)) in
-      rw (cq, oq, f) (sym (buffer-same r buffer (sym (ap (λ (u : View). u .other) (t .view)) ∙ e)))
+  pub kept-here : (c : Buffer) → v .other ≡ false → c ≡ buffer → c ≡ bufferNext r (leaves s h v) buffer
+  kept-here c e cq = rw (cq, none-leaves e) (sym (buffer-same r buffer (sym (ap (λ (u : View). u .other) (t .view)) ∙ e)))
 
   pub within-here : (out : Bool) (c : Buffer) → c ≡ bufferNext r out buffer → Within c
   within-here out c q = rw q (within-next r out buffer (t .inside) (t .within))

@@ -79,8 +79,11 @@ pub fn walk(s: Settings, b: &[u8], n: usize, blocks: bool) -> Stop
                 return Stop { at: i, rule: rule };
             }
         }
-        let leaves = leaving(s, h, v);
-        banks[w].retire.0 = pick(leaves, v.at.0, banks[w].retire.0);
+        if v.other {
+            let leaves = leaving(s, h, v);
+            banks[w].retire.0 = pick(leaves, v.at.0, banks[w].retire.0);
+            buffer = buffer_after(r, leaves, buffer);
+        }
         if v.opens {
             banks[x] = opened_track(v, banks[x]);
             newest = larger(newest, v.at.0);
@@ -92,9 +95,6 @@ pub fn walk(s: Settings, b: &[u8], n: usize, blocks: bool) -> Stop
             banks[x].rd.0 = v.at.0;
         }
         l = lasts_after(r, l);
-        if v.other {
-            buffer = buffer_after(r, leaves, buffer);
-        }
         due = v.writes;
     }
     Stop { at: n, rule: 0 }
