@@ -1,15 +1,16 @@
 -- A plan call under accepted settings: what it answers and leaves, by whether the planner's bytes are right and by what the request says.
 -- Assumes nothing.
 use Prim.Native.Nat.{ℕ, zero, suc, _+_, _*_, _/_, _≤_, _<_}
-use mathlib.Core.Path.{_≡_, refl, ap}
+use mathlib.Core.Path.{_≡_, refl, sym, ap, _∙_}
 use mathlib.Core.Bool.{Bool, true, false, _&&_, cond}
 use mathlib.Core.List.{List}
 use lib.Dec.{eqb, leb}
 use lib.ListN.{length}
-use borrow.Author.Tests.{eqb-true, le-leb}
+use borrow.Author.Tests.{eqb-true, le-leb, lt-leb}
 use native.Mathlib.Omega.{arith}
 use Rattle.num.specs.Bytes.{number, part, splice}
 use Rattle.num.proofs.SearchLaws.{all-intro}
+use Rattle.num.proofs.SpliceLaws.{splice-whole, part-splice, length-splice}
 use Rattle.settings.specs.declared.Settings.{Settings}
 use Rattle.settings.specs.Settings.{valid}
 use Rattle.record.specs.declared.Request.{Request}
@@ -25,17 +26,17 @@ use Rattle.spec_plan.specs.declared.Outcome.{Outcome}
 use Rattle.spec_plan.specs.declared.Outcome.the-variants.{Refused, Made}
 use Rattle.spec_plan.specs.Planner.{plannerValid}
 use Rattle.spec_plan.specs.PlannerBytes.{plannerLength, plannerBytes, plannerIn, plannerRight}
-use Rattle.spec_plan.specs.Plan.{planned}
+use Rattle.spec_plan.specs.Plan.{Draft, planned}
 use Rattle.spec_plan.specs.Call.{listBytes, timely, outcomeOf, outcomeBy, planOutcome, isMade, draftBy, planNext, planRecords, planRoom}
 use Rattle.spec_plan.proofs.Bound.{most}
-use Rattle.spec_plan.proofs.Refused.{refused-room}
-use Rattle.plan_by_value.specs.Call.{planning}
+use Rattle.spec_plan.proofs.PlannerRoundTrip.{planner-length}
 use Rattle.plan_bytes.specs.form.Numbers.{word, Tops, Below}
 use Rattle.plan_calm.specs.form.Calm.{isCalm}
 use Rattle.plan_calm.proofs.CalmLaws.{calm-below}
 use Rattle.state_bytes.specs.form.Stored.{latest}
 use Rattle.state_bytes.specs.form.Tested.{allStored}
 use Rattle.spec_calls.specs.declared.PlanAnswer.{PlanAnswer}
+use Rattle.spec_calls.proofs.ListOf.{length-list}
 use Rattle.spec_calls.specs.Plans.{planAnswer, PlanResult, planBy, planUnder}
 use Rattle.calls_plan.specs.form.Served.{servedBy, served}
 
@@ -100,36 +101,74 @@ module _ (s : Settings) (planner : List ℕ) where
     unfolding served outcomeBy
     request-refused h why e r a = rw (by-request h, e) (a, (refl, refl))
 
-    -- what the planner by value hands back: the bytes of the next state where the call is accepted, else those that were lent
-    pub by-value : plannerRight (contextOf s) planner ≡ true → valid s ≡ true → (p : PlannerState) → p ≡ plannerIn planner
-        → (o : Outcome) (next : PlannerState) (left : List ℕ) → o ≡ planning s p request room .outcome → next ≡ planning s p request room .planner
-        → left ≡ planning s p request room .room → (r : PlanAnswer) → r ≡ planAnswer o → (after : List ℕ) → after ≡ cond (isMade o) (plannerBytes next) planner
-        → Leaves (planUnder planner request room s) r after left
-    unfolding planUnder planning isMade
-    by-value h v p ep o next left eo en el r er after ea =
-        let w = right-valid h in
-        rw (h, er, ea, rw (ep, v, w) at eo, rw (ep, v, w) at en, rw (ep, v, w) at el) (go (planOutcome (contextOf s) (plannerIn planner) request (length room)) refl)
-      where
-        go : (o : Outcome) → planOutcome (contextOf s) (plannerIn planner) request (length room) ≡ o
-            → Leaves (planBy planner request room (contextOf s) (plannerIn planner) o) (planAnswer o)
-            (cond (isMade o) (plannerBytes (planNext (contextOf s) (plannerIn planner) request (length room))) planner)
-            (planRoom (contextOf s) (plannerIn planner) request room)
-        go (Refused why) e = (refl, (refl, refused-room (contextOf s) (plannerIn planner) request room (ap isMade e)))
-        go (Made n) e = (refl, (refl, refl))
-
-  -- a request on the lent bytes, with room for the most records
+  -- a request on the lent bytes, with room for its records, and beside them
   module _ (q : Request) (room : List ℕ) (h : plannerRight (contextOf s) planner ≡ true) where
     pub late : timely (contextOf s) (planned (contextOf s) q (plannerIn planner)) ≡ false → (r : PlanAnswer) → r ≡ planAnswer (Refused refusal.Horizon)
         → Leaves (served (contextOf s) planner (Accepted q) room) r planner room
     unfolding served outcomeBy outcomeOf
     late t r a = rw t (a, (refl, refl))
 
-    pub in-time : 576 ≤ length room → timely (contextOf s) (planned (contextOf s) q (plannerIn planner)) ≡ true → (n : ℕ)
+    pub in-time : 32 * length (planned (contextOf s) q (plannerIn planner) .records) ≤ length room → timely (contextOf s) (planned (contextOf s) q (plannerIn planner)) ≡ true → (n : ℕ)
         → n ≡ length (planned (contextOf s) q (plannerIn planner) .records) → (r : PlanAnswer) → r ≡ planAnswer (Made n) → (after left : List ℕ)
         → after ≡ plannerBytes (planned (contextOf s) q (plannerIn planner) .planner)
         → left ≡ splice room 0 (listBytes s (planned (contextOf s) q (plannerIn planner) .records))
         → Leaves (served (contextOf s) planner (Accepted q) room) r after left
     unfolding served outcomeBy outcomeOf draftBy contextOf
     in-time l t n en r a after left ea el =
-        let fits = le-leb (length (planned (contextOf s) q (plannerIn planner) .records)) (length room / 32) (omega (arith, most s (plannerIn planner) (right-valid h) q)) in
+        let fits = le-leb (length (planned (contextOf s) q (plannerIn planner) .records)) (length room / 32) (omega arith) in
         rw (t, fits) (rw en at a, (ea, el))
+
+    -- "No request makes more than 18 records."
+    pub enough : (list : List ℕ) → 576 ≤ length list → 32 * length (planned (contextOf s) q (plannerIn planner) .records) ≤ length list
+    enough list l = omega (arith, most s (plannerIn planner) (right-valid h) q)
+
+    pub full : timely (contextOf s) (planned (contextOf s) q (plannerIn planner)) ≡ true → length room / 32 < length (planned (contextOf s) q (plannerIn planner) .records)
+        → (r : PlanAnswer) → r ≡ planAnswer (Refused refusal.Full) → Leaves (served (contextOf s) planner (Accepted q) room) r planner room
+    unfolding served outcomeBy outcomeOf
+    full t l r a = rw (t, lt-leb (length (planned (contextOf s) q (plannerIn planner) .records)) (length room / 32) l) (a, (refl, refl))
+
+    -- a state and a list of the call's own: the lent state is copied to the one, the request is planned there, and what both become
+    -- is copied back
+    module _ (state list : List ℕ) (e : length state ≡ 768) (m : 576 ≤ length list) (copy : List ℕ) (ec : copy ≡ splice state 0 planner) where
+      copied : copy ≡ planner
+      copied = ec ∙ splice-whole state planner (right-length h ∙ sym e)
+
+      pub copy-right : plannerRight (contextOf s) copy ≡ true
+      copy-right = rw copied h
+
+      module _ (next made : List ℕ) (n : ℕ) (ep : next ≡ plannerBytes (planned (contextOf s) q (plannerIn copy) .planner))
+          (el : made ≡ splice list 0 (listBytes s (planned (contextOf s) q (plannerIn copy) .records))) (en : n ≡ length (planned (contextOf s) q (plannerIn copy) .records)) where
+        abbrev d : Draft
+        d = planned (contextOf s) q (plannerIn planner)
+
+        pub next-is : next ≡ plannerBytes (d .planner)
+        next-is = rw copied at ep
+
+        made-is : made ≡ splice list 0 (listBytes s (d .records))
+        made-is = rw copied at el
+
+        pub count-is : n ≡ length (d .records)
+        count-is = rw copied at en
+
+        bytes-are : length (listBytes s (d .records)) ≡ 32 * n
+        bytes-are = length-list s (d .records) ∙ rw count-is
+
+        -- the list has as many records
+        pub made-room : 32 * n ≤ length made
+        made-room = let l = enough list m in let k = bytes-are in omega (arith, count-is, ap length made-is, length-splice list 0 (listBytes s (d .records)) (omega (arith, count-is)))
+
+        next-whole : splice planner 0 next ≡ next
+        next-whole = splice-whole planner next (ap length next-is ∙ planner-length (d .planner) ∙ sym (right-length h))
+
+        pub next-room : 0 + length next ≤ length planner
+        next-room = omega (arith, ap length next-is, planner-length (d .planner), right-length h)
+
+        pub tried-full : timely (contextOf s) d ≡ true → length room / 32 < n → (r : PlanAnswer) → r ≡ planAnswer (Refused refusal.Full)
+            → Leaves (served (contextOf s) planner (Accepted q) room) r planner room
+        tried-full t l = full t (rw count-is at l)
+
+        pub tried-made : timely (contextOf s) d ≡ true → n ≤ length room / 32 → (r : PlanAnswer) → r ≡ planAnswer (Made n) → (after left : List ℕ)
+            → after ≡ splice planner 0 next → left ≡ splice room 0 (part made 0 (32 * n)) → Leaves (served (contextOf s) planner (Accepted q) room) r after left
+        tried-made t l r a after left ea el =
+            let whole : part made 0 (32 * n) ≡ listBytes s (d .records) = ap (λ (v : List ℕ). part v 0 (32 * n)) made-is ∙ part-splice list 0 (listBytes s (d .records)) (32 * n) bytes-are (omega arith) in
+            in-time (omega (arith, count-is)) t n count-is r a after left (ea ∙ next-whole ∙ next-is) (el ∙ ap (splice room 0) whole)

@@ -10,13 +10,11 @@ ghost use Rattle.spec_plan.specs.PlannerBytes.{plannerRight};
 ghost use Rattle.spec_calls.specs.Plans.{plannerFresh, planUnder, planCall};
 ghost use Rattle.plan_calm.specs.form.Calm.{isCalm};
 use crate::ways::answer;
-use crate::ways::by_value;
-use crate::ways::in_place;
+use crate::ways::asked;
 use record::Refusal;
 use settings::Settings;
 use settings::SettingsRead;
 use spec_calls::PlanAnswer;
-use spec_plan::MOST_BYTES;
 use spec_plan::Outcome;
 use spec_plan::PLANNER_BYTES;
 use state_bytes::planners::planner_rest_right;
@@ -46,7 +44,7 @@ fn right(s: Settings, b: &[u8], quick: bool) -> bool
     planner_right(s, b)
 }
 
-// A plan call under settings that are accepted: on the lent bytes where no packet can be late and the room has the most records.
+// A plan call under settings that are accepted.
 fn plan_under(s: Settings, planner: &mut [u8], request: &[u8], room: &mut [u8]) -> PlanAnswer
     requires { ⌜ valid s ≡ true ⌝ }
     ensures { λ r. ⌜ r ≡ planUnder (now (planner .entry)) (now (request .entry)) (now (room .entry)) s .answer ⌝ }
@@ -60,10 +58,7 @@ fn plan_under(s: Settings, planner: &mut [u8], request: &[u8], room: &mut [u8]) 
     if !right(s, planner, quick) {
         return answer(Outcome::Refused(Refusal::Settings));
     }
-    if quick & (MOST_BYTES <= room.len()) {
-        return in_place(s, planner, request, room);
-    }
-    by_value(s, planner, request, room)
+    asked(s, planner, quick, request, room)
 }
 
 // One request: its records go to the start of room, and planner becomes the next state.

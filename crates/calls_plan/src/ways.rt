@@ -1,8 +1,9 @@
-// The two ways of a plan call from a state that is not refused.
+// The two ways of a plan call from a state that is not refused: on the lent bytes, and beside them.
 ghost use mathlib.Core.Path.{_≡_};
 ghost use mathlib.Core.Bool.{true};
-ghost use Prim.Native.Nat.{_≤_};
+ghost use Prim.Native.Nat.{_*_, _≤_};
 ghost use lib.ListN.{length};
+ghost use Rattle.num.specs.Bytes.{part, splice};
 ghost use Rattle.settings.specs.Settings.{valid};
 ghost use Rattle.record.proofs.RequestLaws.{InRange};
 ghost use Rattle.record.specs.declared.RequestRead.the-variants.{Accepted};
@@ -11,13 +12,18 @@ ghost use Rattle.spec_plan.specs.PlannerBytes.{plannerRight};
 ghost use Rattle.plan_calm.specs.form.Calm.{isCalm};
 ghost use Rattle.spec_calls.specs.Plans.{planAnswer, planUnder};
 ghost use Rattle.calls_plan.specs.form.Served.{served};
-use plan_by_value::Planner;
+use plan_in_place::requests::in_time;
+use plan_in_place::requests::left_in_time;
+use plan_in_place::requests::plan;
+use puts::put_bytes;
 use record::Refusal;
 use record::Request;
 use record::RequestRead;
 use settings::Settings;
 use spec_calls::PlanAnswer;
+use spec_plan::MOST_BYTES;
 use spec_plan::Outcome;
+use spec_plan::PLANNER_BYTES;
 
 pub(crate) fn answer(o: Outcome) -> PlanAnswer
     ensures { λ r. ⌜ r ≡ planAnswer o ⌝ }
@@ -38,7 +44,7 @@ pub(crate) fn answer(o: Outcome) -> PlanAnswer
 }
 
 // A request in range on the lent bytes of a calm state. With room for the most records there is no refusal 8.
-fn served(s: Settings, planner: &mut [u8], q: Request, room: &mut [u8]) -> PlanAnswer
+fn on_lent(s: Settings, planner: &mut [u8], q: Request, room: &mut [u8]) -> PlanAnswer
     requires { ⌜ valid s ≡ true ⌝ }
     requires { ⌜ plannerRight (contextOf s) (now planner) ≡ true ⌝ }
     requires { ⌜ isCalm (now planner) ≡ true ⌝ }
@@ -48,57 +54,101 @@ fn served(s: Settings, planner: &mut [u8], q: Request, room: &mut [u8]) -> PlanA
     ensures { λ _. ⌜ now (planner .exit) ≡ served (contextOf s) (now (planner .entry)) (Accepted q) (now (room .entry)) .planner ⌝ }
     ensures { λ _. ⌜ now (room .exit) ≡ served (contextOf s) (now (planner .entry)) (Accepted q) (now (room .entry)) .room ⌝ }
 {
-    if plan_in_place::requests::in_time(s, planner, q) {
-        let n = plan_in_place::requests::plan(s, planner, q, room);
+    if in_time(s, planner, q) {
+        let n = plan(s, planner, q, room);
         return answer(Outcome::Made(n as u64));
     }
     answer(Outcome::Refused(Refusal::Horizon))
 }
 
-// On the lent bytes of a calm state, with room for the most records.
-pub(crate) fn in_place(
+// Copies the first n records of a list to the start of a room.
+fn put_first(room: &mut [u8], list: &[u8], n: usize)
+    requires { ⌜ 32 * n ≤ length (now list) ⌝ }
+    requires { ⌜ 32 * n ≤ length (now room) ⌝ }
+    ensures { λ _. ⌜ now (room .exit) ≡ splice (now (room .entry)) 0 (part (now (list .entry)) 0 (32 * n)) ⌝ }
+{
+    let end = 32 * n;
+    put_bytes(room, 0, &list[0..end]);
+}
+
+// A request in range, planned in a state and a list of its own: they are copied to the lent ones once 7 and 8 have nothing against
+// them.
+fn tried(
     s: Settings,
     planner: &mut [u8],
+    q: Request,
+    room: &mut [u8],
+    state: &mut [u8],
+    list: &mut [u8],
+) -> PlanAnswer
+    requires { ⌜ valid s ≡ true ⌝ }
+    requires { ⌜ plannerRight (contextOf s) (now planner) ≡ true ⌝ }
+    requires { ⌜ InRange s q ⌝ }
+    requires { ⌜ length (now state) ≡ 768 ⌝ }
+    requires { ⌜ 576 ≤ length (now list) ⌝ }
+    ensures { λ r. ⌜ r ≡ served (contextOf s) (now (planner .entry)) (Accepted q) (now (room .entry)) .answer ⌝ }
+    ensures { λ _. ⌜ now (planner .exit) ≡ served (contextOf s) (now (planner .entry)) (Accepted q) (now (room .entry)) .planner ⌝ }
+    ensures { λ _. ⌜ now (room .exit) ≡ served (contextOf s) (now (planner .entry)) (Accepted q) (now (room .entry)) .room ⌝ }
+{
+    put_bytes(state, 0, planner);
+    let n = plan(s, state, q, list);
+    if !left_in_time(s, planner, q, state) {
+        return answer(Outcome::Refused(Refusal::Horizon));
+    }
+    if room.len() / 32 < n {
+        return answer(Outcome::Refused(Refusal::Full));
+    }
+    put_bytes(planner, 0, state);
+    put_first(room, list, n);
+    answer(Outcome::Made(n as u64))
+}
+
+fn beside(s: Settings, planner: &mut [u8], q: Request, room: &mut [u8]) -> PlanAnswer
+    requires { ⌜ valid s ≡ true ⌝ }
+    requires { ⌜ plannerRight (contextOf s) (now planner) ≡ true ⌝ }
+    requires { ⌜ InRange s q ⌝ }
+    ensures { λ r. ⌜ r ≡ served (contextOf s) (now (planner .entry)) (Accepted q) (now (room .entry)) .answer ⌝ }
+    ensures { λ _. ⌜ now (planner .exit) ≡ served (contextOf s) (now (planner .entry)) (Accepted q) (now (room .entry)) .planner ⌝ }
+    ensures { λ _. ⌜ now (room .exit) ≡ served (contextOf s) (now (planner .entry)) (Accepted q) (now (room .entry)) .room ⌝ }
+{
+    let mut state = [0u8; PLANNER_BYTES];
+    let mut list = [0u8; MOST_BYTES];
+    tried(s, planner, q, room, &mut state, &mut list)
+}
+
+// A request in range: on the lent bytes where no packet can be late and the room has the most records.
+fn served(s: Settings, planner: &mut [u8], quick: bool, q: Request, room: &mut [u8]) -> PlanAnswer
+    requires { ⌜ valid s ≡ true ⌝ }
+    requires { ⌜ plannerRight (contextOf s) (now planner) ≡ true ⌝ }
+    requires { ⌜ quick ≡ isCalm (now planner) ⌝ }
+    requires { ⌜ InRange s q ⌝ }
+    ensures { λ r. ⌜ r ≡ served (contextOf s) (now (planner .entry)) (Accepted q) (now (room .entry)) .answer ⌝ }
+    ensures { λ _. ⌜ now (planner .exit) ≡ served (contextOf s) (now (planner .entry)) (Accepted q) (now (room .entry)) .planner ⌝ }
+    ensures { λ _. ⌜ now (room .exit) ≡ served (contextOf s) (now (planner .entry)) (Accepted q) (now (room .entry)) .room ⌝ }
+{
+    if quick & (MOST_BYTES <= room.len()) {
+        return on_lent(s, planner, q, room);
+    }
+    beside(s, planner, q, room)
+}
+
+// From a state that is not refused, of which is known whether it is calm: what the request says.
+pub(crate) fn asked(
+    s: Settings,
+    planner: &mut [u8],
+    quick: bool,
     request: &[u8],
     room: &mut [u8],
 ) -> PlanAnswer
     requires { ⌜ valid s ≡ true ⌝ }
     requires { ⌜ plannerRight (contextOf s) (now planner) ≡ true ⌝ }
-    requires { ⌜ isCalm (now planner) ≡ true ⌝ }
-    requires { ⌜ 576 ≤ length (now room) ⌝ }
+    requires { ⌜ quick ≡ isCalm (now planner) ⌝ }
     ensures { λ r. ⌜ r ≡ planUnder (now (planner .entry)) (now (request .entry)) (now (room .entry)) s .answer ⌝ }
     ensures { λ _. ⌜ now (planner .exit) ≡ planUnder (now (planner .entry)) (now (request .entry)) (now (room .entry)) s .planner ⌝ }
     ensures { λ _. ⌜ now (room .exit) ≡ planUnder (now (planner .entry)) (now (request .entry)) (now (room .entry)) s .room ⌝ }
 {
     match requests::read_request(s, request) {
         RequestRead::Refused(why) => answer(Outcome::Refused(why)),
-        RequestRead::Accepted(q) => served(s, planner, q, room),
+        RequestRead::Accepted(q) => served(s, planner, quick, q, room),
     }
-}
-
-// By value, for any state and room. A refused call leaves the bytes of the planner.
-pub(crate) fn by_value(
-    s: Settings,
-    planner: &mut [u8],
-    request: &[u8],
-    room: &mut [u8],
-) -> PlanAnswer
-    requires { ⌜ valid s ≡ true ⌝ }
-    requires { ⌜ plannerRight (contextOf s) (now planner) ≡ true ⌝ }
-    ensures { λ r. ⌜ r ≡ planUnder (now (planner .entry)) (now (request .entry)) (now (room .entry)) s .answer ⌝ }
-    ensures { λ _. ⌜ now (planner .exit) ≡ planUnder (now (planner .entry)) (now (request .entry)) (now (room .entry)) s .planner ⌝ }
-    ensures { λ _. ⌜ now (room .exit) ≡ planUnder (now (planner .entry)) (now (request .entry)) (now (room .entry)) s .room ⌝ }
-{
-    let p = Planner {
-        state: state_bytes::planners::read_planner(planner),
-    };
-    let done = p.plan(s, request, room);
-    let outcome = done.outcome;
-    let Outcome::Made(_) = outcome else {
-        return answer(outcome);
-    };
-    let next = done.planner;
-    let state = next.state;
-    state_whole::planners::put_planner(planner, state);
-    answer(outcome)
 }

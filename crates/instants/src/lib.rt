@@ -1,4 +1,4 @@
-// The two sums that turn a packet instant into a data instant.
+// The sums that turn a packet instant into a data instant.
 ghost use mathlib.Core.Path.{_≡_};
 ghost use Prim.Native.Nat.{_+_, _<_, _^_};
 ghost use Rattle.settings.specs.Instants.{arrival};
@@ -32,4 +32,12 @@ pub fn write_arrival(s: Settings, t: PacketAt) -> Arrival
     ensures { λ r. ⌜ r ≡ arrival t (s .cwd) ⌝ }
 {
     arrival_after(t, s.cwd)
+}
+
+// The same as a number, late or not: for a list whose instants are tested as a whole.
+pub fn written_at(s: Settings, t: PacketAt) -> DataAt
+    requires { ⌜ t .0 + s .cwd < 2 ^ 32 ⌝ }
+    ensures { λ r. ⌜ r ≡ record { 0 = t .0 + s .cwd } ⌝ }
+{
+    DataAt(t.0 + s.cwd)
 }

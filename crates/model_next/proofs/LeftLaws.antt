@@ -31,7 +31,8 @@ use Rattle.spec_rules.proofs.BrokenLaws.{lowest-none}
 use Rattle.spec_rules.proofs.LeavingLaws.{leaving-first, leaving-none}
 use Rattle.spec_state.specs.ChannelBytes.{instantOf, channelBytes, writeIn}
 use Rattle.spec_state.specs.form.Stores.{colStored, retireStored, shiftStored, writeStored, besideStored}
-use Rattle.spec_state.proofs.Stamps.{WriteStamps}
+use Rattle.spec_state.proofs.EachInstant.{WritesAll}
+use Rattle.spec_state.proofs.Stamps.{IsInstant}
 use Rattle.spec_state.proofs.StoreLaws.{WriteIn}
 use Rattle.spec_state.proofs.ColLaws.{shift-stored, gone-size, gone-due, gone-in, nocop-stored, wr-stored, beside-stored}
 use Rattle.state_bytes.proofs.NumberLaws.{instant-stored}
@@ -69,7 +70,7 @@ module _ (s : Settings) (b : List ℕ) (r : modelRight (contextOf s) b ≡ true)
   -- ---- what leaves
 
   module _ (p : Record) (n : traits p .notRead ≡ true) (l : 4 ≤ instant p) where
-    first-leaves : (ws : List Write) → waitingOf (m .channel .buffer) ≡ older ∷ ws → WriteStamps (older ∷ ws) → not (eqb (getD b 728 0) 0) ≡ true
+    first-leaves : (ws : List Write) → waitingOf (m .channel .buffer) ≡ older ∷ ws → WritesAll IsInstant (older ∷ ws) → not (eqb (getD b 728 0) 0) ≡ true
         → leavingOf (contextOf s) (m .channel) p ≡ onlyWrite (leavesAt s b (instant p - 3)) (some older)
     unfolding leavesAt contextOf
     first-leaves ws z h q =
@@ -82,8 +83,8 @@ module _ (s : Settings) (b : List ℕ) (r : modelRight (contextOf s) b ≡ true)
       where
         go : Waits b (m .channel .buffer) → leavingOf (contextOf s) (m .channel) p ≡ onlyWrite (leavesAt s b (instant p - 3)) (some older)
         go (none-waits e z) = leaving-none (contextOf s) (m .channel) p z ∙ rw e
-        go (one-waits e z) = first-leaves [] (rw z) (rw z at (sound s b r .stamped .write)) (rw e)
-        go (two-wait e z) = first-leaves (writeIn b 744 ∷ []) (rw z) (rw z at (sound s b r .stamped .write)) (rw e)
+        go (one-waits e z) = first-leaves [] (rw z) (rw z at (sound s b r .stamped .writes)) (rw e)
+        go (two-wait e z) = first-leaves (writeIn b 744 ∷ []) (rw z) (rw z at (sound s b r .stamped .writes)) (rw e)
 
   -- ---- the bytes once it has left, if it leaves
 

@@ -2,49 +2,42 @@
 -- Assumes nothing.
 use Prim.Native.Nat.{ℕ, _+_, _*_, _-_, _<_, _≤_}
 use mathlib.Core.Path.{_≡_, refl, sym, ap, _∙_}
-use mathlib.Core.Bool.{Bool, true, false, _&&_}
+use mathlib.Core.Bool.{Bool, true, false, _&&_, _||_}
 use mathlib.Core.List.{List}
 use native.Mathlib.Omega.{arith}
-use borrow.Author.Tests.{ltb-true, ltb-false}
-use lib.Dec.{eqb, ltb}
+use borrow.Author.Tests.{eqb-true, leb-true, ltb-true, ltb-false}
+use lib.Dec.{eqb, leb, ltb}
 use lib.ListN.{length}
 use Rattle.num.specs.Bytes.{Bytes}
 use Rattle.settings.specs.declared.Settings.{Settings}
 use Rattle.settings.specs.Settings.{valid}
-use Rattle.settings.specs.Instants.{horizon}
-use Rattle.spec_rules.specs.Neighbour.{bankCount, contextOf}
+use Rattle.settings.specs.Instants.{horizon, isInstant}
+use Rattle.spec_rules.specs.Neighbour.{bankCount, Context, contextOf}
 use Rattle.spec_rules.specs.Channel.{waitingOf}
 use Rattle.spec_rules.proofs.Bools.{and-left, and-right}
-use Rattle.spec_state.specs.Valid.{channelValid}
+use Rattle.spec_state.specs.Valid.{isStamp, channelValid}
 use Rattle.spec_state.specs.ChannelBytes.{instantOf, trackIn, lastsIn, channelIn, zeroPart, channelSpare}
+use Rattle.spec_state.proofs.EachInstant.{TrackAll, all-more}
+use Rattle.spec_state.proofs.Stamps.{Stamp, IsInstant}
 use Rattle.spec_state.proofs.NextValid.{valid-sound}
+use Rattle.spec_state.proofs.RoundTrip.{Back, some-back, Kept, valid-kept}
 use Rattle.spec_plan.specs.declared.PlannerState.{PlannerState}
 use Rattle.spec_plan.specs.Planner.{plannerValid}
 use Rattle.spec_plan.specs.Plan.{Draft}
-use Rattle.spec_plan.specs.Call.{inTime}
 use Rattle.spec_plan.specs.PlannerBytes.{plannerLength, plannerBytes, plannerIn, plannerRight}
-use Rattle.spec_plan.proofs.Invariant.{Inv}
-use Rattle.spec_plan.proofs.Valid.{inv-valid}
-use Rattle.spec_plan.proofs.PlannerRoundTrip.{planner-length, planner-decode-encode, planner-encode-decode}
+use Rattle.spec_plan.proofs.Invariant.{Inv, valid-tested, valid-inv}
+use Rattle.spec_plan.proofs.PlannerRoundTrip.{planner-length, planner-back, planner-encode-decode}
 use Rattle.plan_bytes.specs.form.Numbers.{word, waitsIn, twoIn, Tops, Below}
 use Rattle.plan_bytes.specs.form.Drawn.{drafted, Ready}
-use Rattle.plan_bytes.proofs.Tops.{TrackAll, Under}
-use Rattle.plan_bytes.proofs.Marks.{Marked}
+use Rattle.plan_bytes.proofs.Tops.{Under}
+use Rattle.plan_bytes.proofs.Marks.{far, Marked}
 use Rattle.plan_bytes.proofs.Instants.{said-top}
 use Rattle.plan_bytes.proofs.States.{track-at, waiting-is, two-is}
 use Rattle.plan_bytes.proofs.ReadyLaws.{readies, inv, under-top, now-top}
 
 -- ready bytes say a draft with no record yet
 pub start : (s : Settings) (top : ℕ) (b : List ℕ) → Ready s top b → Marked s (top + 3) (drafted b)
-unfolding inTime plannerValid
-start s top b k =
-    record {
-      stamped = valid-sound (contextOf s) (plannerIn b .channel) (and-left (channelValid (contextOf s) (plannerIn b .channel)) _ (readies s top b k .right)) .stamped;
-      under = under-top s top b k;
-      low = inv s top b k .low;
-      now = now-top s top b k;
-      timely = refl;
-    }
+start s top b k = record { instants = readies s top b k .instants; under = under-top s top b k; low = inv s top b k .low; now = now-top s top b k }
 
 -- ---- the numbers of bytes that say a state below a top
 
@@ -97,19 +90,20 @@ pub record After (s : Settings) (top : ℕ) (d : Draft) (b : List ℕ) : Type 0 
   pub ready : Ready s top b
   pub size : length b ≡ 768
 
-pub after-step : (s : Settings) → valid s ≡ true → (top : ℕ) (d : Draft) → top + 3 ≤ horizon → Marked s (top + 3) d → Inv (contextOf s) (d .planner) → (b : List ℕ) → b ≡ plannerBytes (d .planner) → After s top d b
-unfolding Ready contextOf
+pub after-step : (s : Settings) → valid s ≡ true → (top : ℕ) (d : Draft) → top ≤ far → Marked s (top + 3) d → Inv (contextOf s) (d .planner) → (b : List ℕ) → b ≡ plannerBytes (d .planner) → After s top d b
+unfolding Ready contextOf bankCount
 after-step s v top d h m i b e =
     let p : PlannerState = d .planner in
-    let now : p .now .0 ≤ horizon = omega (arith, m .now) in
-    let right : plannerValid (contextOf s) p ≡ true = inv-valid (contextOf s) p i (m .stamped) now in
-    let back : plannerIn b ≡ p = ap plannerIn e ∙ planner-decode-encode (contextOf s) v p right in
+    let kept : Kept (contextOf s) (p .channel) = record { instants = m .instants; rows-in = i .banked .rows-in; write-in = i .held .write-in } in
+    let now : Back (p .now .0) = some-back (p .now .0) (m .low) (omega (arith, m .now)) in
+    let back : plannerIn b ≡ p = ap plannerIn e ∙ planner-back (contextOf s) v p kept now (omega (arith, i .refresh-in)) (i .mask-in) (i .second-in) in
     record {
       back = back;
       ready = record {
         figures = v;
         exact = ap plannerBytes back ∙ sym e;
-        right = rw back right;
+        inv = rw back i;
+        instants = rw back (m .instants);
         below = below s top b (rw back (m .low)) (rw back (m .under)) (rw back (m .now));
       };
       size = ap length e ∙ planner-length p;
@@ -123,7 +117,8 @@ ready-more s top high b l k =
     record {
       figures = k .figures;
       exact = k .exact;
-      right = k .right;
+      inv = k .inv;
+      instants = k .instants;
       below = record {
         banks = λ i m. omega (arith, t .banks i m);
         packet = omega (arith, t .packet);
@@ -137,8 +132,35 @@ ready-more s top high b l k =
       };
     }
 
--- the bytes of a call
-pub ready-call : (s : Settings) (top : ℕ) (b : List ℕ) → valid s ≡ true → Bytes b → plannerRight (contextOf s) b ≡ true → Below top b → Ready s top b
-unfolding Ready plannerRight plannerLength
-ready-call s top b v w r t =
-    record { figures = v; exact = planner-encode-decode (contextOf s) b w r; right = and-right (channelSpare b && (zeroPart b 758 2 && zeroPart b 764 4)) _ (and-right (eqb (length b) 768) _ r); below = t }
+-- a lower top
+pub ready-below : (s : Settings) (top low : ℕ) (b : List ℕ) → Ready s top b → Below low b → Ready s low b
+unfolding Ready
+ready-below s top low b k t = record { figures = k .figures; exact = k .exact; inv = k .inv; instants = k .instants; below = t }
+
+-- the bytes of a call: no instant is past the last one, which is stored less 3
+pub ready-call : (s : Settings) (b : List ℕ) → valid s ≡ true → Bytes b → plannerRight (contextOf s) b ≡ true → Ready s 999999997 b
+unfolding Ready plannerRight plannerLength plannerValid
+ready-call s b v w r =
+    let cx : Context = contextOf s in
+    let p : PlannerState = plannerIn b in
+    let right : plannerValid cx p ≡ true = and-right (channelSpare b && (zeroPart b 758 2 && zeroPart b 764 4)) _ (and-right (eqb (length b) 768) _ r) in
+    let channel : channelValid cx (p .channel) ≡ true = and-left (channelValid cx (p .channel)) _ right in
+    let i : Inv cx p = valid-inv cx p right in
+    let most : Under horizon (p .channel) = all-more Stamp IsInstant (λ t. t ≤ horizon) (λ t. t ≤ horizon) stamp-most instant-most (p .channel) (valid-sound cx (p .channel) channel .stamped) in
+    record {
+      figures = v;
+      exact = planner-encode-decode cx b w r;
+      inv = i;
+      instants = valid-kept cx (p .channel) channel .instants;
+      below = below s 999999997 b (i .low) most (instant-most (p .now .0) (valid-tested cx p right .now-in));
+    }
+  where
+    instant-most : (t : ℕ) → isInstant t ≡ true → t ≤ horizon
+    instant-most t e = leb-true t horizon (and-right (leb 4 t) _ e)
+
+    stamp-most : (t : ℕ) → isStamp t ≡ true → t ≤ horizon
+    stamp-most t e = go (eqb t 0) refl e
+      where
+        go : (z : Bool) → eqb t 0 ≡ z → z || isInstant t ≡ true → t ≤ horizon
+        go true f i = omega (arith, eqb-true t 0 f)
+        go false f i = instant-most t i

@@ -1,15 +1,12 @@
--- Every step of the plan keeps all instants below a top that rises by at most 192 with each bank closed, and the records in time.
+-- Every step of the plan keeps all instants below a top that rises by at most 192 with each bank closed.
 -- Assumes nothing.
 use Prim.Native.Nat.{ℕ, zero, suc, _+_, _*_, _≤_, max}
 use mathlib.Core.Path.{_≡_}
 use mathlib.Core.Bool.{Bool, true, not, _&&_}
-use mathlib.Core.List.{List, [], _∷_, _++_}
+use mathlib.Core.List.{List}
 use native.Mathlib.Omega.{arith}
-use borrow.Author.Tests.{le-leb}
-use lib.Dec.{leb}
 use Rattle.settings.specs.declared.Settings.{Settings}
 use Rattle.settings.specs.Settings.{valid}
-use Rattle.settings.specs.Instants.{horizon, isInstant}
 use Rattle.settings.proofs.SettingsLaws.{bounds}
 use Rattle.packet.specs.declared.RowPacket.the-variants.{Act, Prer, Refa, Refp}
 use Rattle.packet.specs.declared.ColPacket.the-variants.{Nocop, Wr, Rd}
@@ -21,53 +18,34 @@ use Rattle.spec_rules.specs.declared.Write.{Write}
 use Rattle.spec_rules.specs.Neighbour.{bankCount, Context, contextOf, near}
 use Rattle.spec_rules.specs.Packets.{instant}
 use Rattle.spec_rules.specs.History.{isClosed}
-use Rattle.spec_rules.specs.Rules.{dataDelay}
 use Rattle.spec_rules.specs.Channel.{waitingOf}
 use Rattle.spec_rules.specs.Earliest.{earliest, leastFrom}
-use Rattle.spec_rules.proofs.Bools.{and-left, and-right}
 use Rattle.spec_rules.proofs.EarliestLaws.{moved-instant, picked-late}
-use Rattle.spec_state.proofs.Stamps.{Stamped, after-stamped}
+use Rattle.spec_state.proofs.EachInstant.{All, after-all}
+use Rattle.spec_state.proofs.RoundTrip.{Back, SomeBack, some-back}
 use Rattle.spec_plan.specs.declared.PlannerState.{PlannerState}
 use Rattle.spec_plan.specs.Plan.{Draft, rowPacket, colPacket, when, waiting, stateIn, openOn, anyWaits, carried, slot, leaver, placedIn, sent, flushed, flushedWhile, loses, closed, closedUpTo, reached, delays, plannedRead, loaded, written, plannedWrite, turned, plannedRefresh, plannedDrain}
-use Rattle.spec_plan.specs.Call.{inTime}
 use Rattle.spec_plan.proofs.SentLaws.{when-either}
-use Rattle.plan_bytes.proofs.Tops.{after-all, Under, under-more, least-top}
+use Rattle.plan_bytes.proofs.Tops.{Under, under-more, least-top}
 
--- a draft whose instants are none or from 4 to a top, and whose records are in time
+-- a draft whose instants are none or from 4 to a top
 pub record Marked (s : Settings) (top : ℕ) (d : Draft) : Type 0 where
-  pub stamped : Stamped (d .planner .channel)
+  pub instants : All Back SomeBack (d .planner .channel)
   pub under : Under top (d .planner .channel)
   pub low : 4 ≤ d .planner .now .0
   pub now : d .planner .now .0 ≤ top
-  pub timely : inTime (contextOf s) (d .records) ≡ true
 
 pub marked-more : (s : Settings) (top high : ℕ) → top ≤ high → (d : Draft) → Marked s top d → Marked s high d
 marked-more s top high l d k =
-    record { stamped = k .stamped; under = under-more top high l (d .planner .channel) (k .under); low = k .low; now = omega (arith, k .now); timely = k .timely }
+    record { instants = k .instants; under = under-more top high l (d .planner .channel) (k .under); low = k .low; now = omega (arith, k .now) }
 
-in-time-more : (cx : Context) (l : List Record) (r : Record) → inTime cx l ≡ true → instant r + dataDelay cx r ≤ horizon → inTime cx (l ++ (r ∷ [])) ≡ true
-unfolding inTime
-in-time-more cx [] r e h = rw (le-leb (instant r + dataDelay cx r) horizon h)
-in-time-more cx (q ∷ l) r e h = rw (and-left (leb (instant q + dataDelay cx q) horizon) _ e) (in-time-more cx l r (and-right (leb (instant q + dataDelay cx q) horizon) _ e) h)
-
--- the last instant up to which a step is followed
+-- the last instant up to which a step is followed: past the last instant of a packet by more than a request takes, and below 2^32
 abbrev pub far : ℕ
-far = 999999900
+far = 1000009900
 
 module _ (s : Settings) (v : valid s ≡ true) where
   abbrev cx : Context
   cx = contextOf s
-
-  delay-most : (r : Record) → dataDelay cx r ≤ 12
-  unfolding dataDelay contextOf
-  delay-most (RowAt t p) = omega arith
-  delay-most (ColAt t (Nocop m)) = omega arith
-  delay-most (ColAt t (Wr b c m)) = omega (arith, bounds s v .cwd-cac, bounds s v .cac-most)
-  delay-most (ColAt t (Rd b c m)) = bounds s v .cac-most
-  delay-most (DataOf t d) = omega arith
-
-  is-instant : (t : ℕ) → 4 ≤ t → t ≤ horizon → isInstant t ≡ true
-  is-instant t l h = rw (le-leb 4 t l, le-leb t horizon h)
 
   module _ (top : ℕ) (d : Draft) (k : Marked s top d) (h : top ≤ far) where
     abbrev p : PlannerState
@@ -90,34 +68,34 @@ module _ (s : Settings) (v : valid s ≡ true) where
         let e : instant q ≡ t = moved-instant cx (p .channel) t (carried (leaver cx p r) (p .mask)) r in
         let most : t ≤ top + 64 = slot-most r in
         let least : 4 ≤ t = slot-least r in
+        let back : Back t = some-back t least (omega arith) in
         record {
-          stamped = after-stamped cx (p .channel) (k .under .lasts .size) (k .stamped) q (rw e (is-instant t least (omega arith)));
-          under = after-all (λ t. t ≤ top + 64) cx (p .channel) (under-more top (top + 64) (omega arith) (p .channel) (k .under)) q (rw e most);
+          instants = after-all Back SomeBack cx (p .channel) (k .instants) q (rw e back) (rw e (least, back));
+          under = after-all (λ t. t ≤ top + 64) (λ t. t ≤ top + 64) cx (p .channel) (under-more top (top + 64) (omega arith) (p .channel) (k .under)) q (rw e most) (rw e most);
           low = least;
           now = most;
-          timely = in-time-more cx (d .records) q (k .timely) (omega (arith, delay-most q));
         }
 
     -- the data of a WR
     marked-loaded : (mask : ℕ) (bytes : Dualoct) → Marked s (top + 64) (loaded cx mask bytes d)
-    unfolding loaded instant dataDelay contextOf
+    unfolding loaded instant contextOf
     marked-loaded mask bytes =
         let t : ℕ = p .now .0 + s .cwd in
         let q : Record = DataOf (record { 0 = t }) bytes in
         let least = k .low in
         let now = k .now in
         let most : t ≤ top + 12 = omega (arith, bounds s v .cwd-cac, bounds s v .cac-most) in
+        let back : Back t = some-back t (omega arith) (omega arith) in
         record {
-          stamped = after-stamped cx (p .channel) (k .under .lasts .size) (k .stamped) q (is-instant t (omega arith) (omega arith));
-          under = after-all (λ t. t ≤ top + 64) cx (p .channel) (under-more top (top + 64) (omega arith) (p .channel) (k .under)) q (omega arith);
+          instants = after-all Back SomeBack cx (p .channel) (k .instants) q back (omega arith, back);
+          under = after-all (λ t. t ≤ top + 64) (λ t. t ≤ top + 64) cx (p .channel) (under-more top (top + 64) (omega arith) (p .channel) (k .under)) q (omega arith) (omega arith);
           low = least;
           now = omega arith;
-          timely = in-time-more cx (d .records) q (k .timely) (omega arith);
         }
 
     marked-turned : Marked s top (turned cx d)
     unfolding turned
-    marked-turned = record { stamped = k .stamped; under = k .under; low = k .low; now = k .now; timely = k .timely }
+    marked-turned = record { instants = k .instants; under = k .under; low = k .low; now = k .now }
 
   -- ---- steps
 

@@ -5,34 +5,31 @@ use mathlib.Core.Path.{_≡_, refl, sym, ap, _∙_}
 use mathlib.Core.Bool.{Bool, true, false, cond}
 use mathlib.Core.List.{List}
 use native.Mathlib.Omega.{arith}
-use borrow.Author.Tests.{leb-true, eqb-false, lt-ltb}
-use lib.Dec.{eqb, leb, ltb}
+use borrow.Author.Tests.{eqb-false, lt-ltb}
+use lib.Dec.{eqb}
 use lib.ListN.{length, getD}
 use Rattle.settings.specs.declared.Settings.{Settings}
-use Rattle.settings.specs.Instants.{isInstant}
 use Rattle.settings.proofs.SettingsLaws.{bounds}
 use Rattle.record.specs.declared.Record.{Record}
 use Rattle.spec_rules.specs.declared.Write.{Write}
 use Rattle.spec_rules.specs.declared.Buffer.{Buffer}
 use Rattle.spec_rules.specs.declared.Buffer.the-variants.{Empty, One, Two}
 use Rattle.spec_rules.specs.Neighbour.{bankCount, contextOf}
-use Rattle.spec_rules.specs.History.{allWrites}
 use Rattle.spec_rules.specs.Channel.{waitingOf}
 use Rattle.spec_rules.specs.Earliest.{leastFrom, earliest}
-use Rattle.spec_rules.proofs.Bools.{and-left, and-right}
 use Rattle.spec_rules.proofs.EarliestLaws.{picked-late}
-use Rattle.spec_state.specs.Valid.{writeValid}
 use Rattle.spec_state.specs.ChannelBytes.{instantOf, trackIn, lastsIn, writeIn, bufferIn, channelIn}
-use Rattle.spec_state.proofs.RoundTrip.{stored-in}
+use Rattle.spec_state.proofs.EachInstant.{TrackAll, WritesAll}
+use Rattle.spec_state.proofs.RoundTrip.{SomeBack, stored-in, WritesIn}
 use Rattle.spec_state.proofs.StoreLaws.{ByBytes, WriteIn}
 use Rattle.spec_plan.specs.declared.PlannerState.{PlannerState}
 use Rattle.spec_plan.specs.Plan.{slot}
 use Rattle.spec_plan.specs.PlannerBytes.{plannerIn}
-use Rattle.spec_plan.proofs.Invariant.{Inv, Tested, WritesIn, valid-tested, valid-inv}
+use Rattle.spec_plan.proofs.Invariant.{Inv}
 use Rattle.spec_plan.proofs.PlannerRoundTrip.{planner-length}
 use Rattle.plan_bytes.specs.form.Numbers.{word, waitsIn, heldBank, twoIn, Tops, Below}
 use Rattle.plan_bytes.specs.form.Drawn.{Readies, Ready}
-use Rattle.plan_bytes.proofs.Tops.{TrackAll, WritesAll, Under, least-top}
+use Rattle.plan_bytes.proofs.Tops.{Under, least-top}
 use Rattle.plan_bytes.proofs.Instants.{top-said}
 use Rattle.plan_bytes.proofs.States.{Early, track-at, two-is, one-is}
 use Rattle.plan_bytes.proofs.Puts.{Plain, BankIn}
@@ -56,16 +53,13 @@ module _ (s : Settings) (top : ℕ) (b : List ℕ) (k : Ready s top b) where
   p = plannerIn b
 
   pub inv : Inv (contextOf s) p
-  inv = valid-inv (contextOf s) p (readies .right)
+  inv = readies .inv
 
   pub ready-length : length b ≡ 768
   ready-length = ap length (sym (readies .exact)) ∙ planner-length p
 
   pub device-in : s .device < 32
   device-in = omega (arith, bounds s (readies .figures) .device-most)
-
-  tested : Tested (contextOf s) p
-  tested = valid-tested (contextOf s) p (readies .right)
 
   by-bytes : (w : Write) → (w .bank < bankCount) × (w .column < s .columns) → ByBytes w
   unfolding bankCount
@@ -85,18 +79,13 @@ module _ (s : Settings) (top : ℕ) (b : List ℕ) (k : Ready s top b) where
   bank-in = write-fits (p .channel .buffer) (inv .held .write-in) .1
 
   pub early : Early (p .channel .buffer)
-  unfolding waitingOf writeValid
-  early = go (p .channel .buffer) (tested .write)
+  unfolding waitingOf
+  early = go (p .channel .buffer) (readies .instants .writes)
     where
-      late : (w : Write) → writeValid (contextOf s) w ≡ true → 4 ≤ w .at .0
-      late w e =
-          let at : isInstant (w .at .0) ≡ true = and-right (ltb (w .column) _) _ (and-right (ltb (w .bank) _) _ e) in
-          leb-true 4 (w .at .0) (and-left (leb 4 (w .at .0)) _ at)
-
-      go : (buffer : Buffer) → allWrites (writeValid (contextOf s)) (waitingOf buffer) ≡ true → Early buffer
+      go : (buffer : Buffer) → WritesAll SomeBack (waitingOf buffer) → Early buffer
       go Empty e = tt
-      go (One x) e = late x (and-left (writeValid (contextOf s) x) _ e)
-      go (Two x y) e = late x (and-left (writeValid (contextOf s) x) _ e)
+      go (One x) e = e .0 .0
+      go (Two x y) e = e .0 .0
 
   -- the older waiting write
   pub held-bank : waitsIn b ≡ true → heldBank b < 32
@@ -167,7 +156,7 @@ module _ (s : Settings) (b : List ℕ) where
   pub record Says (v : ℕ) (r : Record) : Type 0 where
     pub stored : v ≡ slot (contextOf s) (plannerIn b) r - 3
     pub instant : v + 3 ≡ slot (contextOf s) (plannerIn b) r
-    pub fits : v + 3 ≤ 999999100
+    pub fits : v + 3 ≤ 1000009100
 
   slot-low : 4 ≤ plannerIn b .now .0 → (r : Record) → 4 ≤ slot (contextOf s) (plannerIn b) r
   unfolding slot leastFrom
@@ -176,12 +165,12 @@ module _ (s : Settings) (b : List ℕ) where
       let t0 : ℕ = max (p .now .0) (earliest (contextOf s) (p .channel) r) in
       omega (arith, picked-late (contextOf s) (p .channel) r t0 (waitingOf (p .channel .buffer)))
 
-  pub says : 4 ≤ plannerIn b .now .0 → (v : ℕ) (r : Record) → slot (contextOf s) (plannerIn b) r ≤ 999999100 → instantOf v ≡ slot (contextOf s) (plannerIn b) r → Says v r
+  pub says : 4 ≤ plannerIn b .now .0 → (v : ℕ) (r : Record) → slot (contextOf s) (plannerIn b) r ≤ 1000009100 → instantOf v ≡ slot (contextOf s) (plannerIn b) r → Says v r
   says low v r m e =
       let a : v ≡ slot (contextOf s) (plannerIn b) r - 3 = sym (stored-in v) ∙ ap (λ (n : ℕ). n - 3) e in
       let l = slot-low low r in
       record { stored = a; instant = omega arith; fits = omega arith }
 
 -- on ready bytes
-pub said : (s : Settings) (top : ℕ) (b : List ℕ) (k : Ready s top b) → top ≤ 999999000 → (v : ℕ) (r : Record) → instantOf v ≡ slot (contextOf s) (plannerIn b) r → Says s b v r
+pub said : (s : Settings) (top : ℕ) (b : List ℕ) (k : Ready s top b) → top ≤ 1000009000 → (v : ℕ) (r : Record) → instantOf v ≡ slot (contextOf s) (plannerIn b) r → Says s b v r
 said s top b k h v r e = says s b (inv s top b k .low) v r (omega (arith, slot-top s top b k r)) e

@@ -28,141 +28,16 @@ use Rattle.spec_rules.specs.Checks.{asks, boundOf, maxLine, lastOn, lastAt, bou
 use Rattle.spec_rules.specs.Earliest.{earliest, retireBound, slotFrom, leastFrom}
 use Rattle.spec_rules.proofs.ListLaws.{length-imap, getD-imap}
 use Rattle.spec_rules.proofs.TrackLaws.{after-waits}
+use Rattle.spec_state.proofs.EachInstant.{WritesAll, All, all-more}
 use Rattle.plan_bytes.proofs.Since.{since-top, max-top}
-
--- ---- a claim of every instant of a state
-
-pub record TrackAll (P : ℕ → Type 0) (k : BankTrack) : Type 0 where
-  pub opened : P (k .opened .0)
-  pub act : P (k .act .0)
-  pub pre : P (k .pre .0)
-  pub rd : P (k .rd .0)
-  pub retire : P (k .retire .0)
-
-abbrev pub WritesAll : (ℕ → Type 0) → List Write → Type 0
-WritesAll P [] = Unit {0}
-WritesAll P (w ∷ ws) = P (w .at .0) × WritesAll P ws
-
--- but for the waiting writes
-pub record LastsAll (P : ℕ → Type 0) (ch : Channel) : Type 0 where
-  pub size : length (ch .banks) ≡ bankCount
-  pub banks : (x : ℕ) → x < bankCount → TrackAll P (trackOf ch x)
-  pub packet : P (ch .lasts .packet .0)
-  pub row : P (ch .lasts .row .0)
-  pub col : P (ch .lasts .col .0)
-  pub pre : P (ch .lasts .pre .0)
-  pub rd : P (ch .lasts .rd .0)
-
-pub record All (P : ℕ → Type 0) (ch : Channel) : Type 0 where
-  pub lasts : LastsAll P ch
-  pub writes : WritesAll P (waitingOf (ch .buffer))
-
-module _ (P : ℕ → Type 0) where
-  pick : (b : Bool) (t : ℕ) (before : PacketAt) → P t → P (before .0) → P (cond b (record { 0 = t }) before .0)
-  pick true t before e h = e
-  pick false t before e h = h
-
-  writes-left : (o : Option Write) (ws : List Write) → WritesAll P ws → WritesAll P (left o ws)
-  writes-left none ws k = k
-  writes-left (some w) [] k = tt
-  writes-left (some w) (x ∷ ws) k = k .1
-
-  writes-joined : (r : Record) (ws : List Write) → P (instant r) → WritesAll P ws → WritesAll P (joined (loads r) ws)
-  unfolding loads instant
-  writes-joined (RowAt t p) ws e k = k
-  writes-joined (ColAt t (Nocop m)) ws e k = k
-  writes-joined (ColAt t (Wr b c m)) [] e k = (e, tt)
-  writes-joined (ColAt t (Wr b c m)) (w ∷ ws) e k = (k .0, (e, tt))
-  writes-joined (ColAt t (Rd b c m)) ws e k = k
-  writes-joined (DataOf t d) ws e k = k
-
-  module _ (cx : Context) (ch : Channel) (k : LastsAll P ch) where
-    packet-all : (r : Record) → P (instant r) → LastsAll P (afterPacket cx ch r)
-    unfolding afterPacket trackNext
-    packet-all r e =
-        let t : ℕ = instant r in
-        let at : (x : ℕ) → x < bankCount → trackOf (afterPacket cx ch r) x ≡ trackNext cx ch r x (trackOf ch x) = λ x m. getD-imap (trackNext cx ch r) (ch .banks) x idle idle (rw (k .size) m) in
-        record {
-          size = length-imap _ 0 (ch .banks) ∙ k .size;
-          banks = λ x m. rw (at x m)
-              (record {
-                opened = pick (inBank (traits r .opens) x) t _ e (k .banks x m .opened);
-                act = pick (inBank (traits r .acts) x) t _ e (k .banks x m .act);
-                pre = pick (inBank (traits r .precharges) x || closes cx (stateOf ch) r x) t _ e (k .banks x m .pre);
-                rd = pick (inBank (traits r .reads) x) t _ e (k .banks x m .rd);
-                retire = k .banks x m .retire;
-              });
-          packet = e;
-          row = pick (traits r .row) t (ch .lasts .row) e (k .row);
-          col = pick (traits r .col) t (ch .lasts .col) e (k .col);
-          pre = pick (has (traits r .precharges)) t (ch .lasts .pre) e (k .pre);
-          rd = pick (has (traits r .reads)) t (ch .lasts .rd) e (k .rd);
-        }
-
-    retire-all : (t : ℕ) (o : Option Write) → P t → LastsAll P (afterRetire t o ch)
-    unfolding afterRetire trackRetired
-    retire-all t none e = k
-    retire-all t (some w) e =
-        let at : (x : ℕ) → x < bankCount → trackOf (afterRetire t (some w) ch) x ≡ trackRetired t w x (trackOf ch x) = λ x m. getD-imap (trackRetired t w) (ch .banks) x idle idle (rw (k .size) m) in
-        record {
-          size = length-imap _ 0 (ch .banks) ∙ k .size;
-          banks = λ x m. rw (at x m)
-              (record {
-                opened = k .banks x m .opened;
-                act = k .banks x m .act;
-                pre = k .banks x m .pre;
-                rd = k .banks x m .rd;
-                retire = pick (eqb x (w .bank)) t _ e (k .banks x m .retire);
-              });
-          packet = k .packet;
-          row = k .row;
-          col = k .col;
-          pre = k .pre;
-          rd = k .rd;
-        }
-
-  -- a record whose instant keeps the claim
-  module _ (cx : Context) (ch : Channel) (k : All P ch) where
-    lasts-after : (r : Record) → P (instant r) → LastsAll P (after cx ch r)
-    unfolding after afterData instant
-    lasts-after (RowAt t p) e = packet-all cx ch (k .lasts) (RowAt t p) e
-    lasts-after (ColAt t p) e =
-        let o : Option Write = leavingOf cx ch (ColAt t p) in
-        packet-all cx (afterRetire (t .0) o ch) (retire-all cx ch (k .lasts) (t .0) o e) (ColAt t p) e
-    lasts-after (DataOf t d) e = let l = k .lasts in record { size = l .size; banks = l .banks; packet = l .packet; row = l .row; col = l .col; pre = l .pre; rd = l .rd }
-
-    pub after-all : (r : Record) → P (instant r) → All P (after cx ch r)
-    unfolding waitingNext
-    after-all r e =
-        record {
-          lasts = lasts-after r e;
-          writes = rw (after-waits cx ch r) (writes-joined r (left (leavingOf cx ch r) (waitingOf (ch .buffer))) e (writes-left (leavingOf cx ch r) (waitingOf (ch .buffer)) (k .writes)));
-        }
-
--- a weaker claim
-module _ (P Q : ℕ → Type 0) (f : (t : ℕ) → P t → Q t) where
-  writes-more : (ws : List Write) → WritesAll P ws → WritesAll Q ws
-  writes-more [] k = tt
-  writes-more (w ∷ ws) k = (f (w .at .0) (k .0), writes-more ws (k .1))
-
-  track-more : (k : BankTrack) → TrackAll P k → TrackAll Q k
-  track-more k a = record { opened = f _ (a .opened); act = f _ (a .act); pre = f _ (a .pre); rd = f _ (a .rd); retire = f _ (a .retire) }
-
-  all-more : (ch : Channel) → All P ch → All Q ch
-  all-more ch k =
-      let l = k .lasts in
-      record {
-        lasts = record { size = l .size; banks = λ x m. track-more (trackOf ch x) (l .banks x m); packet = f _ (l .packet); row = f _ (l .row); col = f _ (l .col); pre = f _ (l .pre); rd = f _ (l .rd) };
-        writes = writes-more (waitingOf (ch .buffer)) (k .writes);
-      }
 
 -- ---- no instant above a top
 
 abbrev pub Under : ℕ → Channel → Type 0
-Under top ch = All (λ t. t ≤ top) ch
+Under top ch = All (λ t. t ≤ top) (λ t. t ≤ top) ch
 
 pub under-more : (top high : ℕ) → top ≤ high → (ch : Channel) → Under top ch → Under high ch
-under-more top high l ch k = all-more (λ t. t ≤ top) (λ t. t ≤ high) (λ t h. omega arith) ch k
+under-more top high l ch k = all-more (λ t. t ≤ top) (λ t. t ≤ top) (λ t. t ≤ high) (λ t. t ≤ high) (λ t h. omega arith) (λ t h. omega arith) ch k
 
 -- ---- what the table asks is at most 64 after the top
 

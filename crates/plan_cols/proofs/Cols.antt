@@ -48,7 +48,7 @@ pub placed-at : (s : Settings) (b : List ℕ) (x v t : ℕ) (q : Bool) → v ≡
 unfolding wrAt
 placed-at s b x v t q e f g = (g ∙ rw (f, e), f ∙ rw e)
 
-module _ (s : Settings) (top : ℕ) (b : List ℕ) (k : Ready s top b) (h : top ≤ 999999000) where
+module _ (s : Settings) (top : ℕ) (b : List ℕ) (k : Ready s top b) (h : top ≤ 1000009000) where
   abbrev p : PlannerState
   p = plannerIn b
 

@@ -1,4 +1,3 @@
 pub mod Slots
-pub mod Arrivals
 pub mod Puts
 pub mod Cols

@@ -4,7 +4,6 @@ ghost use mathlib.Core.Bool.{true, cond};
 ghost use Prim.Native.Nat.{_+_, _-_, _<_, _≤_, _^_};
 ghost use lib.ListN.{length};
 ghost use Rattle.packet.specs.declared.ColPacket.the-variants.{Rd};
-ghost use Rattle.settings.specs.Instants.{horizon};
 ghost use Rattle.record.proofs.RequestLaws.{InPlace};
 ghost use Rattle.spec_rules.specs.Neighbour.{contextOf};
 ghost use Rattle.spec_plan.specs.Plan.{colPacket, sent, flushed, written};
@@ -13,7 +12,7 @@ ghost use Rattle.plan_bytes.specs.form.Drawn.{drafted, Ready, Drawn};
 ghost use Rattle.plan_cols.specs.form.Slots.{colBase, rdAt, retireAt, wrBase, retiresIn, wrFrom, carriedIn, nocopStored, aloneStored, newerStored, movedStored, insteadStored, wrStored};
 use chan_view::bounds::later;
 use col_words::col_word;
-use instants::write_arrival;
+use instants::written_at;
 use num::both;
 use num::either;
 use num::u16_at;
@@ -31,9 +30,7 @@ use plan_bytes::waits;
 use puts::put_u16;
 use record::Dualoct;
 use record::Place;
-use settings::Arrival;
 use settings::DataAt;
-use settings::HORIZON;
 use settings::PacketAt;
 use settings::Settings;
 use state_stores::cols::store_behind;
@@ -69,7 +66,7 @@ fn rd_at(s: Settings, b: &[u8], x: usize) -> u64
 
 // RD.
 pub fn rd(s: Settings, b: &mut [u8], bank: u32, column: u32, room: &mut [u8], to: usize) -> usize
-    requires { ⌜ Ready s 999999000 (now b) ⌝ }
+    requires { ⌜ Ready s 1000009000 (now b) ⌝ }
     requires { ⌜ length (now b) ≡ 768 ⌝ }
     requires { ⌜ bank < 32 ⌝ }
     requires { ⌜ to + 32 ≤ length (now room) ⌝ }
@@ -127,7 +124,7 @@ fn put_nocop(b: &mut [u8], t: u64)
 
 // NOCOP, where a write waits.
 pub fn nocop(s: Settings, b: &mut [u8], room: &mut [u8], to: usize) -> usize
-    requires { ⌜ Ready s 999999000 (now b) ⌝ }
+    requires { ⌜ Ready s 1000009000 (now b) ⌝ }
     requires { ⌜ length (now b) ≡ 768 ⌝ }
     requires { ⌜ waitsIn (now b) ≡ true ⌝ }
     requires { ⌜ to + 32 ≤ length (now room) ⌝ }
@@ -265,15 +262,12 @@ fn put_wr(b: &mut [u8], at: Place, mask: u32, leaves: bool, t: u64)
     put_alone(b, at, mask, t);
 }
 
-// D's instant, of a WR whose instant comes as it is stored. None is late: a planner that is ready ends before the last instant.
+// D's instant, of a WR whose instant comes as it is stored. It may be late: the whole request is tested after its last packet.
 fn data_at(s: Settings, t: u64) -> DataAt
-    requires { ⌜ t + 3 + s .cwd ≤ horizon ⌝ }
+    requires { ⌜ t + 3 + s .cwd < 2 ^ 32 ⌝ }
     ensures { λ r. ⌜ r ≡ record { 0 = t + 3 + s .cwd } ⌝ }
 {
-    match write_arrival(s, PacketAt((t + 3) as u32)) {
-        Arrival::At(at) => at,
-        Arrival::Late => DataAt(HORIZON),
-    }
+    written_at(s, PacketAt((t + 3) as u32))
 }
 
 // WR, under the mask of the write that it retires, and its D.
@@ -286,7 +280,7 @@ pub fn wr(
     room: &mut [u8],
     to: usize,
 ) -> usize
-    requires { ⌜ Ready s 999999000 (now b) ⌝ }
+    requires { ⌜ Ready s 1000009000 (now b) ⌝ }
     requires { ⌜ length (now b) ≡ 768 ⌝ }
     requires { ⌜ InPlace s at ⌝ }
     requires { ⌜ to + 64 ≤ length (now room) ⌝ }

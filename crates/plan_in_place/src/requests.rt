@@ -2,14 +2,17 @@
 ghost use mathlib.Core.Path.{_≡_};
 ghost use mathlib.Core.Bool.{true};
 ghost use Prim.Native.Nat.{_≤_};
+ghost use lib.Dec.{leb};
 ghost use lib.ListN.{length};
 ghost use Rattle.num.specs.Bytes.{splice};
 ghost use Rattle.settings.specs.Settings.{valid};
 ghost use Rattle.record.proofs.RequestLaws.{InPlace, InRange};
 ghost use Rattle.spec_rules.specs.Neighbour.{contextOf};
+ghost use Rattle.spec_rules.specs.Checks.{since};
 ghost use Rattle.spec_plan.specs.Plan.{plannedRead, plannedWrite, plannedRefresh, plannedWait, plannedDrain, planned};
 ghost use Rattle.spec_plan.specs.Call.{listBytes, timely};
 ghost use Rattle.spec_plan.specs.PlannerBytes.{plannerBytes, plannerIn, plannerRight};
+ghost use Rattle.plan_bytes.specs.form.Numbers.{word};
 ghost use Rattle.plan_bytes.specs.form.Drawn.{drafted, Ready, Drawn};
 ghost use Rattle.plan_calm.specs.form.Calm.{isCalm};
 use num::u16_at;
@@ -32,7 +35,7 @@ use settings::Settings;
 
 // "The planner sends NOCOP before an RD while two wait, and before a read [..] until the write concerned has retired"; then RD.
 fn read(s: Settings, b: &mut [u8], at: Place, room: &mut [u8]) -> usize
-    requires { ⌜ Ready s 999990000 (now b) ⌝ }
+    requires { ⌜ Ready s 999999997 (now b) ⌝ }
     requires { ⌜ length (now b) ≡ 768 ⌝ }
     requires { ⌜ InPlace s at ⌝ }
     requires { ⌜ 576 ≤ length (now room) ⌝ }
@@ -45,7 +48,7 @@ fn read(s: Settings, b: &mut [u8], at: Place, room: &mut [u8]) -> usize
 
 // "Write: WR, then D."
 fn write(s: Settings, b: &mut [u8], at: Place, mask: u32, d: Dualoct, room: &mut [u8]) -> usize
-    requires { ⌜ Ready s 999990000 (now b) ⌝ }
+    requires { ⌜ Ready s 999999997 (now b) ⌝ }
     requires { ⌜ length (now b) ≡ 768 ⌝ }
     requires { ⌜ InPlace s at ⌝ }
     requires { ⌜ 576 ≤ length (now room) ⌝ }
@@ -57,7 +60,7 @@ fn write(s: Settings, b: &mut [u8], at: Place, mask: u32, d: Dualoct, room: &mut
 
 // "Refresh: close as above, REFA, REFP, next bank modulo 32."
 fn refresh(s: Settings, b: &mut [u8], room: &mut [u8]) -> usize
-    requires { ⌜ Ready s 999990000 (now b) ⌝ }
+    requires { ⌜ Ready s 999999997 (now b) ⌝ }
     requires { ⌜ length (now b) ≡ 768 ⌝ }
     requires { ⌜ 576 ≤ length (now room) ⌝ }
     ensures { λ r. ⌜ Drawn s (plannedRefresh (contextOf s) (drafted (now (b .entry)))) (now (room .entry)) 0 (now (b .exit)) (now (room .exit)) r ⌝ }
@@ -71,7 +74,7 @@ fn refresh(s: Settings, b: &mut [u8], room: &mut [u8]) -> usize
 
 // "wait adds to" now.
 fn wait(s: Settings, b: &mut [u8], cycles: u32)
-    requires { ⌜ Ready s 999990000 (now b) ⌝ }
+    requires { ⌜ Ready s 999999997 (now b) ⌝ }
     requires { ⌜ length (now b) ≡ 768 ⌝ }
     ensures { λ _. ⌜ now (b .exit) ≡ plannerBytes (plannedWait (contextOf s) cycles (drafted (now (b .entry))) .planner) ⌝ }
 {
@@ -80,7 +83,7 @@ fn wait(s: Settings, b: &mut [u8], cycles: u32)
 
 // "A drain first retires both"; "then PRER to each open bank in rising order."
 fn drain(s: Settings, b: &mut [u8], room: &mut [u8]) -> usize
-    requires { ⌜ Ready s 999990000 (now b) ⌝ }
+    requires { ⌜ Ready s 999999997 (now b) ⌝ }
     requires { ⌜ length (now b) ≡ 768 ⌝ }
     requires { ⌜ 576 ≤ length (now room) ⌝ }
     ensures { λ r. ⌜ Drawn s (plannedDrain (contextOf s) (drafted (now (b .entry)))) (now (room .entry)) 0 (now (b .exit)) (now (room .exit)) r ⌝ }
@@ -89,11 +92,11 @@ fn drain(s: Settings, b: &mut [u8], room: &mut [u8]) -> usize
     close_from(s, b, 0, 32, room, to)
 }
 
-// A request in range from a calm state, with room for the most records: the number of records that it makes.
+// A request in range from a state that is not refused, with room for the most records: the number of records that it makes. They
+// may be late.
 pub fn plan(s: Settings, planner: &mut [u8], q: Request, room: &mut [u8]) -> usize
     requires { ⌜ valid s ≡ true ⌝ }
     requires { ⌜ plannerRight (contextOf s) (now planner) ≡ true ⌝ }
-    requires { ⌜ isCalm (now planner) ≡ true ⌝ }
     requires { ⌜ InRange s q ⌝ }
     requires { ⌜ 576 ≤ length (now room) ⌝ }
     ensures { λ _. ⌜ now (planner .exit) ≡ plannerBytes (planned (contextOf s) q (plannerIn (now (planner .entry))) .planner) ⌝ }
@@ -112,19 +115,44 @@ pub fn plan(s: Settings, planner: &mut [u8], q: Request, room: &mut [u8]) -> usi
     }
 }
 
+// Whether a time after now passes the last instant, which is stored less 3.
+fn ends_by(b: &[u8], delay: u32) -> bool
+    requires { ⌜ length (now b) ≡ 768 ⌝ }
+    ensures { λ r. ⌜ r ≡ leb (since (word (now (b .entry)) 752) delay) 999999997 ⌝ }
+{
+    after(b, 752, delay) <= 999999997
+}
+
 // Whether refusal 7 has nothing against a request from a calm state: a wait alone can pass the last instant.
 pub fn in_time(s: Settings, planner: &[u8], q: Request) -> bool
     requires { ⌜ valid s ≡ true ⌝ }
     requires { ⌜ plannerRight (contextOf s) (now planner) ≡ true ⌝ }
     requires { ⌜ isCalm (now planner) ≡ true ⌝ }
-    requires { ⌜ InRange s q ⌝ }
     ensures { λ r. ⌜ r ≡ timely (contextOf s) (planned (contextOf s) q (plannerIn (now (planner .entry)))) ⌝ }
 {
     match q {
         Request::Read(_) => true,
         Request::Write(_, _, _) => true,
         Request::Refresh => true,
-        Request::Wait(cycles) => after(planner, 752, cycles) <= 999999997,
+        Request::Wait(cycles) => ends_by(planner, cycles),
         Request::Drain => true,
+    }
+}
+
+// The same from any state, once the request is planned, by the bytes that it left: its last instant is that of its own data, or now.
+// What a wait leaves may have passed 2^32.
+pub fn left_in_time(s: Settings, planner: &[u8], q: Request, left: &[u8]) -> bool
+    requires { ⌜ valid s ≡ true ⌝ }
+    requires { ⌜ plannerRight (contextOf s) (now planner) ≡ true ⌝ }
+    requires { ⌜ InRange s q ⌝ }
+    requires { ⌜ now left ≡ plannerBytes (planned (contextOf s) q (plannerIn (now planner)) .planner) ⌝ }
+    ensures { λ r. ⌜ r ≡ timely (contextOf s) (planned (contextOf s) q (plannerIn (now (planner .entry)))) ⌝ }
+{
+    match q {
+        Request::Read(_) => ends_by(left, s.cac),
+        Request::Write(_, _, _) => ends_by(left, s.cwd),
+        Request::Refresh => ends_by(left, 0),
+        Request::Wait(cycles) => ends_by(planner, cycles),
+        Request::Drain => ends_by(left, 0),
     }
 }

@@ -26,12 +26,12 @@ use Rattle.spec_rules.proofs.Bools.{not-both}
 use Rattle.spec_rules.proofs.TrackLaws.{buffer-waiting}
 use Rattle.spec_state.specs.Valid.{bankValid}
 use Rattle.spec_state.specs.form.Stores.{closeStored}
-use Rattle.spec_state.proofs.RoundTrip.{Kept}
+use Rattle.spec_state.proofs.RoundTrip.{Back, some-back, Kept}
 use Rattle.spec_state.proofs.StoreLaws.{refp-stored}
 use Rattle.spec_plan.specs.declared.PlannerState.{PlannerState}
 use Rattle.spec_plan.specs.Plan.{Draft, rowPacket, stateIn, sent}
 use Rattle.spec_plan.specs.PlannerBytes.{plannerBytes, plannerIn}
-use Rattle.spec_plan.proofs.Invariant.{Inv, valid-tested}
+use Rattle.spec_plan.proofs.Invariant.{Inv}
 use Rattle.spec_plan.proofs.SentLaws.{sent-size, sent-state, sent-due, sent-refresh, sent-mask, sent-second, row-gone, row-waiting}
 use Rattle.spec_plan.proofs.PlannerRoundTrip.{planner-back}
 use Rattle.plan_bytes.specs.form.Numbers.{nowStored}
@@ -45,7 +45,7 @@ use Rattle.plan_rows.specs.form.Slots.{closeAt}
 use Rattle.plan_rows.proofs.Slots.{refp-slot}
 use Rattle.plan_rows.proofs.Rows.{row-drawn}
 
-module _ (s : Settings) (top : ℕ) (b : List ℕ) (k : Ready s top b) (h : top ≤ 999998000) (x : ℕ) (l : x < 32) (shut : NearShut s b x) where
+module _ (s : Settings) (top : ℕ) (b : List ℕ) (k : Ready s top b) (h : top ≤ 1000008000) (x : ℕ) (l : x < 32) (shut : NearShut s b x) where
   abbrev cx : Context
   cx = contextOf s
 
@@ -79,10 +79,9 @@ module _ (s : Settings) (top : ℕ) (b : List ℕ) (k : Ready s top b) (h : top 
   unfolding bankValid bankCount
   kept =
       record {
-        size = sent-size cx refa d ∙ known .size;
-        stamped = marked .stamped;
+        instants = marked .instants;
         rows-in = λ y m. rw (state-in y m) (either (eqb y x) (stateIn d y) (known .banked .rows-in y m));
-        write = rw (row-waiting cx (Refa x) d) (valid-tested cx (plannerIn b) (readies s top b k .right) .write);
+        write-in = rw (row-waiting cx (Refa x) d) (known .held .write-in);
       }
     where
       either : (q : Bool) (a : Bank) → bankValid cx a ≡ true → bankValid cx (cond q Refresh a) ≡ true
@@ -112,7 +111,7 @@ module _ (s : Settings) (top : ℕ) (b : List ℕ) (k : Ready s top b) (h : top 
     unfolding bankCount contextOf
     mid-back =
         let p : PlannerState = z .planner in
-        let now : isInstant (p .now .0) ≡ true = rw (le-leb 4 (p .now .0) (marked .low), le-leb (p .now .0) horizon (omega (arith, marked .now))) in
+        let now : Back (p .now .0) = some-back (p .now .0) (marked .low) (omega (arith, marked .now)) in
         let refresh : p .refresh < 2 ^ 16 = rw (sent-refresh cx refa d) (omega (arith, known .refresh-in)) in
         ap plannerIn e ∙ planner-back cx (readies s top b k .figures) p kept now refresh (rw (sent-mask cx refa d, row-gone cx (Refa x) d) (known .mask-in)) (rw (sent-second cx refa d) (known .second-in))
 

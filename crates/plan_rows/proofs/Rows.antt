@@ -67,7 +67,7 @@ module _ (s : Settings) (b : List ℕ) where
 
 -- ---- on ready bytes
 
-module _ (s : Settings) (top : ℕ) (b : List ℕ) (k : Ready s top b) (h : top ≤ 999999000) where
+module _ (s : Settings) (top : ℕ) (b : List ℕ) (k : Ready s top b) (h : top ≤ 1000009000) where
   abbrev p : PlannerState
   p = plannerIn b
 

@@ -83,7 +83,7 @@ fn close(s: Settings, b: &mut [u8], x: usize, word: u64, room: &mut [u8], to: us
 
 // PRER, to a bank that is open.
 pub fn prer(s: Settings, b: &mut [u8], x: usize, room: &mut [u8], to: usize) -> usize
-    requires { ⌜ Ready s 999999000 (now b) ⌝ }
+    requires { ⌜ Ready s 1000009000 (now b) ⌝ }
     requires { ⌜ length (now b) ≡ 768 ⌝ }
     requires { ⌜ x < 32 ⌝ }
     requires { ⌜ OpenAt (now b) x ⌝ }
@@ -171,7 +171,7 @@ fn open_at(s: Settings, b: &[u8], bank: u32) -> u64
 
 // ACT, to a bank that is closed with its neighbours.
 pub fn act(s: Settings, b: &mut [u8], bank: u32, row: u32, room: &mut [u8], to: usize) -> usize
-    requires { ⌜ Ready s 999999000 (now b) ⌝ }
+    requires { ⌜ Ready s 1000009000 (now b) ⌝ }
     requires { ⌜ length (now b) ≡ 768 ⌝ }
     requires { ⌜ bank < 32 ⌝ }
     requires { ⌜ to + 32 ≤ length (now room) ⌝ }
@@ -187,7 +187,7 @@ pub fn act(s: Settings, b: &mut [u8], bank: u32, row: u32, room: &mut [u8], to: 
 
 // REFA, to a bank that is closed with its neighbours.
 fn refa(s: Settings, b: &mut [u8], bank: u32, room: &mut [u8], to: usize) -> usize
-    requires { ⌜ Ready s 999999000 (now b) ⌝ }
+    requires { ⌜ Ready s 1000009000 (now b) ⌝ }
     requires { ⌜ length (now b) ≡ 768 ⌝ }
     requires { ⌜ bank < 32 ⌝ }
     requires { ⌜ to + 32 ≤ length (now room) ⌝ }
@@ -203,7 +203,7 @@ fn refa(s: Settings, b: &mut [u8], bank: u32, room: &mut [u8], to: usize) -> usi
 
 // REFA, then REFP.
 pub fn refresh_bank(s: Settings, b: &mut [u8], bank: u32, room: &mut [u8], to: usize) -> usize
-    requires { ⌜ Ready s 999998000 (now b) ⌝ }
+    requires { ⌜ Ready s 1000008000 (now b) ⌝ }
     requires { ⌜ length (now b) ≡ 768 ⌝ }
     requires { ⌜ bank < 32 ⌝ }
     requires { ⌜ NearShut s (now b) bank ⌝ }

@@ -54,21 +54,21 @@ module _ (s : Settings) (top : ℕ) (b : List ℕ) (k : Ready s top b) where
   good = record { trace = trace-start cx (plannerIn b); inv = inv s top b k }
 
   -- the bytes of a draft that a step has come to
-  pub after-of : (hi high : ℕ) (z : Draft) → hi ≤ high + 3 → high ≤ 999999000 → Marked s hi z → Good cx (plannerIn b) z → (b1 : List ℕ) → b1 ≡ plannerBytes (z .planner) → After s high z b1
+  pub after-of : (hi high : ℕ) (z : Draft) → hi ≤ high + 3 → high ≤ 1000009000 → Marked s hi z → Good cx (plannerIn b) z → (b1 : List ℕ) → b1 ≡ plannerBytes (z .planner) → After s high z b1
   after-of hi high z l h m g b1 e = after-step s (readies s top b k .figures) high z (omega arith) (marked-more s hi (high + 3) l z m) (g .inv) b1 e
 
   -- ---- NOCOP while the waiting writes pass a test, at most twice
 
-  module _ (h : top ≤ 999998000) (test : List Write → Bool) (quiet : test [] ≡ false) where
+  module _ (h : top ≤ 1000008000) (test : List Write → Bool) (quiet : test [] ≡ false) where
     abbrev step : Draft → Draft
     step y = when (test (waiting y)) (flushed cx) y
 
     abbrev once : Draft
     once = step d
 
-    once-after : (b1 : List ℕ) → b1 ≡ plannerBytes (once .planner) → After s 999999000 once b1
+    once-after : (b1 : List ℕ) → b1 ≡ plannerBytes (once .planner) → After s 1000009000 once b1
     once-after =
-        after-of (top + 3 + 64) 999999000 once (omega arith) (omega arith) (marked-when s (readies s top b k .figures) (test (waiting d)) (top + 3) d (start s top b k) (omega arith))
+        after-of (top + 3 + 64) 1000009000 once (omega arith) (omega arith) (marked-when s (readies s top b k .figures) (test (waiting d)) (top + 3) d (start s top b k) (omega arith))
         (when-either (Good cx (plannerIn b)) (test (waiting d)) (flushed cx) d (λ _. good-flushed cx (split-neighbours s) (plannerIn b) d good) (λ _. good))
 
     -- it passes only where a write waits
@@ -102,7 +102,7 @@ module _ (s : Settings) (top : ℕ) (b : List ℕ) (k : Ready s top b) where
           once-drawn : Drawn s once room at b1 room1 to1
           once-drawn = rw e w
 
-          pub again-after : After s 999999000 once b1
+          pub again-after : After s 1000009000 once b1
           again-after = once-after b1 (once-drawn .planner)
 
           module _ (q : Bool) (f : q ≡ test (waiting (drafted b1))) where
@@ -115,16 +115,16 @@ module _ (s : Settings) (top : ℕ) (b : List ℕ) (k : Ready s top b) where
 
   -- ---- a bank closed
 
-  module _ (h : top ≤ 999998000) (x : ℕ) (l : x < 32) where
+  module _ (h : top ≤ 1000008000) (x : ℕ) (l : x < 32) where
     abbrev lost : List Write → Bool
     lost = anyWrite (λ w. near cx x (w .bank))
 
     abbrev saved : Draft
     saved = flushedWhile cx lost d
 
-    pub saved-after : (b1 : List ℕ) → b1 ≡ plannerBytes (saved .planner) → After s 999999000 saved b1
+    pub saved-after : (b1 : List ℕ) → b1 ≡ plannerBytes (saved .planner) → After s 1000009000 saved b1
     saved-after =
-        after-of (top + 3 + 128) 999999000 saved (omega arith) (omega arith) (marked-while s (readies s top b k .figures) lost (top + 3) d (start s top b k) (omega arith))
+        after-of (top + 3 + 128) 1000009000 saved (omega arith) (omega arith) (marked-while s (readies s top b k .figures) lost (top + 3) d (start s top b k) (omega arith))
         (good-while cx (split-neighbours s) (plannerIn b) d good lost refl)
 
     pub saved-open : (b1 : List ℕ) → plannerIn b1 ≡ saved .planner → OpenAt b x → OpenAt b1 x
@@ -156,17 +156,17 @@ module _ (s : Settings) (top : ℕ) (b : List ℕ) (k : Ready s top b) where
 
   -- ---- the open ones of a range, bank after bank
 
-  module _ (h : top ≤ 999991000) (first end : ℕ) (m : end ≤ 32) where
+  module _ (h : top ≤ 1000001000) (first end : ℕ) (m : end ≤ 32) where
     abbrev pick : ℕ → Bool
     pick y = leb first y
 
     abbrev upTo : ℕ → Draft
     upTo n = closedUpTo cx pick n d
 
-    pub up-to-after : (n : ℕ) → n ≤ end → (b1 : List ℕ) → b1 ≡ plannerBytes (upTo n .planner) → After s 999998000 (upTo n) b1
+    pub up-to-after : (n : ℕ) → n ≤ end → (b1 : List ℕ) → b1 ≡ plannerBytes (upTo n .planner) → After s 1000008000 (upTo n) b1
     unfolding bankCount
     up-to-after n l =
-        after-of (top + 3 + 192 * n) 999998000 (upTo n) (omega arith) (omega arith) (marked-up-to s (readies s top b k .figures) pick n (top + 3) d (start s top b k) (omega arith))
+        after-of (top + 3 + 192 * n) 1000008000 (upTo n) (omega arith) (omega arith) (marked-up-to s (readies s top b k .figures) pick n (top + 3) d (start s top b k) (omega arith))
         (good-up-to cx (split-neighbours s) (plannerIn b) d good pick n (omega arith))
 
     -- before the first turn of the loop
@@ -195,13 +195,13 @@ module _ (s : Settings) (top : ℕ) (b : List ℕ) (k : Ready s top b) where
 
   -- ---- the bank and its neighbours closed
 
-  module _ (h : top ≤ 999990000) (x : ℕ) where
+  module _ (h : top ≤ 999999997) (x : ℕ) where
     abbrev cleared : Draft
     cleared = closedUpTo cx (near cx x) bankCount d
 
-    pub cleared-after : (b1 : List ℕ) → b1 ≡ plannerBytes (cleared .planner) → After s 999998000 cleared b1
+    pub cleared-after : (b1 : List ℕ) → b1 ≡ plannerBytes (cleared .planner) → After s 1000008000 cleared b1
     cleared-after =
-        after-of (top + 3 + 6144) 999998000 cleared (omega arith) (omega arith) (marked-all s (readies s top b k .figures) (near cx x) (top + 3) d (start s top b k) (omega arith))
+        after-of (top + 3 + 6144) 1000008000 cleared (omega arith) (omega arith) (marked-all s (readies s top b k .figures) (near cx x) (top + 3) d (start s top b k) (omega arith))
         (good-cleared cx (split-neighbours s) (plannerIn b) d good x .0)
 
     pub cleared-shut : (b1 : List ℕ) → plannerIn b1 ≡ cleared .planner → NearShut s b1 x

@@ -57,7 +57,7 @@ fn loses(s: Settings, b: &[u8], bank: u32) -> bool
 
 // NOCOP where a test has passed that no empty buffer passes.
 fn flush_if(s: Settings, b: &mut [u8], test: bool, room: &mut [u8], to: usize) -> usize
-    requires { ⌜ Ready s 999999000 (now b) ⌝ }
+    requires { ⌜ Ready s 1000009000 (now b) ⌝ }
     requires { ⌜ length (now b) ≡ 768 ⌝ }
     requires { ⌜ (test ≡ true → anyWaits (waiting (drafted (now b))) ≡ true) ⌝ }
     requires { ⌜ Fits (when test (flushed (contextOf s)) (drafted (now b))) (now room) to ⌝ }
@@ -71,7 +71,7 @@ fn flush_if(s: Settings, b: &mut [u8], test: bool, room: &mut [u8], to: usize) -
 
 // NOCOP until no write waits that a PRER to a bank would lose.
 fn flush_losing(s: Settings, b: &mut [u8], bank: u32, room: &mut [u8], to: usize) -> usize
-    requires { ⌜ Ready s 999998000 (now b) ⌝ }
+    requires { ⌜ Ready s 1000008000 (now b) ⌝ }
     requires { ⌜ length (now b) ≡ 768 ⌝ }
     requires { ⌜ Fits (flushedWhile (contextOf s) (anyWrite (λ w. near (contextOf s) bank (w .bank))) (drafted (now b))) (now room) to ⌝ }
     ensures { λ r. ⌜ Drawn s (flushedWhile (contextOf s) (anyWrite (λ w. near (contextOf s) bank (w .bank))) (drafted (now (b .entry)))) (now (room .entry)) to (now (b .exit)) (now (room .exit)) r ⌝ }
@@ -86,7 +86,7 @@ fn flush_losing(s: Settings, b: &mut [u8], bank: u32, room: &mut [u8], to: usize
 
 // NOCOP until an RD may come.
 pub fn flush_delaying(s: Settings, b: &mut [u8], at: Place, room: &mut [u8], to: usize) -> usize
-    requires { ⌜ Ready s 999998000 (now b) ⌝ }
+    requires { ⌜ Ready s 1000008000 (now b) ⌝ }
     requires { ⌜ length (now b) ≡ 768 ⌝ }
     requires { ⌜ Fits (flushedWhile (contextOf s) (delays at) (drafted (now b))) (now room) to ⌝ }
     ensures { λ r. ⌜ Drawn s (flushedWhile (contextOf s) (delays at) (drafted (now (b .entry)))) (now (room .entry)) to (now (b .exit)) (now (room .exit)) r ⌝ }
@@ -101,7 +101,7 @@ pub fn flush_delaying(s: Settings, b: &mut [u8], at: Place, room: &mut [u8], to:
 
 // NOCOP until no write waits.
 pub fn flush_all(s: Settings, b: &mut [u8], room: &mut [u8], to: usize) -> usize
-    requires { ⌜ Ready s 999998000 (now b) ⌝ }
+    requires { ⌜ Ready s 1000008000 (now b) ⌝ }
     requires { ⌜ length (now b) ≡ 768 ⌝ }
     requires { ⌜ Fits (flushedWhile (contextOf s) anyWaits (drafted (now b))) (now room) to ⌝ }
     ensures { λ r. ⌜ Drawn s (flushedWhile (contextOf s) anyWaits (drafted (now (b .entry)))) (now (room .entry)) to (now (b .exit)) (now (room .exit)) r ⌝ }
@@ -116,7 +116,7 @@ pub fn flush_all(s: Settings, b: &mut [u8], room: &mut [u8], to: usize) -> usize
 
 // "each by PRER"; "The planner sends NOCOP [..] before a read or a PRER until the write concerned has retired"
 fn close_bank(s: Settings, b: &mut [u8], x: usize, room: &mut [u8], to: usize) -> usize
-    requires { ⌜ Ready s 999998000 (now b) ⌝ }
+    requires { ⌜ Ready s 1000008000 (now b) ⌝ }
     requires { ⌜ length (now b) ≡ 768 ⌝ }
     requires { ⌜ x < 32 ⌝ }
     requires { ⌜ OpenAt (now b) x ⌝ }
@@ -129,7 +129,7 @@ fn close_bank(s: Settings, b: &mut [u8], x: usize, room: &mut [u8], to: usize) -
 
 // The same where the bank is open.
 fn close_open(s: Settings, b: &mut [u8], x: usize, room: &mut [u8], to: usize) -> usize
-    requires { ⌜ Ready s 999998000 (now b) ⌝ }
+    requires { ⌜ Ready s 1000008000 (now b) ⌝ }
     requires { ⌜ length (now b) ≡ 768 ⌝ }
     requires { ⌜ x < 32 ⌝ }
     requires { ⌜ Fits (when (not (isClosed (stateIn (drafted (now b)) x))) (closed (contextOf s) x) (drafted (now b))) (now room) to ⌝ }
@@ -150,7 +150,7 @@ pub fn close_from(
     room: &mut [u8],
     start: usize,
 ) -> usize
-    requires { ⌜ Ready s 999991000 (now b) ⌝ }
+    requires { ⌜ Ready s 1000001000 (now b) ⌝ }
     requires { ⌜ length (now b) ≡ 768 ⌝ }
     requires { ⌜ first ≤ end ⌝ }
     requires { ⌜ end ≤ 32 ⌝ }
@@ -168,7 +168,7 @@ pub fn close_from(
 
 // "of the bank and its neighbours, close the open ones"
 pub fn close_near(s: Settings, b: &mut [u8], x: usize, room: &mut [u8]) -> usize
-    requires { ⌜ Ready s 999990000 (now b) ⌝ }
+    requires { ⌜ Ready s 999999997 (now b) ⌝ }
     requires { ⌜ length (now b) ≡ 768 ⌝ }
     requires { ⌜ x < 32 ⌝ }
     requires { ⌜ Fits (closedUpTo (contextOf s) (near (contextOf s) x) bankCount (drafted (now b))) (now room) 0 ⌝ }
@@ -190,7 +190,7 @@ fn on_row(b: &[u8], bank: u32, row: u32) -> bool
 }
 
 fn open_row(s: Settings, b: &mut [u8], bank: u32, row: u32, room: &mut [u8]) -> usize
-    requires { ⌜ Ready s 999990000 (now b) ⌝ }
+    requires { ⌜ Ready s 999999997 (now b) ⌝ }
     requires { ⌜ length (now b) ≡ 768 ⌝ }
     requires { ⌜ bank < 32 ⌝ }
     requires { ⌜ row < s .rows ⌝ }
@@ -203,7 +203,7 @@ fn open_row(s: Settings, b: &mut [u8], bank: u32, row: u32, room: &mut [u8]) -> 
 
 // "To reach a row that is not open".
 pub fn reach(s: Settings, b: &mut [u8], bank: u32, row: u32, room: &mut [u8]) -> usize
-    requires { ⌜ Ready s 999990000 (now b) ⌝ }
+    requires { ⌜ Ready s 999999997 (now b) ⌝ }
     requires { ⌜ length (now b) ≡ 768 ⌝ }
     requires { ⌜ bank < 32 ⌝ }
     requires { ⌜ row < s .rows ⌝ }

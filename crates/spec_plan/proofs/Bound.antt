@@ -224,9 +224,9 @@ module _ (s : Settings) where
         open-half s (stateIn d) b,
       )
 
-  pub most : (p : PlannerState) → plannerValid (contextOf s) p ≡ true → (q : Request) → length (planned (contextOf s) q p .records) ≤ 18
+  pub most-made : (p : PlannerState) → Inv (contextOf s) p → (q : Request) → length (planned (contextOf s) q p .records) ≤ 18
   unfolding planned stepsOf plannedRead plannedWrite plannedRefresh turned plannedWait
-  most p v q = go q (valid-inv (contextOf s) p v)
+  most-made p v q = go q v
     where
       d : Draft
       d = record { planner = p; records = [] }
@@ -262,6 +262,10 @@ module _ (s : Settings) where
           )
       go (Wait cycles) k = omega arith
       go Drain k = omega (arith, records-cost (plannedDrain (contextOf s) d), drained-cost d (k .size) (k .banked), start-cost p)
+
+  -- from a state that is not refused
+  pub most : (p : PlannerState) → plannerValid (contextOf s) p ≡ true → (q : Request) → length (planned (contextOf s) q p .records) ≤ 18
+  most p v q = most-made p (valid-inv (contextOf s) p v) q
 
 -- ---- a drain that makes 18: two writes wait, and sixteen banks are open
 

@@ -26,6 +26,7 @@ use Rattle.spec_rules.specs.Channel.{trackOf, stateOf, waitingOf, dueOf}
 use Rattle.spec_rules.specs.Earliest.{fits}
 use Rattle.spec_rules.proofs.Bools.{not-both, and-left, and-right, neither}
 use Rattle.spec_state.specs.Valid.{bankValid, trackValid, writeValid, lastsValid, apart, channelValid}
+use Rattle.spec_state.proofs.RoundTrip.{WritesIn, in-write}
 use Rattle.spec_plan.specs.declared.PlannerState.{PlannerState}
 use Rattle.spec_plan.specs.Planner.{notRefresh, plannerValid}
 use Rattle.spec_plan.specs.Plan.{carried, shifted}
@@ -35,11 +36,6 @@ pub record Banked (cx : Context) (state : ℕ → Bank) : Type 0 where
   pub rows-in : (x : ℕ) → x < bankCount → bankValid cx (state x) ≡ true
   pub no-refresh : (x : ℕ) → x < bankCount → notRefresh (state x) ≡ true
   pub one-closed : (x y : ℕ) → x < bankCount → y < bankCount → cx .nbr x y ≡ true → isClosed (state x) || isClosed (state y) ≡ true
-
--- the bank and column of each waiting write are in range
-abbrev pub WritesIn : Context → List Write → Type 0
-WritesIn cx [] = Unit {0}
-WritesIn cx (w ∷ ws) = ((w .bank < bankCount) × (w .column < cx .settings .columns)) × WritesIn cx ws
 
 -- each bank of a waiting write is open by ACT
 abbrev pub allOpen : (ℕ → Bank) → List Write → Bool
@@ -117,15 +113,6 @@ tested-valid cx p t =
 
 or-else : (a b : Bool) → not a || b ≡ true → a ≡ true → b ≡ true
 or-else a b h e = rw e at h
-
-in-write : (cx : Context) (ws : List Write) → allWrites (writeValid cx) ws ≡ true → WritesIn cx ws
-unfolding writeValid
-in-write cx [] h = tt
-in-write cx (w ∷ ws) h =
-    let g = and-left (writeValid cx w) _ h in (
-      (ltb-true _ _ (and-left (ltb (w .bank) bankCount) _ g), ltb-true _ _ (and-left (ltb (w .column) (cx .settings .columns)) _ (and-right (ltb (w .bank) bankCount) _ g))),
-      in-write cx ws (and-right (writeValid cx w) _ h),
-    )
 
 pub valid-inv : (cx : Context) (p : PlannerState) → plannerValid cx p ≡ true → Inv cx p
 unfolding trackValid apart

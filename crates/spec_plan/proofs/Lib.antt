@@ -9,6 +9,7 @@ pub mod Legal
 pub mod Least
 pub mod Refused
 pub mod Bound
+pub mod Timely
 pub mod DataFree
 pub mod PlannerRoundTrip
 pub mod Early

@@ -31,10 +31,11 @@ use Rattle.spec_rules.specs.Channel.{newestDue, dueOf, bankNext, afterData, aft
 use Rattle.spec_rules.specs.Earliest.{placedAt, under, fits, soonest, leastFrom}
 use Rattle.spec_rules.proofs.Bools.{not-both, and-right, neither}
 use Rattle.spec_rules.proofs.EarliestLaws.{able, picked-late}
+use Rattle.spec_state.proofs.RoundTrip.{WritesIn}
 use Rattle.spec_plan.specs.declared.PlannerState.{PlannerState}
 use Rattle.spec_plan.specs.Plan.{Draft, rowPacket, colPacket, waiting, stateIn, openOn, anyWaits, slot, leaver, sent, flushed, flushedWhile, loses, closed, closedUpTo, cleared, delays, reached, plannedRead, loaded, written, plannedWrite, turned, plannedRefresh, plannedDrain}
 use Rattle.spec_plan.proofs.SentLaws.{when-either, sent-now, sent-mask, sent-second, sent-refresh, sent-size, sent-state, sent-due, sent-waiting, row-waiting, read-waiting, flushed-waiting, while-keeps, while-ends, while-state, saved, saved-far, up-to-picked}
-use Rattle.spec_plan.proofs.Invariant.{Banked, WritesIn, allOpen, inBanks, none-picked, Held, Inv, NearClosed, Changed, banked-shut, banked-open, held-far, far-other, held-stays, left-in, left-open, queued-in, queued-open, first-open, fits-by, free-near, shifted-in}
+use Rattle.spec_plan.proofs.Invariant.{Banked, allOpen, inBanks, none-picked, Held, Inv, NearClosed, Changed, banked-shut, banked-open, held-far, far-other, held-stays, left-in, left-open, queued-in, queued-open, first-open, fits-by, free-near, shifted-in}
 use Rattle.spec_plan.proofs.Trace.{Trace, trace-sent, trace-loaded}
 
 -- planner p has come this far in a call

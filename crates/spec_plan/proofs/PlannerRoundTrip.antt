@@ -21,7 +21,8 @@ use Rattle.spec_state.specs.Valid.{channelValid}
 use Rattle.spec_state.specs.ChannelBytes.{instantBytes, channelBytes, channelIn, zeroPart, channelSpare}
 use Rattle.spec_state.proofs.PlaneLaws.{part-split, part-both}
 use Rattle.spec_state.proofs.Lengths.{channel-length, channel-bytes}
-use Rattle.spec_state.proofs.RoundTrip.{instant-back, zero-back, instant-in, zero-in, Kept, channel-back, valid-kept, channel-encode-decode}
+use Rattle.spec_state.proofs.RoundTrip.{Back, stamp-back, instant-back, zero-back, instant-in, zero-in, Kept, channel-back, valid-kept, channel-encode-decode}
+use Rattle.spec_state.proofs.Stamps.{instant-stamp}
 use Rattle.spec_plan.specs.declared.PlannerState.{PlannerState}
 use Rattle.spec_plan.specs.Planner.{plannerValid}
 use Rattle.spec_plan.specs.PlannerBytes.{plannerLength, plannerBytes, plannerIn, plannerRight}
@@ -66,7 +67,7 @@ parts p =
     record { channel = p0 .0; now = p1 .0; refresh = p2 .0; after-refresh = p3 .0; mask = p4 .0; second = p5 .0; after-masks = p5 .1 }
 
 -- the state that the bytes say, where each number fits them
-module _ (cx : Context) (v : valid (cx .settings) ≡ true) (p : PlannerState) (k : Kept cx (p .channel)) (t : isInstant (p .now .0) ≡ true) (f : p .refresh < 2 ^ 16) (m : p .mask < 2 ^ 16)
+module _ (cx : Context) (v : valid (cx .settings) ≡ true) (p : PlannerState) (k : Kept cx (p .channel)) (t : Back (p .now .0)) (f : p .refresh < 2 ^ 16) (m : p .mask < 2 ^ 16)
     (n : p .second < 2 ^ 16) where
   channel-said : (channelIn (plannerBytes p) ≡ p .channel) × (channelSpare (plannerBytes p) ≡ true)
   channel-said = channel-back cx (p .channel) (plannerBytes p) v k (rw planner-length (omega arith)) (parts p .channel)
@@ -77,7 +78,7 @@ module _ (cx : Context) (v : valid (cx .settings) ≡ true) (p : PlannerState) (
       let q : Parts (plannerBytes p) p = parts p in
       rw (
         channel-said .0,
-        instant-back (plannerBytes p) 752 (p .now) (q .now) (rw t (or-true (eqb (p .now .0) 0))),
+        instant-back (plannerBytes p) 752 (p .now) (q .now) t,
         q .refresh,
         number-bytes 2 (p .refresh) f,
         q .mask,
@@ -94,6 +95,9 @@ module _ (cx : Context) (v : valid (cx .settings) ≡ true) (p : PlannerState) (
   unfolding plannerValid
   kept = valid-kept cx (p .channel) (and-left (channelValid cx (p .channel)) _ k)
 
+  now-back : Back (p .now .0)
+  now-back = stamp-back (p .now .0) (instant-stamp (p .now .0) (tested .now-in))
+
   refresh-fits : p .refresh < 2 ^ 16
   unfolding bankCount
   refresh-fits = omega (arith, ltb-true (p .refresh) 32 (tested .refresh-in))
@@ -105,13 +109,13 @@ module _ (cx : Context) (v : valid (cx .settings) ≡ true) (p : PlannerState) (
   second-fits = ltb-true (p .second) 0x10000 (tested .second-in)
 
   pub planner-decode-encode : plannerIn (plannerBytes p) ≡ p
-  planner-decode-encode = planner-back cx v p kept (tested .now-in) refresh-fits mask-fits second-fits
+  planner-decode-encode = planner-back cx v p kept now-back refresh-fits mask-fits second-fits
 
   pub planner-right : plannerRight cx (plannerBytes p) ≡ true
   unfolding plannerRight plannerLength
   planner-right =
       let q : Parts (plannerBytes p) p = parts p in
-      let spare = channel-said cx v p kept (tested .now-in) refresh-fits mask-fits second-fits .1 in
+      let spare = channel-said cx v p kept now-back refresh-fits mask-fits second-fits .1 in
       rw (planner-length p, spare, zero-back (plannerBytes p) 758 2 (q .after-refresh), zero-back (plannerBytes p) 764 4 (q .after-masks), planner-decode-encode, k)
 
 -- ---- read, then written

@@ -24,13 +24,14 @@ use Rattle.spec_rules.specs.Channel.{idle, fresh, trackOf, stateOf, waitingOf}
 use Rattle.spec_rules.specs.Earliest.{earliest}
 use Rattle.spec_rules.proofs.Bools.{and-left, and-right}
 use Rattle.spec_state.specs.Valid.{bankValid, trackValid, writeValid, lastsValid, apart, channelValid}
-use Rattle.spec_state.proofs.AfterLaws.{after-size}
-use Rattle.spec_state.proofs.Stamps.{WriteStamps, Stamped, stamps-track, after-stamped, fresh-stamped}
+use Rattle.spec_state.proofs.EachInstant.{WritesAll}
+use Rattle.spec_state.proofs.Stamps.{IsInstant, Stamped, stamps-track, after-stamped, fresh-stamped}
 use Rattle.spec_state.proofs.NextValid.{valid-sound}
+use Rattle.spec_state.proofs.RoundTrip.{WritesIn}
 use Rattle.spec_plan.specs.declared.PlannerState.{PlannerState}
 use Rattle.spec_plan.specs.Planner.{freshPlanner, notRefresh, plannerValid}
 use Rattle.spec_plan.specs.Call.{timely, inTime, planNext, planRecords}
-use Rattle.spec_plan.proofs.Invariant.{Inv, WritesIn, valid-tested, tested-valid, valid-inv}
+use Rattle.spec_plan.proofs.Invariant.{Inv, valid-tested, tested-valid, valid-inv}
 use Rattle.spec_plan.proofs.Trace.{Each, channelBy, Placed}
 use Rattle.spec_plan.proofs.CallLaws.{Made, InTime, each-in-time, called, call-made, call-timely, call-in-time}
 
@@ -43,21 +44,19 @@ earliest-low cx ch r = le-max 4 _
     le-max : (a b : ℕ) → a ≤ max a b
     le-max a b = omega arith
 
-by-stamped : (cx : Context) (p : PlannerState) → length (p .channel .banks) ≡ bankCount → Stamped (p .channel)
-    → (es : List Record) → Each (Placed cx p) es → Each (InTime cx) es
-    → (length (channelBy cx (p .channel) es .banks) ≡ bankCount) × Stamped (channelBy cx (p .channel) es)
+by-stamped : (cx : Context) (p : PlannerState) → Stamped (p .channel)
+    → (es : List Record) → Each (Placed cx p) es → Each (InTime cx) es → Stamped (channelBy cx (p .channel) es)
 unfolding channelBy
-by-stamped cx p n k [] e t = (n, k)
-by-stamped cx p n k (r ∷ es) e t =
-    let ih = by-stamped cx p n k es (e .1) (t .1) in
+by-stamped cx p k [] e t = k
+by-stamped cx p k (r ∷ es) e t =
     let ch : Channel = channelBy cx (p .channel) es in
     let low : leb 4 (instant r) ≡ true = le-leb 4 (instant r) (omega (arith, earliest-low cx ch r, e .0 .late)) in
     let high : leb (instant r) horizon ≡ true = le-leb (instant r) horizon (omega (arith, t .0)) in
-    (after-size cx ch r ∙ ih .0, after-stamped cx ch (ih .0) (ih .1) r (rw (low, high)))
+    after-stamped cx ch (by-stamped cx p k es (e .1) (t .1)) r (rw (low, high))
 
 -- ---- from the tests and back
 
-write-valid : (cx : Context) (ws : List Write) → WritesIn cx ws → WriteStamps ws → allWrites (writeValid cx) ws ≡ true
+write-valid : (cx : Context) (ws : List Write) → WritesIn cx ws → WritesAll IsInstant ws → allWrites (writeValid cx) ws ≡ true
 unfolding writeValid
 write-valid cx [] i e = refl
 write-valid cx (w ∷ ws) i e = rw (lt-ltb _ _ (i .0 .0), lt-ltb _ _ (i .0 .1), e .0) (write-valid cx ws (i .1) (e .1))
@@ -78,9 +77,9 @@ inv-valid cx p v k m =
     tested-valid cx p
     (record {
       size = eq-eqb _ _ (v .size);
-      tracks = all-intro (λ x. trackValid cx (trackOf ch x)) bankCount (λ x l. stamps-track cx (trackOf ch x) (v .banked .rows-in x l) (k .banks x l));
-      lasts = rw (k .last .right, k .row .right, k .col .right, k .pre .right, k .rd .right);
-      write = write-valid cx (waitingOf (ch .buffer)) (v .held .write-in) (k .write);
+      tracks = all-intro (λ x. trackValid cx (trackOf ch x)) bankCount (λ x l. stamps-track cx (trackOf ch x) (v .banked .rows-in x l) (k .lasts .banks x l));
+      lasts = rw (k .lasts .packet, k .lasts .row, k .lasts .col, k .lasts .pre, k .lasts .rd);
+      write = write-valid cx (waitingOf (ch .buffer)) (v .held .write-in) (k .writes);
       one-closed = all-intro (λ x. allUpTo (λ y. not (cx .nbr x y) || (isClosed (stateOf ch x) || isClosed (stateOf ch y))) bankCount) bankCount
           (λ x mx. all-intro (λ y. not (cx .nbr x y) || (isClosed (stateOf ch x) || isClosed (stateOf ch y))) bankCount
           (λ y my. not-or (cx .nbr x y) (isClosed (stateOf ch x) || isClosed (stateOf ch y)) (v .banked .one-closed x y mx my)));
@@ -126,6 +125,6 @@ next-valid cx ns p request room w v =
     let made : Made cx p (called cx p request room) = call-made cx p request room ns w inv in
     let l : List Record = planRecords cx p request room in
     let now-in : leb (p .now .0) horizon ≡ true = and-right (leb 4 (p .now .0)) _ (valid-tested cx p v .now-in) in
-    let stamped = by-stamped cx p (inv .size) (valid-stamped cx p v) (reverse l) (made .each) (each-in-time cx l (call-in-time cx p request room)) in
-    inv-valid cx (planNext cx p request room) (made .inv) (rw (made .channel) (stamped .1))
+    let stamped = by-stamped cx p (valid-stamped cx p v) (reverse l) (made .each) (each-in-time cx l (call-in-time cx p request room)) in
+    inv-valid cx (planNext cx p request room) (made .inv) (rw (made .channel) stamped)
     (leb-true _ _ (and-right (inTime cx l) _ (call-timely cx p request room now-in)))

@@ -24,10 +24,11 @@ use Rattle.spec_rules.specs.History.{bankBy, isClosed, isOpen, anyWrite, two}
 use Rattle.spec_rules.specs.Channel.{stateOf, bankNext}
 use Rattle.spec_rules.proofs.Bools.{not-both, and-left, and-right, neither}
 use Rattle.spec_state.specs.Valid.{bankValid}
+use Rattle.spec_state.proofs.RoundTrip.{WritesIn}
 use Rattle.spec_plan.specs.declared.PlannerState.{PlannerState}
 use Rattle.spec_plan.specs.Plan.{Draft, rowPacket, colPacket, waiting, stateIn, openOn, hits, anyWaits, sent, flushed, flushedWhile, closed, loses, closedUpTo, cleared, delays, reached, plannedRead, plannedWrite, turned, plannedRefresh, plannedWait, plannedDrain}
 use Rattle.spec_plan.proofs.SentLaws.{when-either, sent-size, sent-state, row-waiting, while-keeps, while-ends, while-state, saved, saved-far, up-to-waiting}
-use Rattle.spec_plan.proofs.Invariant.{WritesIn, allOpen, inBanks, Changed, NearClosed, held-far, far-other}
+use Rattle.spec_plan.proofs.Invariant.{allOpen, inBanks, Changed, NearClosed, held-far, far-other}
 use Rattle.spec_plan.proofs.PlanLaws.{Good, good-flushed, good-closed, good-cleared, good-reached}
 use Rattle.spec_model.specs.Store.{dualoctAt, dualoct, dualoctBytes, masked}
 use Rattle.spec_model.specs.Model.{freshModel, openRow, retiredTo}

@@ -36,7 +36,8 @@ use Rattle.spec_rules.proofs.BrokenLaws.{lowest-none}
 use Rattle.spec_rules.proofs.TrackLaws.{after-waits}
 use Rattle.spec_state.specs.Valid.{isStamp, bankValid, trackValid, writeValid, lastsValid, apart, channelValid}
 use Rattle.spec_state.proofs.AfterLaws.{after-size, after-due, after-state}
-use Rattle.spec_state.proofs.Stamps.{WriteStamps, Stamped, track-stamps, stamps-track, after-stamped, fresh-stamped}
+use Rattle.spec_state.proofs.EachInstant.{WritesAll}
+use Rattle.spec_state.proofs.Stamps.{IsInstant, Stamped, track-stamps, stamps-track, after-stamped, fresh-stamped}
 
 -- ---- a state that is not refused, test by test
 
@@ -56,7 +57,7 @@ not-or : (a b : Bool) → (a ≡ true → b ≡ true) → not a || b ≡ true
 not-or true b f = f refl
 not-or false b f = refl
 
-valid-write : (cx : Context) (ws : List Write) → allWrites (writeValid cx) ws ≡ true → WriteStamps ws
+valid-write : (cx : Context) (ws : List Write) → allWrites (writeValid cx) ws ≡ true → WritesAll IsInstant ws
 unfolding writeValid
 valid-write cx [] e = tt
 valid-write cx (w ∷ ws) e =
@@ -84,16 +85,20 @@ module _ (cx : Context) (ch : Channel) where
       let col = and-right (isStamp (ch .lasts .row .0)) _ row in
       let pre = and-right (isStamp (ch .lasts .col .0)) _ col in
       let pairs = and-left (apart cx (stateOf ch)) _ (and-right ranges _ e) in
+      let size : length (ch .banks) ≡ bankCount = eqb-true _ _ (and-left (eqb (length (ch .banks)) bankCount) _ a) in
       record {
-        size = eqb-true _ _ (and-left (eqb (length (ch .banks)) bankCount) _ a);
+        size = size;
         stamped = record {
-          banks = λ x m. track-stamps cx (trackOf ch x) (tracks x m);
-          last = record { right = and-left (isStamp (ch .lasts .packet .0)) _ lasts };
-          row = record { right = and-left (isStamp (ch .lasts .row .0)) _ row };
-          col = record { right = and-left (isStamp (ch .lasts .col .0)) _ col };
-          pre = record { right = and-left (isStamp (ch .lasts .pre .0)) _ pre };
-          rd = record { right = and-right (isStamp (ch .lasts .pre .0)) _ pre };
-          write = valid-write cx w (and-right (lastsValid ch) _ c);
+          lasts = record {
+            size = size;
+            banks = λ x m. track-stamps cx (trackOf ch x) (tracks x m);
+            packet = and-left (isStamp (ch .lasts .packet .0)) _ lasts;
+            row = and-left (isStamp (ch .lasts .row .0)) _ row;
+            col = and-left (isStamp (ch .lasts .col .0)) _ col;
+            pre = and-left (isStamp (ch .lasts .pre .0)) _ pre;
+            rd = and-right (isStamp (ch .lasts .pre .0)) _ pre;
+          };
+          writes = valid-write cx w (and-right (lastsValid ch) _ c);
         };
         rows-in = λ x m. and-left (bankValid cx (stateOf ch x)) _ (tracks x m);
         write = and-right (lastsValid ch) _ c;
@@ -105,13 +110,13 @@ module _ (cx : Context) (ch : Channel) where
   pub sound-valid : Sound cx ch → channelValid cx ch ≡ true
   unfolding channelValid lastsValid apart
   sound-valid k =
-      let tracks : allUpTo trackTest bankCount ≡ true = all-intro trackTest bankCount (λ x m. stamps-track cx (trackOf ch x) (k .rows-in x m) (k .stamped .banks x m)) in
+      let tracks : allUpTo trackTest bankCount ≡ true = all-intro trackTest bankCount (λ x m. stamps-track cx (trackOf ch x) (k .rows-in x m) (k .stamped .lasts .banks x m)) in
       let pairs : allUpTo (λ x. allUpTo (pairTest x) bankCount) bankCount ≡ true =
       all-intro (λ x. allUpTo (pairTest x) bankCount) bankCount
       (λ x mx. all-intro (pairTest x) bankCount (λ y my. not-or (cx .nbr x y) (isClosed (stateOf ch x) || isClosed (stateOf ch y)) (k .one-closed x y mx my)))
       in
-      let t = k .stamped in
-      rw (eq-eqb _ _ (k .size), tracks, t .last .right, t .row .right, t .col .right, t .pre .right, t .rd .right, k .write, pairs, k .opened, k .due-of)
+      let t = k .stamped .lasts in
+      rw (eq-eqb _ _ (k .size), tracks, t .packet, t .row, t .col, t .pre, t .rd, k .write, pairs, k .opened, k .due-of)
 
 pub fresh-sound : (cx : Context) → Sound cx fresh
 unfolding fresh bankCount bankValid isClosed waitingOf writeValid
@@ -328,7 +333,7 @@ module _ (cx : Context) (ns : Neighbours cx) (ch : Channel) (k : Sound cx ch) wh
       let at : (x : ℕ) → x < bankCount → stateOf (after cx ch r) x ≡ bankNext cx r x (stateOf ch x) = λ x m. after-state cx ch r x (k .size) m in
       record {
         size = after-size cx ch r ∙ k .size;
-        stamped = after-stamped cx ch (k .size) (k .stamped) r instant-in;
+        stamped = after-stamped cx ch (k .stamped) r instant-in;
         rows-in = λ x m. rw (at x m) (rows-next cx r f x (stateOf ch x) (k .rows-in x m));
         write = rw (after-waits cx ch r) (all-next cx r (writeValid cx) (waitingOf (ch .buffer)) (load-valid cx r f instant-in) (k .write));
         one-closed = λ x y mx my n. rw (at x mx, at y my) (closed-next cx ns (stateOf ch) r four (k .one-closed) x y mx my n);

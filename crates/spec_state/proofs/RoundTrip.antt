@@ -34,25 +34,37 @@ use Rattle.spec_rules.specs.Checks.{since}
 use Rattle.spec_rules.proofs.Bools.{and-left, and-right}
 use Rattle.spec_state.specs.Valid.{isStamp, bankValid, trackValid, writeValid, lastsValid, channelValid}
 use Rattle.spec_state.specs.ChannelBytes.{instantBytes, bankTag, plane, instantPlane, banksBytes, lastsBytes, countBytes, writeBytes, bufferBytes, channelBytes, instantOf, instantIn, bankIn, trackIn, tracksIn, lastsIn, writeIn, bufferIn, channelIn, zeroPart, channelSpare}
-use Rattle.spec_state.proofs.Stamps.{Stamps, Stamped}
+use Rattle.spec_state.proofs.EachInstant.{TrackAll, WritesAll, LastsAll, All, all-more}
+use Rattle.spec_state.proofs.Stamps.{Stamp, IsInstant, Stamped, instant-stamp}
 use Rattle.spec_state.proofs.NextValid.{Sound, valid-sound}
 use Rattle.spec_state.proofs.Lengths.{length-banks, length-lasts, length-count, length-write}
 use Rattle.spec_state.proofs.PlaneLaws.{length-plane, plane-at, plane-part, part-split, part-both, tracks-at, tracks-are}
 
 -- ---- one number
 
--- a last instant is read back, and so is an instant
-pub stamp-back : (t : ℕ) → isStamp t ≡ true → instantOf (number (bytes 4 (t - 3))) ≡ t
+-- an instant, or none, is read back from its four bytes
+abbrev pub Back : ℕ → Type 0
+Back t = instantOf (number (bytes 4 (t - 3))) ≡ t
+
+-- the instant of a WR is one, and read back
+abbrev pub SomeBack : ℕ → Type 0
+SomeBack t = (4 ≤ t) × Back t
+
+pub some-back : (t : ℕ) → 4 ≤ t → t < 2 ^ 32 → Back t
+some-back t l m =
+    let e : number (bytes 4 (t - 3)) ≡ t - 3 = number-bytes 4 (t - 3) (omega arith) in
+    rw (e, ne-eqb (t - 3) 0 (λ z. omega arith)) (omega arith)
+
+instant-low : (t : ℕ) → isInstant t ≡ true → (4 ≤ t) × (t ≤ horizon)
+instant-low t i = (leb-true 4 t (and-left (leb 4 t) _ i), leb-true t horizon (and-right (leb 4 t) _ i))
+
+-- those in range are
+pub stamp-back : (t : ℕ) → isStamp t ≡ true → Back t
 stamp-back t h = go (eqb t 0) refl h
   where
-    some-back : 4 ≤ t → t ≤ horizon → instantOf (number (bytes 4 (t - 3))) ≡ t
-    some-back l m =
-        let e : number (bytes 4 (t - 3)) ≡ t - 3 = number-bytes 4 (t - 3) (omega arith) in
-        rw (e, ne-eqb (t - 3) 0 (λ z. omega arith)) (omega arith)
-
-    go : (z : Bool) → eqb t 0 ≡ z → z || isInstant t ≡ true → instantOf (number (bytes 4 (t - 3))) ≡ t
+    go : (z : Bool) → eqb t 0 ≡ z → z || isInstant t ≡ true → Back t
     go true e i = rw (eqb-true t 0 e, number-bytes 4 0 (omega arith))
-    go false e i = some-back (leb-true 4 t (and-left (leb 4 t) _ i)) (leb-true t horizon (and-right (leb 4 t) _ i))
+    go false e i = let k = instant-low t i in some-back t (k .0) (omega (arith, k .1))
 
 -- a stored number is what is written of the instant that it says
 pub stored-in : (n : ℕ) → instantOf n - 3 ≡ n
@@ -90,6 +102,25 @@ tag-in n = go (eqb n 0) (eqb n 65535) refl refl
     go false true e f = sym (eqb-true n 65535 f)
     go false false e f = let z = eqb-false n 0 e in omega arith
 
+-- ---- waiting writes
+
+-- the bank and column of a write are in range
+abbrev WriteIn : Context → Write → Type 0
+WriteIn cx w = (w .bank < bankCount) × (w .column < cx .settings .columns)
+
+abbrev pub WritesIn : Context → List Write → Type 0
+WritesIn cx [] = Unit {0}
+WritesIn cx (w ∷ ws) = WriteIn cx w × WritesIn cx ws
+
+pub in-write : (cx : Context) (ws : List Write) → allWrites (writeValid cx) ws ≡ true → WritesIn cx ws
+unfolding writeValid
+in-write cx [] h = tt
+in-write cx (w ∷ ws) h =
+    let g = and-left (writeValid cx w) _ h in (
+      (ltb-true _ _ (and-left (ltb (w .bank) bankCount) _ g), ltb-true _ _ (and-left (ltb (w .column) (cx .settings .columns)) _ (and-right (ltb (w .bank) bankCount) _ g))),
+      in-write cx ws (and-right (writeValid cx w) _ h),
+    )
+
 -- ---- the parts of the bytes
 
 record Parts (b : List ℕ) (ch : Channel) : Type 0 where
@@ -126,28 +157,28 @@ parts-whole b ch p =
 -- ---- written, then read
 
 -- an instant of bank x in a plane
-plane-back : (b : List ℕ) (at : ℕ) (f : ℕ → PacketAt) (x : ℕ) → part b at 128 ≡ instantPlane f → x < 32 → isStamp (f x .0) ≡ true → instantIn b (at + 4 * x) ≡ f x
+plane-back : (b : List ℕ) (at : ℕ) (f : ℕ → PacketAt) (x : ℕ) → part b at 128 ≡ instantPlane f → x < 32 → Back (f x .0) → instantIn b (at + 4 * x) ≡ f x
 unfolding bankCount
-plane-back b at f x p l v = ap (λ (n : ℕ). record { 0 = n }) (ap (λ (q : List ℕ). instantOf (number q)) (plane-at b at 4 (λ y. f y .0 - 3) 32 x p l) ∙ stamp-back (f x .0) v)
+plane-back b at f x p l v = ap (λ (n : ℕ). record { 0 = n }) (ap (λ (q : List ℕ). instantOf (number q)) (plane-at b at 4 (λ y. f y .0 - 3) 32 x p l) ∙ v)
 
-track-back : (cx : Context) (b : List ℕ) (ch : Channel) (x : ℕ) → Parts b ch → x < 32 → cx .settings .rows ≤ 512 → Stamps (trackOf ch x)
+track-back : (cx : Context) (b : List ℕ) (ch : Channel) (x : ℕ) → Parts b ch → x < 32 → cx .settings .rows ≤ 512 → TrackAll Back (trackOf ch x)
     → bankValid cx (stateOf ch x) ≡ true → trackIn b x ≡ trackOf ch x
 unfolding trackIn
 track-back cx b ch x p l m v r =
-    let first : instantIn b (4 * x) ≡ trackOf ch x .opened = rw zero-add at (plane-back b 0 (λ y. trackOf ch y .opened) x (p .opened) l (v .opened .right)) in
+    let first : instantIn b (4 * x) ≡ trackOf ch x .opened = rw zero-add at (plane-back b 0 (λ y. trackOf ch y .opened) x (p .opened) l (v .opened)) in
     rw (
       first,
-      plane-back b 128 (λ y. trackOf ch y .act) x (p .act) l (v .act .right),
-      plane-back b 256 (λ y. trackOf ch y .pre) x (p .pre) l (v .pre .right),
-      plane-back b 384 (λ y. trackOf ch y .rd) x (p .rd) l (v .rd .right),
-      plane-back b 512 (λ y. trackOf ch y .retire) x (p .retire) l (v .retire .right),
+      plane-back b 128 (λ y. trackOf ch y .act) x (p .act) l (v .act),
+      plane-back b 256 (λ y. trackOf ch y .pre) x (p .pre) l (v .pre),
+      plane-back b 384 (λ y. trackOf ch y .rd) x (p .rd) l (v .rd),
+      plane-back b 512 (λ y. trackOf ch y .retire) x (p .retire) l (v .retire),
       plane-at b 640 2 (λ y. bankTag (trackOf ch y .bank)) 32 x (p .bank) l,
       tag-back cx (trackOf ch x .bank) m r,
     )
 
 -- an instant at its place
-pub instant-back : (b : List ℕ) (at : ℕ) (t : PacketAt) → part b at 4 ≡ instantBytes t → isStamp (t .0) ≡ true → instantIn b at ≡ t
-instant-back b at t p v = ap (λ (n : ℕ). record { 0 = n }) (ap (λ (q : List ℕ). instantOf (number q)) p ∙ stamp-back (t .0) v)
+pub instant-back : (b : List ℕ) (at : ℕ) (t : PacketAt) → part b at 4 ≡ instantBytes t → Back (t .0) → instantIn b at ≡ t
+instant-back b at t p v = ap (λ (n : ℕ). record { 0 = n }) (ap (λ (q : List ℕ). instantOf (number q)) p ∙ v)
 
 number-zeros : (n : ℕ) → number (zeros n) ≡ 0
 unfolding number
@@ -157,7 +188,7 @@ number-zeros (suc n) = rw (number-zeros n)
 pub zero-back : (b : List ℕ) (at n : ℕ) → part b at n ≡ zeros n → zeroPart b at n ≡ true
 zero-back b at n h = rw (h, number-zeros n)
 
-lasts-back : (b : List ℕ) (ch : Channel) → Stamped ch → part b 704 24 ≡ lastsBytes (ch .lasts) → (lastsIn b ≡ ch .lasts) × (zeroPart b 724 4 ≡ true)
+lasts-back : (b : List ℕ) (ch : Channel) → LastsAll Back ch → part b 704 24 ≡ lastsBytes (ch .lasts) → (lastsIn b ≡ ch .lasts) × (zeroPart b 724 4 ≡ true)
 unfolding lastsBytes lastsIn
 lasts-back b ch v h =
     let l : LastInstants = ch .lasts in
@@ -167,11 +198,11 @@ lasts-back b ch v h =
     let p4 = part-split b 716 4 8 _ _ (length-bytes 4 (l .pre .0 - 3)) (p3 .1) in
     let p5 = part-split b 720 4 4 _ _ (length-bytes 4 (l .rd .0 - 3)) (p4 .1) in (
       rw (
-        instant-back b 704 (l .packet) (p1 .0) (v .last .right),
-        instant-back b 708 (l .row) (p2 .0) (v .row .right),
-        instant-back b 712 (l .col) (p3 .0) (v .col .right),
-        instant-back b 716 (l .pre) (p4 .0) (v .pre .right),
-        instant-back b 720 (l .rd) (p5 .0) (v .rd .right),
+        instant-back b 704 (l .packet) (p1 .0) (v .packet),
+        instant-back b 708 (l .row) (p2 .0) (v .row),
+        instant-back b 712 (l .col) (p3 .0) (v .col),
+        instant-back b 716 (l .pre) (p4 .0) (v .pre),
+        instant-back b 720 (l .rd) (p5 .0) (v .rd),
       ),
       zero-back b 724 4 (p5 .1),
     )
@@ -199,14 +230,12 @@ count-back b n due rest l m h =
     below true = omega arith
     below false = omega arith
 
-write-back : (cx : Context) (b : List ℕ) (at : ℕ) (w : Write) → at + 8 ≤ length b → cx .settings .columns ≤ 128 → writeValid cx w ≡ true → part b at 8 ≡ writeBytes w
+write-back : (cx : Context) (b : List ℕ) (at : ℕ) (w : Write) → at + 8 ≤ length b → cx .settings .columns ≤ 128 → WriteIn cx w → Back (w .at .0) → part b at 8 ≡ writeBytes w
     → (writeIn b at ≡ w) × (zeroPart b (at + 2) 2 ≡ true)
-unfolding writeBytes writeValid bankCount
-write-back cx b at w l m v h =
-    let rest = and-right (ltb (w .bank) 32) _ v in
-    let bank : w .bank < 32 = ltb-true (w .bank) 32 (and-left (ltb (w .bank) 32) _ v) in
-    let column : w .column < cx .settings .columns = ltb-true _ _ (and-left (ltb (w .column) (cx .settings .columns)) _ rest) in
-    let early : isInstant (w .at .0) ≡ true = and-right (ltb (w .column) (cx .settings .columns)) _ rest in
+unfolding writeBytes bankCount
+write-back cx b at w l m i v h =
+    let bank : w .bank < 32 = i .0 in
+    let column : w .column < cx .settings .columns = i .1 in
     let p1 = part-split b at 1 7 (bytes 1 (w .bank)) (bytes 1 (w .column) ++ (bytes 2 0 ++ instantBytes (w .at))) (length-bytes 1 (w .bank)) h in
     let p2 = part-split b (at + 1) 1 6 (bytes 1 (w .column)) (bytes 2 0 ++ instantBytes (w .at)) (length-bytes 1 (w .column)) (p1 .1) in
     let second : at + 1 + 1 ≡ at + 2 = omega arith in
@@ -215,38 +244,36 @@ write-back cx b at w l m v h =
       rw (
         byte-back b at (w .bank) (p1 .0) (omega arith) (omega arith),
         byte-back b (at + 1) (w .column) (p2 .0) (omega arith) (omega arith),
-        instant-back b (at + 4) (w .at) (rw fourth at (p3 .1)) (rw early (or-true (eqb (w .at .0) 0))),
+        instant-back b (at + 4) (w .at) (rw fourth at (p3 .1)) v,
       ),
       rw (p3 .0, number-bytes 2 0 (omega arith)),
     )
 
 buffer-back : (cx : Context) (b : List ℕ) (buffer : Buffer) (due : Bool) → 752 ≤ length b → cx .settings .columns ≤ 128
-    → allWrites (writeValid cx) (waitingOf buffer) ≡ true → zeroPart b 724 4 ≡ true → part b 728 24 ≡ bufferBytes buffer due
+    → WritesIn cx (waitingOf buffer) → WritesAll SomeBack (waitingOf buffer) → zeroPart b 724 4 ≡ true → part b 728 24 ≡ bufferBytes buffer due
     → (bufferIn b ≡ buffer) × (eqb (getD b 729 0) 1 ≡ due) × (channelSpare b ≡ true)
 unfolding bufferBytes bufferIn channelSpare waitingOf
-buffer-back cx b Empty due l m v z h =
+buffer-back cx b Empty due l m i v z h =
     let q = count-back b 0 due (zeros 16) l (omega arith) h in
     let p = part-split b 736 8 8 (zeros 8) (zeros 8) (length-zeros 8) (q .4) in
     (rw (q .0), q .1, rw (z, q .0, q .2, q .3, zero-back b 736 8 (p .0), zero-back b 744 8 (p .1)))
-buffer-back cx b (One w) due l m v z h =
+buffer-back cx b (One w) due l m i v z h =
     let q = count-back b 1 due (writeBytes w ++ zeros 8) l (omega arith) h in
     let p = part-split b 736 8 8 (writeBytes w) (zeros 8) (length-write w) (q .4) in
-    let one = write-back cx b 736 w (omega arith) m (and-left (writeValid cx w) _ v) (p .0) in
+    let one = write-back cx b 736 w (omega arith) m (i .0) (v .0 .1) (p .0) in
     (rw (q .0, one .0), q .1, rw (z, q .0, q .2, q .3, one .1, zero-back b 744 8 (p .1)))
-buffer-back cx b (Two x y) due l m v z h =
+buffer-back cx b (Two x y) due l m i v z h =
     let q = count-back b 2 due (writeBytes x ++ writeBytes y) l (omega arith) h in
     let p = part-split b 736 8 8 (writeBytes x) (writeBytes y) (length-write x) (q .4) in
-    let rest = and-right (writeValid cx x) _ v in
-    let one = write-back cx b 736 x (omega arith) m (and-left (writeValid cx x) _ v) (p .0) in
-    let other = write-back cx b 744 y (omega arith) m (and-left (writeValid cx y) _ rest) (p .1) in
+    let one = write-back cx b 736 x (omega arith) m (i .0) (v .0 .1) (p .0) in
+    let other = write-back cx b 744 y (omega arith) m (i .1 .0) (v .1 .0 .1) (p .1) in
     (rw (q .0, one .0, other .0), q .1, rw (z, q .0, q .2, q .3, one .1, other .1))
 
--- what a state must be for that: instants and open rows in range, and a waiting write that is one
+-- what a state must be for that: instants that fit their bytes, open rows, and banks and columns of waiting writes in range
 pub record Kept (cx : Context) (ch : Channel) : Type 0 where
-  pub size : length (ch .banks) ≡ bankCount
-  pub stamped : Stamped ch
+  pub instants : All Back SomeBack ch
   pub rows-in : (x : ℕ) → x < bankCount → bankValid cx (stateOf ch x) ≡ true
-  pub write : allWrites (writeValid cx) (waitingOf (ch .buffer)) ≡ true
+  pub write-in : WritesIn cx (waitingOf (ch .buffer))
 
 pub channel-back : (cx : Context) (ch : Channel) (b : List ℕ) → valid (cx .settings) ≡ true → Kept cx ch → 752 ≤ length b
     → part b 0 752 ≡ channelBytes ch → (channelIn b ≡ ch) × (channelSpare b ≡ true)
@@ -255,13 +282,19 @@ channel-back cx ch b v k n h =
     let m = bounds (cx .settings) v in
     let p : Parts b ch = parts b ch h in
     let banks : tracksIn b 32 ≡ ch .banks =
-    sym (tracks-are b (ch .banks) 32 (k .size) (λ x l. sym (track-back cx b ch x p l (m .rows-most) (k .stamped .banks x l) (k .rows-in x l)))) in
-    let q = lasts-back b ch (k .stamped) (p .lasts) in
-    let w = buffer-back cx b (ch .buffer) (ch .due) n (m .columns-most) (k .write) (q .1) (p .buffer) in
+    sym (tracks-are b (ch .banks) 32 (k .instants .lasts .size) (λ x l. sym (track-back cx b ch x p l (m .rows-most) (k .instants .lasts .banks x l) (k .rows-in x l)))) in
+    let q = lasts-back b ch (k .instants .lasts) (p .lasts) in
+    let w = buffer-back cx b (ch .buffer) (ch .due) n (m .columns-most) (k .write-in) (k .instants .writes) (q .1) (p .buffer) in
     (rw (banks, q .0, w .0, w .1), w .2)
 
 pub valid-kept : (cx : Context) (ch : Channel) → channelValid cx ch ≡ true → Kept cx ch
-valid-kept cx ch c = let k : Sound cx ch = valid-sound cx ch c in record { size = k .size; stamped = k .stamped; rows-in = k .rows-in; write = k .write }
+valid-kept cx ch c =
+    let k : Sound cx ch = valid-sound cx ch c in
+    record {
+      instants = all-more Stamp IsInstant Back SomeBack stamp-back (λ t i. (instant-low t i .0, stamp-back t (instant-stamp t i))) ch (k .stamped);
+      rows-in = k .rows-in;
+      write-in = in-write cx (waitingOf (ch .buffer)) (k .write);
+    }
 
 pub channel-decode-encode : (cx : Context) (ch : Channel) (b : List ℕ) → valid (cx .settings) ≡ true → channelValid cx ch ≡ true → 752 ≤ length b
     → part b 0 752 ≡ channelBytes ch → (channelIn b ≡ ch) × (channelSpare b ≡ true)

@@ -18,7 +18,8 @@ use Rattle.spec_rules.proofs.Bools.{and-left, and-right}
 use Rattle.spec_state.specs.Valid.{isStamp, channelValid}
 use Rattle.spec_state.specs.ChannelBytes.{instantOf, trackIn, lastsIn, writeIn, bufferIn, channelIn, zeroPart, channelSpare}
 use Rattle.spec_state.proofs.PlaneLaws.{tracks-at}
-use Rattle.spec_state.proofs.Stamps.{Stamps, WriteStamps, Stamped}
+use Rattle.spec_state.proofs.EachInstant.{TrackAll, WritesAll}
+use Rattle.spec_state.proofs.Stamps.{Stamp, IsInstant, Stamped}
 use Rattle.spec_state.proofs.NextValid.{valid-sound}
 use Rattle.spec_plan.specs.Planner.{plannerValid}
 use Rattle.spec_plan.specs.PlannerBytes.{plannerLength, plannerIn, plannerRight}
@@ -62,34 +63,34 @@ module _ (cx : Context) (b : List ℕ) (v : channelValid cx (channelIn b) ≡ tr
   stamped : Stamped (channelIn b)
   stamped = valid-sound cx (channelIn b) v .stamped
 
-  track-stamps : (x : ℕ) → x < 32 → Stamps (trackIn b x)
+  track-stamps : (x : ℕ) → x < 32 → TrackAll Stamp (trackIn b x)
   unfolding channelIn bankCount
-  track-stamps x l = rw (tracks-at b 32 x l) at (stamped .banks x l)
+  track-stamps x l = rw (tracks-at b 32 x l) at (stamped .lasts .banks x l)
 
   planes-most : (k : ℕ) → k < 160 → number (part b (4 * k) 4) ≤ latest
   unfolding trackIn
   planes-most k l = go (k / 32) refl
     where
-      s : Stamps (trackIn b (k % 32))
+      s : TrackAll Stamp (trackIn b (k % 32))
       s = track-stamps (k % 32) (omega arith)
 
       at : (n : ℕ) → n ≡ 4 * k → isStamp (instantOf (number (part b n 4))) ≡ true → number (part b (4 * k) 4) ≤ latest
       at n e h = rw (← e) (stamp-most (number (part b n 4)) h)
 
       go : (p : ℕ) → k / 32 ≡ p → number (part b (4 * k) 4) ≤ latest
-      go zero e = at (4 * (k % 32)) (omega arith) (s .opened .right)
-      go (suc zero) e = at (128 + 4 * (k % 32)) (omega arith) (s .act .right)
-      go (suc (suc zero)) e = at (256 + 4 * (k % 32)) (omega arith) (s .pre .right)
-      go (suc (suc (suc zero))) e = at (384 + 4 * (k % 32)) (omega arith) (s .rd .right)
-      go (suc (suc (suc (suc p)))) e = at (512 + 4 * (k % 32)) (omega arith) (s .retire .right)
+      go zero e = at (4 * (k % 32)) (omega arith) (s .opened)
+      go (suc zero) e = at (128 + 4 * (k % 32)) (omega arith) (s .act)
+      go (suc (suc zero)) e = at (256 + 4 * (k % 32)) (omega arith) (s .pre)
+      go (suc (suc (suc zero))) e = at (384 + 4 * (k % 32)) (omega arith) (s .rd)
+      go (suc (suc (suc (suc p)))) e = at (512 + 4 * (k % 32)) (omega arith) (s .retire)
 
   lasts-most : (k : ℕ) → k < 5 → number (part b (704 + 4 * k) 4) ≤ latest
   unfolding channelIn lastsIn
-  lasts-most zero l = stamp-most (number (part b 704 4)) (stamped .last .right)
-  lasts-most (suc zero) l = stamp-most (number (part b 708 4)) (stamped .row .right)
-  lasts-most (suc (suc zero)) l = stamp-most (number (part b 712 4)) (stamped .col .right)
-  lasts-most (suc (suc (suc zero))) l = stamp-most (number (part b 716 4)) (stamped .pre .right)
-  lasts-most (suc (suc (suc (suc zero)))) l = stamp-most (number (part b 720 4)) (stamped .rd .right)
+  lasts-most zero l = stamp-most (number (part b 704 4)) (stamped .lasts .packet)
+  lasts-most (suc zero) l = stamp-most (number (part b 708 4)) (stamped .lasts .row)
+  lasts-most (suc (suc zero)) l = stamp-most (number (part b 712 4)) (stamped .lasts .col)
+  lasts-most (suc (suc (suc zero))) l = stamp-most (number (part b 716 4)) (stamped .lasts .pre)
+  lasts-most (suc (suc (suc (suc zero)))) l = stamp-most (number (part b 720 4)) (stamped .lasts .rd)
   lasts-most (suc (suc (suc (suc (suc k))))) l = absurd (omega arith)
 
   -- where a write does not wait its place is 0
@@ -103,9 +104,9 @@ module _ (cx : Context) (b : List ℕ) (v : channelValid cx (channelIn b) ≡ tr
 
     write-most : number (part b 740 4) ≤ latest
     unfolding channelIn bufferIn waitingOf
-    write-most = go (eqb (getD b 728 0) 0) (eqb (getD b 728 0) 1) (stamped .write) (and-left (cond (eqb (getD b 728 0) 0) (zeroPart b 736 8) (zeroPart b 738 2)) _ spare)
+    write-most = go (eqb (getD b 728 0) 0) (eqb (getD b 728 0) 1) (stamped .writes) (and-left (cond (eqb (getD b 728 0) 0) (zeroPart b 736 8) (zeroPart b 738 2)) _ spare)
       where
-        go : (q r : Bool) → WriteStamps (waitingOf (cond q Empty (cond r (One (writeIn b 736)) (Two (writeIn b 736) (writeIn b 744)))))
+        go : (q r : Bool) → WritesAll IsInstant (waitingOf (cond q Empty (cond r (One (writeIn b 736)) (Two (writeIn b 736) (writeIn b 744)))))
             → cond q (zeroPart b 736 8) (zeroPart b 738 2) ≡ true → number (part b 740 4) ≤ latest
         go true r s e = zero-most 736 (omega arith) e
         go false true s e = instant-most (number (part b 740 4)) (s .0)
@@ -115,8 +116,8 @@ module _ (cx : Context) (b : List ℕ) (v : channelValid cx (channelIn b) ≡ tr
     unfolding channelIn bufferIn waitingOf
     second-most = go (leb (getD b 728 0) 1) refl (and-right (cond (eqb (getD b 728 0) 0) (zeroPart b 736 8) (zeroPart b 738 2)) _ spare)
       where
-        two : leb (getD b 728 0) 1 ≡ false → WriteStamps (writeIn b 736 ∷ writeIn b 744 ∷ [])
-        two h = rw (ne-eqb (getD b 728 0) 0 (λ e. omega (arith, leb-false (getD b 728 0) 1 h)), ne-eqb (getD b 728 0) 1 (λ e. omega (arith, leb-false (getD b 728 0) 1 h))) at (stamped .write)
+        two : leb (getD b 728 0) 1 ≡ false → WritesAll IsInstant (writeIn b 736 ∷ writeIn b 744 ∷ [])
+        two h = rw (ne-eqb (getD b 728 0) 0 (λ e. omega (arith, leb-false (getD b 728 0) 1 h)), ne-eqb (getD b 728 0) 1 (λ e. omega (arith, leb-false (getD b 728 0) 1 h))) at (stamped .writes)
 
         go : (q : Bool) → leb (getD b 728 0) 1 ≡ q → cond q (zeroPart b 744 8) (zeroPart b 746 2) ≡ true → number (part b 748 4) ≤ latest
         go true h e = zero-most 744 (omega arith) e

@@ -1,7 +1,6 @@
--- `calls_plan::plan_under` meets its contract: refusal 1, or one of the two ways.
+-- `calls_plan::plan_under` meets its contract: refusal 1, or what the request says.
 use mathlib.Core.Path.{sym, _∙_}
-use borrow.Author.Tests.{not-true, not-false, leb-true}
-use Rattle.spec_rules.proofs.Bools.{and-left, and-right}
+use borrow.Author.Tests.{not-true, not-false}
 use Rattle.state_bytes.proofs.RightLaws.{planner-length-wrong}
 use Rattle.calls_plan.proofs.CallLaws.{turned-back}
 use borrow.Author.Needs.{needs}
@@ -18,20 +17,13 @@ returns-2 c =
     let a = c .before .before .before .before .before .before .before .before .before .before .args in
     turned-back (a .s) (a .planner .now) (a .request .now) (a .room .now) (sym (c .before .before .right .ensures) ∙ not-true _ (c .before .if2 .taken)) _ (c .answer2 .ensures)
 
-in-place-requires : tie.Need-in-place-requires
-in-place-requires c κs =
-    let calm = c .before .before .before .before .before .before .calm in
-    let test = c .before .before .if3 .taken in
-    (c .before .before .before .before .before .before .before .before .before .before .before .before .pre, (sym (c .before .before .before .before .right .ensures) ∙ not-false _ (c .before .before .before .if2 .left), (sym (calm .ensures) ∙ and-left (calm .result) _ test, leb-true 576 _ (and-right (calm .result) _ test))))
+asked-requires : tie.Need-asked-requires
+asked-requires c κs =
+    let z = c .before .before .before .before .before .before .before .before .before .before .before in
+    (z .pre, (sym (c .before .before .before .right .ensures) ∙ not-false _ (c .before .before .if2 .left), c .before .before .before .before .before .calm .ensures))
 
 returns-3 : tie.Need-returns-3
-returns-3 c = c .before .before .before .before .in-place .ensures
-
-by-value-requires : tie.Need-by-value-requires
-by-value-requires c κs = (c .before .before .before .before .before .before .before .before .before .before .before .before .pre, sym (c .before .before .before .before .right .ensures) ∙ not-false _ (c .before .before .before .if2 .left))
-
-returns-4 : tie.Need-returns-4
-returns-4 c = c .before .before .before .before .by-value .ensures
+returns-3 c = c .before .before .before .before .asked .ensures
 
 pub plan-under-spec : {M : Type 1} → statement M
 plan-under-spec =
@@ -44,11 +36,7 @@ plan-under-spec =
     (λ c κs. search needs)
     (λ c. search needs)
     returns-2
-    in-place-requires
+    asked-requires
     (λ c. search needs)
     (λ c. search needs)
-    returns-3
-    by-value-requires
-    (λ c. search needs)
-    (λ c. search needs)
-    returns-4)
+    returns-3)

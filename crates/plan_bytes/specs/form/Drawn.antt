@@ -10,11 +10,13 @@ use Rattle.settings.specs.declared.Settings.{Settings}
 use Rattle.settings.specs.Settings.{valid}
 use Rattle.spec_rules.specs.Neighbour.{contextOf, near}
 use Rattle.spec_rules.specs.History.{isClosed}
+use Rattle.spec_state.proofs.EachInstant.{All}
+use Rattle.spec_state.proofs.RoundTrip.{Back, SomeBack}
 use Rattle.spec_plan.specs.declared.PlannerState.{PlannerState}
-use Rattle.spec_plan.specs.Planner.{plannerValid}
 use Rattle.spec_plan.specs.Plan.{Draft, stateIn}
 use Rattle.spec_plan.specs.Call.{listBytes}
 use Rattle.spec_plan.specs.PlannerBytes.{plannerBytes, plannerIn}
+use Rattle.spec_plan.proofs.Invariant.{Inv}
 use Rattle.plan_bytes.specs.form.Numbers.{Below}
 
 -- a planner before the first record of a step, and the one that bytes say
@@ -24,11 +26,13 @@ bare p = record { planner = p; records = [] }
 abbrev pub drafted : List ℕ → Draft
 drafted b = bare (plannerIn b)
 
--- bytes that are a planner's, which is not refused, with no stored instant above a top; the settings are in range
+-- bytes that are a planner's between its steps, with no stored instant above a top; the settings are in range. The top may be past
+-- the last instant: between the steps of a request that comes to be refused under 7 it is.
 pub record Readies (s : Settings) (top : ℕ) (b : List ℕ) : Type 0 where
   pub figures : valid s ≡ true
   pub exact : plannerBytes (plannerIn b) ≡ b
-  pub right : plannerValid (contextOf s) (plannerIn b) ≡ true
+  pub inv : Inv (contextOf s) (plannerIn b)
+  pub instants : All Back SomeBack (plannerIn b .channel)
   pub below : Below top b
 
 -- the same, shut

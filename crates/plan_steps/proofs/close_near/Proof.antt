@@ -13,7 +13,7 @@ close-from-requires c κs =
     let first = c .before .before .before .first-near .ensures in
     let last = c .before .before .last-near .ensures in
     let e = near-range (z .args .s) (z .args .x) (z .pre .1 .1 .0) (drafted (z .args .b .now)) _ _ (first .0) (last .0) in
-    (ready-more _ 999990000 999991000 _ (omega arith) (z .pre .0), (z .pre .1 .0, (omega (arith, first-last (z .args .s) (z .args .x), first .0, last .0), (omega (arith, last .1), rw e (z .pre .1 .1 .1)))))
+    (ready-more _ 999999997 1000001000 _ (omega arith) (z .pre .0), (z .pre .1 .0, (omega (arith, first-last (z .args .s) (z .args .x), first .0, last .0), (omega (arith, last .1), rw e (z .pre .1 .1 .1)))))
 
 returns : tie.Need-returns
 returns c =

@@ -1,31 +1,35 @@
--- `calls_plan::ways::served` meets its contract: refusal 7, or the request's records and the next state.
+-- `calls_plan::ways::served` meets its contract: one of the two ways.
 use mathlib.Core.Path.{sym, _∙_}
-use Rattle.calls_plan.proofs.CallLaws.{late, in-time}
+use borrow.Author.Tests.{leb-true}
+use Rattle.spec_rules.proofs.Bools.{and-left, and-right}
 use borrow.Author.Needs.{needs}
 use Rattle.calls_plan.proofs.ways.served.Statement.{statement}
 use Rattle.calls_plan.proofs.ways.served.Tie as tie
 
+on-lent-requires : tie.Need-on-lent-requires
+on-lent-requires c κs =
+    let z = c .before .before .before .before .before in
+    let test = c .before .before .if1 .taken in
+    (z .pre .0, (z .pre .1 .0, (sym (z .pre .1 .1 .0) ∙ and-left (z .args .quick) _ test, (z .pre .1 .1 .1, leb-true 576 _ (and-right (z .args .quick) _ test)))))
+
 returns : tie.Need-returns
-returns c =
-    let z = c .before .before .before .before .before .before .before .before .before .before .before .before .before in
-    let k = c .before .before .before .before .before .plan .ensures in
-    in-time (z .args .s) (z .args .planner .now) (z .args .q) (z .args .room .now) (z .pre .1 .0) (z .pre .1 .1 .1 .1) (sym (c .before .before .before .before .before .before .before .before .before .in-time .ensures) ∙ c .before .before .before .before .before .before .before .before .if1 .taken) _ (k .1 .1) _ (c .answer .ensures) _ _ (k .0) (k .1 .0)
+returns c = c .before .before .before .before .on-lent .ensures
+
+beside-requires : tie.Need-beside-requires
+beside-requires c κs = let z = c .before .before .before .before .before in (z .pre .0, (z .pre .1 .0, z .pre .1 .1 .1))
 
 returns-2 : tie.Need-returns-2
-returns-2 c =
-    let z = c .before .before .before .before .before .before in
-    late (z .args .s) (z .args .planner .now) (z .args .q) (z .args .room .now) (z .pre .1 .0) (sym (c .before .before .in-time .ensures) ∙ c .before .if1 .left) _ (c .answer2 .ensures)
+returns-2 c = c .before .before .before .before .beside .ensures
 
 pub served-spec : {M : Type 1} → statement M
 served-spec =
     tie.close
     (tie.spec
-    (λ c κs. search needs)
-    (λ c κs. search needs)
-    (λ c κs. search needs)
+    on-lent-requires
     (λ c. search needs)
     (λ c. search needs)
     returns
-    (λ c κs. search needs)
+    beside-requires
+    (λ c. search needs)
     (λ c. search needs)
     returns-2)

@@ -9,7 +9,7 @@ use Rattle.plan_in_place.proofs.requests.drain.Tie as tie
 flush-all-requires : tie.Need-flush-all-requires
 flush-all-requires c κs =
     let z = c .before .before .before .before in
-    (ready-more _ 999990000 999998000 _ (omega arith) (z .pre .0), (z .pre .1 .0, drain-first _ _ (z .pre .0) (z .args .room .now) (z .pre .1 .1)))
+    (ready-more _ 999999997 1000008000 _ (omega arith) (z .pre .0), (z .pre .1 .0, drain-first _ _ (z .pre .0) (z .args .room .now) (z .pre .1 .1)))
 
 close-from-requires : tie.Need-close-from-requires
 close-from-requires c κs =

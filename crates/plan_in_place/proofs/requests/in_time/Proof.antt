@@ -2,40 +2,41 @@
 use mathlib.Core.Path.{sym}
 use native.Mathlib.Omega.{arith}
 use Rattle.plan_bytes.proofs.ReadyLaws.{ready-length}
-use Rattle.plan_in_place.proofs.Planned.{ready-plan, calm-timely, wait-timely}
+use Rattle.plan_bytes.proofs.Again.{ready-call}
+use Rattle.plan_in_place.proofs.Planned.{calm-plan, calm-timely, wait-timely}
 use borrow.Author.Needs.{needs}
 use Rattle.plan_in_place.proofs.requests.in_time.Statement.{statement}
 use Rattle.plan_in_place.proofs.requests.in_time.Tie as tie
 
-after-requires : tie.Need-after-requires
-after-requires c κs =
+ends-by-requires : tie.Need-ends-by-requires
+ends-by-requires c κs =
     let z = c .before .before .before .before in
-    omega (arith, ready-length _ _ _ (ready-plan _ _ (z .pre .0) (λ i l. omega (arith, c .before .before .before .shared-slice-known .given i)) (z .pre .1 .0) (z .pre .1 .1 .0)))
+    ready-length _ _ _ (ready-call _ _ (z .pre .0) (λ i l. omega (arith, c .before .before .before .shared-slice-known .given i)) (z .pre .1 .0))
 
 returns : tie.Need-returns
 returns c =
     let z = c .before .before .before in
-    rw (c .enum-told .given .1) (sym (calm-timely _ _ (ready-plan _ _ (z .pre .0) (λ i l. omega (arith, c .before .before .shared-slice-known .given i)) (z .pre .1 .0) (z .pre .1 .1 .0)) _ tt))
+    rw (c .enum-told .given .1) (sym (calm-timely _ _ (calm-plan _ _ (z .pre .0) (λ i l. omega (arith, c .before .before .shared-slice-known .given i)) (z .pre .1 .0) (z .pre .1 .1)) _ tt))
 
 returns-2 : tie.Need-returns-2
 returns-2 c =
     let z = c .before .before .before in
-    rw (c .enum-told2 .given .1) (sym (calm-timely _ _ (ready-plan _ _ (z .pre .0) (λ i l. omega (arith, c .before .before .shared-slice-known .given i)) (z .pre .1 .0) (z .pre .1 .1 .0)) _ tt))
+    rw (c .enum-told2 .given .1) (sym (calm-timely _ _ (calm-plan _ _ (z .pre .0) (λ i l. omega (arith, c .before .before .shared-slice-known .given i)) (z .pre .1 .0) (z .pre .1 .1)) _ tt))
 
 returns-3 : tie.Need-returns-3
 returns-3 c =
     let z = c .before .before .before in
-    rw (c .enum-told3 .given .1) (sym (calm-timely _ _ (ready-plan _ _ (z .pre .0) (λ i l. omega (arith, c .before .before .shared-slice-known .given i)) (z .pre .1 .0) (z .pre .1 .1 .0)) _ tt))
+    rw (c .enum-told3 .given .1) (sym (calm-timely _ _ (calm-plan _ _ (z .pre .0) (λ i l. omega (arith, c .before .before .shared-slice-known .given i)) (z .pre .1 .0) (z .pre .1 .1)) _ tt))
 
 returns-4 : tie.Need-returns-4
 returns-4 c =
     let z = c .before .before .before .before .before in
-    rw (c .after .ensures, c .before .before .q .given .1) (wait-timely _ _ (ready-plan _ _ (z .pre .0) (λ i l. omega (arith, c .before .before .before .before .shared-slice-known .given i)) (z .pre .1 .0) (z .pre .1 .1 .0)) _)
+    rw (c .ends-by .ensures, c .before .before .q .given .1) (wait-timely _ _ (ready-call _ _ (z .pre .0) (λ i l. omega (arith, c .before .before .before .before .shared-slice-known .given i)) (z .pre .1 .0)) _)
 
 returns-5 : tie.Need-returns-5
 returns-5 c =
     let z = c .before .before .before in
-    rw (c .enum-told4 .given .1) (sym (calm-timely _ _ (ready-plan _ _ (z .pre .0) (λ i l. omega (arith, c .before .before .shared-slice-known .given i)) (z .pre .1 .0) (z .pre .1 .1 .0)) _ tt))
+    rw (c .enum-told4 .given .1) (sym (calm-timely _ _ (calm-plan _ _ (z .pre .0) (λ i l. omega (arith, c .before .before .shared-slice-known .given i)) (z .pre .1 .0) (z .pre .1 .1)) _ tt))
 
 pub in-time-spec : {M : Type 1} → statement M
 in-time-spec =
@@ -45,7 +46,7 @@ in-time-spec =
     (λ c. search needs)
     (λ c. search needs)
     (λ c. search needs)
-    after-requires
+    ends-by-requires
     (λ c. search needs)
     returns
     returns-2

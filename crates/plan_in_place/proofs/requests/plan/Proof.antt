@@ -2,7 +2,8 @@
 use mathlib.Core.Path.{refl}
 use native.Mathlib.Omega.{arith}
 use Rattle.plan_bytes.proofs.ReadyLaws.{ready-length}
-use Rattle.plan_in_place.proofs.Planned.{ready-plan, called-read, called-write, called-refresh, called-wait, called-drain}
+use Rattle.plan_bytes.proofs.Again.{ready-call}
+use Rattle.plan_in_place.proofs.Planned.{called-read, called-write, called-refresh, called-wait, called-drain}
 use borrow.Author.Needs.{needs}
 use Rattle.plan_in_place.proofs.requests.plan.Statement.{statement}
 use Rattle.plan_in_place.proofs.requests.plan.Tie as tie
@@ -10,32 +11,32 @@ use Rattle.plan_in_place.proofs.requests.plan.Tie as tie
 read-requires : tie.Need-read-requires
 read-requires c κs =
     let z = c .before .before .before .before .before .before .before in
-    let r = ready-plan _ _ (z .pre .0) (λ i l. omega (arith, c .before .before .before .before .before .before .slice-known .given i)) (z .pre .1 .0) (z .pre .1 .1 .0) in
-    (r, (ready-length _ _ _ r, (rw (c .before .before .before .q .given .1) at (z .pre .1 .1 .1 .0), z .pre .1 .1 .1 .1)))
+    let r = ready-call _ _ (z .pre .0) (λ i l. omega (arith, c .before .before .before .before .before .before .slice-known .given i)) (z .pre .1 .0) in
+    (r, (ready-length _ _ _ r, (rw (c .before .before .before .q .given .1) at (z .pre .1 .1 .0), z .pre .1 .1 .1)))
 
 write-requires : tie.Need-write-requires
 write-requires c κs =
     let z = c .before .before .before .before .before .before .before in
-    let r = ready-plan _ _ (z .pre .0) (λ i l. omega (arith, c .before .before .before .before .before .before .slice-known .given i)) (z .pre .1 .0) (z .pre .1 .1 .0) in
-    (r, (ready-length _ _ _ r, ((rw (c .before .before .before .q2 .given .1) at (z .pre .1 .1 .1 .0)) .0, z .pre .1 .1 .1 .1)))
+    let r = ready-call _ _ (z .pre .0) (λ i l. omega (arith, c .before .before .before .before .before .before .slice-known .given i)) (z .pre .1 .0) in
+    (r, (ready-length _ _ _ r, ((rw (c .before .before .before .q2 .given .1) at (z .pre .1 .1 .0)) .0, z .pre .1 .1 .1)))
 
 refresh-requires : tie.Need-refresh-requires
 refresh-requires c κs =
     let z = c .before .before .before .before .before .before in
-    let r = ready-plan _ _ (z .pre .0) (λ i l. omega (arith, c .before .before .before .before .before .slice-known .given i)) (z .pre .1 .0) (z .pre .1 .1 .0) in
-    (r, (ready-length _ _ _ r, z .pre .1 .1 .1 .1))
+    let r = ready-call _ _ (z .pre .0) (λ i l. omega (arith, c .before .before .before .before .before .slice-known .given i)) (z .pre .1 .0) in
+    (r, (ready-length _ _ _ r, z .pre .1 .1 .1))
 
 wait-requires : tie.Need-wait-requires
 wait-requires c κs =
     let z = c .before .before .before .before .before .before in
-    let r = ready-plan _ _ (z .pre .0) (λ i l. omega (arith, c .before .before .before .before .before .slice-known .given i)) (z .pre .1 .0) (z .pre .1 .1 .0) in
+    let r = ready-call _ _ (z .pre .0) (λ i l. omega (arith, c .before .before .before .before .before .slice-known .given i)) (z .pre .1 .0) in
     (r, ready-length _ _ _ r)
 
 drain-requires : tie.Need-drain-requires
 drain-requires c κs =
     let z = c .before .before .before .before .before .before in
-    let r = ready-plan _ _ (z .pre .0) (λ i l. omega (arith, c .before .before .before .before .before .slice-known .given i)) (z .pre .1 .0) (z .pre .1 .1 .0) in
-    (r, (ready-length _ _ _ r, z .pre .1 .1 .1 .1))
+    let r = ready-call _ _ (z .pre .0) (λ i l. omega (arith, c .before .before .before .before .before .slice-known .given i)) (z .pre .1 .0) in
+    (r, (ready-length _ _ _ r, z .pre .1 .1 .1))
 
 returns : tie.Need-returns
 returns c = rw (c .before .before .before .before .before .before .before .before .q .given .1) (called-read _ _ _ _ _ _ _ (c .before .before .before .before .read .ensures))

@@ -18,7 +18,7 @@ wr-requires c κs =
     let i = z .pre .1 .1 .0 in
     let w = c .before .before .before .before .before .before .reach .ensures in
     let a = reached-after _ _ (z .pre .0) (z .args .room .now) (z .pre .1 .1 .1) (z .args .at) i _ (w .planner) in
-    (ready-more _ 999998000 999999000 _ (omega arith) (a .ready), (a .size, (i, write-room _ _ (z .pre .0) _ (z .pre .1 .1 .1) (z .args .at) i (z .args .mask) (z .args .d) _ _ _ w)))
+    (ready-more _ 1000008000 1000009000 _ (omega arith) (a .ready), (a .size, (i, write-room _ _ (z .pre .0) _ (z .pre .1 .1 .1) (z .args .at) i (z .args .mask) (z .args .d) _ _ _ w)))
 
 returns : tie.Need-returns
 returns c =

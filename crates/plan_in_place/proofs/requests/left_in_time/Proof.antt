@@ -1,0 +1,79 @@
+-- `plan_in_place::requests::left_in_time` meets its contract: each request has its last data.
+use mathlib.Core.Path.{refl, _∙_}
+use native.Mathlib.Omega.{arith}
+use Rattle.spec_rules.specs.Neighbour.{contextOf}
+use Rattle.plan_bytes.proofs.ReadyLaws.{ready-length}
+use Rattle.plan_bytes.proofs.Again.{ready-call}
+use Rattle.plan_in_place.proofs.Planned.{left-timely, left-length, wait-timely}
+use borrow.Author.Needs.{needs}
+use Rattle.plan_in_place.proofs.requests.left_in_time.Statement.{statement}
+use Rattle.plan_in_place.proofs.requests.left_in_time.Tie as tie
+
+ends-by-requires : tie.Need-ends-by-requires
+ends-by-requires c κs = left-length _ _ (c .before .before .before .before .pre .1 .1 .1)
+
+ends-by-requires-2 : tie.Need-ends-by-requires-2
+ends-by-requires-2 c κs = left-length _ _ (c .before .before .before .before .pre .1 .1 .1)
+
+ends-by-requires-3 : tie.Need-ends-by-requires-3
+ends-by-requires-3 c κs = left-length _ _ (c .before .before .before .before .pre .1 .1 .1)
+
+ends-by-requires-4 : tie.Need-ends-by-requires-4
+ends-by-requires-4 c κs =
+    let z = c .before .before .before .before .before in
+    ready-length _ _ _ (ready-call _ _ (z .pre .0) (λ i l. omega (arith, c .before .before .before .before .shared-slice-known .given i)) (z .pre .1 .0))
+
+ends-by-requires-5 : tie.Need-ends-by-requires-5
+ends-by-requires-5 c κs = left-length _ _ (c .before .before .before .before .pre .1 .1 .1)
+
+returns : tie.Need-returns
+unfolding contextOf
+returns c =
+    let z = c .before .before .before .before .before in
+    let r = ready-call _ _ (z .pre .0) (λ i l. omega (arith, c .before .before .before .before .shared-slice-known .given i)) (z .pre .1 .0) in
+    c .ends-by .ensures ∙ left-timely _ _ r (z .args .q) (z .args .s .cac) (rw (c .before .enum-told .given .1) (tt, refl)) (z .pre .1 .1 .0) _ (z .pre .1 .1 .1)
+
+returns-2 : tie.Need-returns-2
+unfolding contextOf
+returns-2 c =
+    let z = c .before .before .before .before .before in
+    let r = ready-call _ _ (z .pre .0) (λ i l. omega (arith, c .before .before .before .before .shared-slice-known .given i)) (z .pre .1 .0) in
+    c .ends-by2 .ensures ∙ left-timely _ _ r (z .args .q) (z .args .s .cwd) (rw (c .before .enum-told2 .given .1) (tt, refl)) (z .pre .1 .1 .0) _ (z .pre .1 .1 .1)
+
+returns-3 : tie.Need-returns-3
+returns-3 c =
+    let z = c .before .before .before .before .before in
+    let r = ready-call _ _ (z .pre .0) (λ i l. omega (arith, c .before .before .before .before .shared-slice-known .given i)) (z .pre .1 .0) in
+    c .ends-by3 .ensures ∙ left-timely _ _ r (z .args .q) 0 (rw (c .before .enum-told3 .given .1) (tt, refl)) (z .pre .1 .1 .0) _ (z .pre .1 .1 .1)
+
+returns-4 : tie.Need-returns-4
+returns-4 c =
+    let z = c .before .before .before .before .before .before in
+    let r = ready-call _ _ (z .pre .0) (λ i l. omega (arith, c .before .before .before .before .before .shared-slice-known .given i)) (z .pre .1 .0) in
+    rw (c .ends-by4 .ensures, c .before .before .q .given .1) (wait-timely _ _ r _)
+
+returns-5 : tie.Need-returns-5
+returns-5 c =
+    let z = c .before .before .before .before .before in
+    let r = ready-call _ _ (z .pre .0) (λ i l. omega (arith, c .before .before .before .before .shared-slice-known .given i)) (z .pre .1 .0) in
+    c .ends-by5 .ensures ∙ left-timely _ _ r (z .args .q) 0 (rw (c .before .enum-told4 .given .1) (tt, refl)) (z .pre .1 .1 .0) _ (z .pre .1 .1 .1)
+
+pub left-in-time-spec : {M : Type 1} → statement M
+left-in-time-spec =
+    tie.close
+    (tie.spec
+    (λ c. search needs)
+    ends-by-requires
+    (λ c. search needs)
+    ends-by-requires-2
+    (λ c. search needs)
+    ends-by-requires-3
+    (λ c. search needs)
+    ends-by-requires-4
+    (λ c. search needs)
+    ends-by-requires-5
+    returns
+    returns-2
+    returns-3
+    returns-4
+    returns-5)
