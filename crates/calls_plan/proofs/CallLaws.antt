@@ -2,7 +2,7 @@
 -- Assumes nothing.
 use Prim.Native.Nat.{ℕ, zero, suc, _+_, _*_, _/_, _≤_, _<_}
 use mathlib.Core.Path.{_≡_, refl, sym, ap, _∙_}
-use mathlib.Core.Bool.{Bool, true, false, _&&_, cond}
+use mathlib.Core.Bool.{Bool, true, false, _&&_}
 use mathlib.Core.List.{List}
 use lib.Dec.{eqb, leb}
 use lib.ListN.{length}
@@ -12,7 +12,6 @@ use Rattle.num.specs.Bytes.{number, part, splice}
 use Rattle.num.proofs.SearchLaws.{all-intro}
 use Rattle.num.proofs.SpliceLaws.{splice-whole, part-splice, length-splice}
 use Rattle.settings.specs.declared.Settings.{Settings}
-use Rattle.settings.specs.Settings.{valid}
 use Rattle.record.specs.declared.Request.{Request}
 use Rattle.record.specs.declared.Refusal.{Refusal}
 use Rattle.record.specs.declared.Refusal.the-variants as refusal
@@ -21,7 +20,6 @@ use Rattle.record.specs.Request.{requestRead}
 use Rattle.spec_rules.specs.Neighbour.{contextOf}
 use Rattle.spec_rules.proofs.Bools.{and-left, and-right}
 use Rattle.spec_state.specs.ChannelBytes.{zeroPart, channelSpare}
-use Rattle.spec_plan.specs.declared.PlannerState.{PlannerState}
 use Rattle.spec_plan.specs.declared.Outcome.{Outcome}
 use Rattle.spec_plan.specs.declared.Outcome.the-variants.{Refused, Made}
 use Rattle.spec_plan.specs.Planner.{plannerValid}

@@ -1,6 +1,4 @@
 -- `calls_plan::ways::beside` meets its contract: it lends two arrays.
-use mathlib.Core.Path.{refl}
-use native.Mathlib.Omega.{arith}
 use borrow.Author.Needs.{needs}
 use Rattle.calls_plan.proofs.ways.beside.Statement.{statement}
 use Rattle.calls_plan.proofs.ways.beside.Tie as tie

@@ -13,7 +13,7 @@ put-bytes-requires c κs = let z = c .before .before .before .before .before .be
 plan-requires : tie.Need-plan-requires
 plan-requires c κs =
     let z = c .before .before .before .before .before .before .before .before .before .before .before in
-    (z .pre .0, (copy-right (z .args .s) (z .args .planner .now) (z .args .q) (z .args .room .now) (z .pre .1 .0) (z .args .state .now) (z .args .list .now) (z .pre .1 .1 .1 .0) (z .pre .1 .1 .1 .1) _ (c .before .before .before .before .put-bytes .ensures), (z .pre .1 .1 .0, z .pre .1 .1 .1 .1)))
+    (z .pre .0, (copy-right (z .args .s) (z .args .planner .now) (z .args .q) (z .args .room .now) (z .pre .1 .0) (z .args .state .now) (z .args .list .now) (z .pre .1 .1 .1 .0) (z .pre .1 .1 .1 .1) _ (c .before .before .before .before .put-bytes .ensures), (search needs, z .pre .1 .1 .1 .1)))
 
 left-in-time-requires : tie.Need-left-in-time-requires
 left-in-time-requires c κs =
