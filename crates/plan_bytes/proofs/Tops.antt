@@ -1,33 +1,26 @@
 -- No instant of a state is above a top: a record at most at a later one keeps that, and every packet stands at most 64 after it.
 -- Assumes nothing.
 use Prim.Native.Nat.{ℕ, _+_, _<_, _≤_, max}
-use mathlib.Core.Path.{_≡_, _∙_}
+use mathlib.Core.Path.{_≡_}
 use mathlib.Core.Bool.{Bool, true, false, not, _&&_, _||_, cond}
 use mathlib.Core.List.{List, [], _∷_}
 use mathlib.Core.Option.{Option, none, some}
 use native.Mathlib.Omega.{arith}
 use lib.Dec.{eqb, leb}
-use lib.ListN.{length}
 use Rattle.settings.specs.declared.Settings.{Settings}
-use Rattle.settings.specs.declared.PacketAt.{PacketAt}
 use Rattle.settings.specs.Settings.{valid, highs}
 use Rattle.settings.proofs.SettingsLaws.{timing-range}
-use Rattle.packet.specs.declared.ColPacket.the-variants.{Nocop, Wr, Rd}
 use Rattle.record.specs.declared.Record.{Record}
-use Rattle.record.specs.declared.Record.the-variants.{RowAt, ColAt, DataOf}
-use Rattle.spec_rules.specs.declared.BankTrack.{BankTrack}
 use Rattle.spec_rules.specs.declared.Write.{Write}
 use Rattle.spec_rules.specs.declared.Channel.{Channel}
 use Rattle.spec_rules.specs.Neighbour.{bankCount, Context, near}
 use Rattle.spec_rules.specs.Packets.{Traits, traits, retireTraits, instant}
-use Rattle.spec_rules.specs.History.{left, loads, joined, waitingNext, only, closes, has}
+use Rattle.spec_rules.specs.History.{only}
 use Rattle.spec_rules.specs.Distances.{Kind, packet, ROW, COL, ACT, onlyACT, PRER, RD, WR, retire, bankAs, Banks, any, same, sameOrNeighbour, others, sameNeighbourOrClosed, Distance, distances}
 use Rattle.spec_rules.specs.Rules.{stays}
-use Rattle.spec_rules.specs.Channel.{idle, trackOf, stateOf, waitingOf, inBank, trackNext, afterPacket, trackRetired, afterRetire, afterData, leavingOf, after}
+use Rattle.spec_rules.specs.Channel.{trackOf, waitingOf, after}
 use Rattle.spec_rules.specs.Checks.{asks, boundOf, maxLine, lastOn, lastAt, boundBanks, boundBy, bound, bounds}
 use Rattle.spec_rules.specs.Earliest.{earliest, retireBound, slotFrom, leastFrom}
-use Rattle.spec_rules.proofs.ListLaws.{length-imap, getD-imap}
-use Rattle.spec_rules.proofs.TrackLaws.{after-waits}
 use Rattle.spec_state.proofs.EachInstant.{WritesAll, All, all-more}
 use Rattle.plan_bytes.proofs.Since.{since-top, max-top}
 

@@ -5,12 +5,10 @@ use mathlib.Core.Path.{_≡_, refl, sym, ap, _∙_}
 use mathlib.Core.Bool.{Bool, true, false, cond}
 use mathlib.Core.List.{List}
 use native.Mathlib.Omega.{arith}
-use borrow.Author.Tests.{le-leb}
 use lib.Dec.{eqb}
 use lib.ListN.{length}
 use Rattle.num.specs.Bytes.{splice}
 use Rattle.settings.specs.declared.Settings.{Settings}
-use Rattle.settings.specs.Instants.{horizon, isInstant}
 use Rattle.packet.specs.declared.RowPacket.the-variants.{Refa, Refp}
 use Rattle.packet.specs.Row.{rowWord}
 use Rattle.record.specs.declared.Record.{Record}
