@@ -24,7 +24,7 @@ use Rattle.spec_rules.specs.Packets.{traits, rowTraits, colTraits, instant}
 use Rattle.spec_rules.specs.History.{bankBy, isClosed}
 use Rattle.spec_rules.specs.Channel.{idle, trackOf, imap, bankNext, trackNext, trackRetired}
 use Rattle.spec_rules.proofs.Bools.{not-both}
-use Rattle.spec_rules.proofs.NeighbourLaws.{split-neighbours}
+use Rattle.spec_rules.proofs.NeighbourLaws.{core-neighbours}
 use Rattle.spec_rules.proofs.ListLaws.{length-imap, getD-imap}
 use Rattle.chan_view.specs.form.Beside.{lowOf, highOf, firstNear, lastNear}
 use Rattle.chan_view.proofs.NearLaws.{or-left, or-right, Beside, own, low, high, Below, no-low, one-low, Above, no-high, one-high, below, above, near-beside, near-own, near-low, near-high}
@@ -77,7 +77,7 @@ module _ (s : Settings) (b : ℕ) where
   sides = record { only = λ x l e. at x e (near-beside s b x (or-right (eqb x b) _ e)); below = near-low s b; above = near-high s b }
     where
       at : (x : ℕ) → contextOf s .nbr b x ≡ true → Beside s b x → eqb x (lowOf s b) || eqb x (highOf s b) ≡ true
-      at x e (own q) = not-both (contextOf s .nbr b b) (ap (contextOf s .nbr b) (sym q) ∙ e) (split-neighbours s .irreflexive b)
+      at x e (own q) = not-both (contextOf s .nbr b b) (ap (contextOf s .nbr b) (sym q) ∙ e) (core-neighbours s .irreflexive b)
       at x e (low q) = or-left (eqb x (lowOf s b)) (eqb x (highOf s b)) (eq-eqb x (lowOf s b) q)
       at x e (high q) = or-right (eqb x (lowOf s b)) (eqb x (highOf s b)) (eq-eqb x (highOf s b) q)
 

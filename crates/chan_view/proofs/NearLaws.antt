@@ -13,11 +13,11 @@ use lib.Dec.{eqb, leb, ltb, leb·zero}
 use Rattle.num.specs.Search.{allUpTo}
 use Rattle.num.proofs.SearchLaws.{all-at, all-intro}
 use Rattle.settings.specs.declared.Settings.{Settings}
-use Rattle.spec_rules.specs.Neighbour.{split, contextOf, near}
+use Rattle.spec_rules.specs.Neighbour.{runOf, inRuns, contextOf, near}
 use Rattle.spec_rules.specs.History.{only}
 use Rattle.spec_rules.specs.Checks.{since, asks, maxUpTo}
 use Rattle.spec_rules.proofs.Bools.{iff-eq, and-left, and-right, all-ext, leb-max, leb-maxUpTo}
-use Rattle.chan_view.specs.form.Beside.{lowOf, highOf, firstNear, lastNear}
+use Rattle.chan_view.specs.form.Beside.{isFirst, isLast, lowOf, highOf, firstNear, lastNear}
 use Rattle.chan_view.specs.form.Bounds.{three}
 
 -- ---- tests
@@ -51,64 +51,102 @@ pub data Above (s : Settings) (b : ℕ) : Type 0 where
   no-high : highOf s b ≡ 32 → lastNear s b ≡ b → Above s b
   one-high : highOf s b ≡ b + 1 → lastNear s b ≡ highOf s b → Above s b
 
+-- ---- runs
+
+-- what holds of runs of 16, 32 and 1 banks holds of every core form's
+by-run : (P : ℕ → Type 0) → P 16 → P 32 → P 1 → (core : ℕ) → P (runOf core)
+unfolding runOf
+by-run P halves whole single core = go (eqb core 0) (eqb core 1)
+  where
+    go : (a c : Bool) → P (cond a 16 (cond c 32 1))
+    go true c = halves
+    go false true = whole
+    go false false = single
+
+-- a bank is in the run of the one before it where it is not the first of its own
+next-in : (core x : ℕ) → (((x + 1) % runOf core ≡ 0 → ⊥) → x / runOf core ≡ (x + 1) / runOf core) × (x / runOf core ≡ (x + 1) / runOf core → (x + 1) % runOf core ≡ 0 → ⊥)
+next-in core x =
+    by-run (λ w. (((x + 1) % w ≡ 0 → ⊥) → x / w ≡ (x + 1) / w) × (x / w ≡ (x + 1) / w → (x + 1) % w ≡ 0 → ⊥))
+    (λ n. omega arith, λ e z. omega arith) (λ n. omega arith, λ e z. omega arith) (λ n. omega arith, λ e z. omega arith) core
+
+-- bank 0 is the first of its run
+pub not-first : (core b : ℕ) → isFirst core b ≡ false → 1 ≤ b
+not-first core b =
+    by-run (λ w. eqb (b % w) 0 ≡ false → 1 ≤ b)
+    (λ e. omega (arith, eqb-false (b % 16) 0 e)) (λ e. omega (arith, eqb-false (b % 32) 0 e)) (λ e. omega (arith, eqb-false (b % 1) 0 e)) core
+
+-- a run ends at bank 31, and at each number of which 32 is a part
+pub not-last : (core b : ℕ) → isLast core b ≡ false → b % 32 < 31
+not-last core b =
+    by-run (λ w. eqb ((b + 1) % w) 0 ≡ false → b % 32 < 31)
+    (λ e. omega (arith, eqb-false ((b + 1) % 16) 0 e)) (λ e. omega (arith, eqb-false ((b + 1) % 32) 0 e)) (λ e. omega (arith, eqb-false ((b + 1) % 1) 0 e)) core
+
 module _ (s : Settings) (b : ℕ) where
+  abbrev run : ℕ
+  run = runOf (s .core)
+
   pub below : Below s b
   unfolding lowOf firstNear
-  below = go (eqb (b % 16) 0) refl
+  below = go (isFirst (s .core) b) refl
     where
-      go : (t : Bool) → eqb (b % 16) 0 ≡ t → Below s b
+      go : (t : Bool) → isFirst (s .core) b ≡ t → Below s b
       go true e = no-low (rw e) (rw e)
-      go false e = let n = eqb-false (b % 16) 0 e in one-low (rw e (let p : b ≡ 0 → ⊥ = λ z. n (rw z) in omega arith)) (rw e)
+      go false e = one-low (rw e (omega (arith, not-first (s .core) b e))) (rw e)
 
   pub above : Above s b
   unfolding highOf lastNear
-  above = go (eqb (b % 16) 15) refl
+  above = go (isLast (s .core) b) refl
     where
-      go : (t : Bool) → eqb (b % 16) 15 ≡ t → Above s b
+      go : (t : Bool) → isLast (s .core) b ≡ t → Above s b
       go true e = no-high (rw e) (rw e)
       go false e = one-high (rw e) (rw e)
 
-  beside-split : (x : ℕ) → (b + 1 ≡ x) ⊎ (x + 1 ≡ b) → b / 16 ≡ x / 16 → Beside s b x
+  beside-run : (x : ℕ) → (b + 1 ≡ x) ⊎ (x + 1 ≡ b) → b / run ≡ x / run → Beside s b x
   unfolding lowOf highOf
-  beside-split x e h =
-      ⊎-elim (λ p. high (rw (ne-eqb (b % 16) 15 (λ z. omega arith)) (sym p))) (λ p. low (rw (ne-eqb (b % 16) 0 (λ z. omega arith)) (omega arith))) e
+  beside-run x e h =
+      ⊎-elim
+      (λ p. high (rw (ne-eqb ((b + 1) % run) 0 (next-in (s .core) b .1 (h ∙ ap (λ (y : ℕ). y / run) (sym p)))) (sym p)))
+      (λ p. low (rw (ne-eqb (b % run) 0 (λ z. next-in (s .core) x .1 (sym h ∙ ap (λ (y : ℕ). y / run) (sym p)) (ap (λ (y : ℕ). y % run) p ∙ z))) (omega arith)))
+      e
 
   -- a near bank is one of the three
   pub near-beside : (x : ℕ) → near (contextOf s) b x ≡ true → Beside s b x
-  unfolding contextOf split
-  near-beside x e = ⊎-elim (λ p. own (eqb-true x b p)) (λ p. apart (and-eq-true-iff (eqb (b + 1) x || eqb (x + 1) b) (eqb (b / 16) (x / 16)) .0 p)) (or-cases (eqb x b) _ e)
+  unfolding contextOf inRuns
+  near-beside x e = ⊎-elim (λ p. own (eqb-true x b p)) (λ p. apart (and-eq-true-iff (eqb (b + 1) x || eqb (x + 1) b) (eqb (b / run) (x / run)) .0 p)) (or-cases (eqb x b) _ e)
     where
-      apart : ((eqb (b + 1) x || eqb (x + 1) b) ≡ true) × (eqb (b / 16) (x / 16) ≡ true) → Beside s b x
-      apart q = beside-split x (⊎-elim (λ p. inl (eqb-true (b + 1) x p)) (λ p. inr (eqb-true (x + 1) b p)) (or-cases (eqb (b + 1) x) (eqb (x + 1) b) (q .0))) (eqb-true (b / 16) (x / 16) (q .1))
+      apart : ((eqb (b + 1) x || eqb (x + 1) b) ≡ true) × (eqb (b / run) (x / run) ≡ true) → Beside s b x
+      apart q = beside-run x (⊎-elim (λ p. inl (eqb-true (b + 1) x p)) (λ p. inr (eqb-true (x + 1) b p)) (or-cases (eqb (b + 1) x) (eqb (x + 1) b) (q .0))) (eqb-true (b / run) (x / run) (q .1))
 
   -- and each of the three is near where it is a bank
   pub near-own : near (contextOf s) b b ≡ true
   near-own = or-left (eqb b b) _ (eq-eqb b b refl)
 
-  near-split : (x : ℕ) → (b + 1 ≡ x) ⊎ (x + 1 ≡ b) → b / 16 ≡ x / 16 → near (contextOf s) b x ≡ true
-  unfolding contextOf split
-  near-split x e h =
+  near-run : (x : ℕ) → (b + 1 ≡ x) ⊎ (x + 1 ≡ b) → b / run ≡ x / run → near (contextOf s) b x ≡ true
+  unfolding contextOf inRuns
+  near-run x e h =
       or-right (eqb x b) _
-      (and-eq-true-iff (eqb (b + 1) x || eqb (x + 1) b) (eqb (b / 16) (x / 16)) .1 (
+      (and-eq-true-iff (eqb (b + 1) x || eqb (x + 1) b) (eqb (b / run) (x / run)) .1 (
         ⊎-elim (λ p. or-left (eqb (b + 1) x) (eqb (x + 1) b) (eq-eqb (b + 1) x p)) (λ p. or-right (eqb (b + 1) x) (eqb (x + 1) b) (eq-eqb (x + 1) b p)) e,
-        eq-eqb (b / 16) (x / 16) h,
+        eq-eqb (b / run) (x / run) h,
       ))
 
   pub near-low : lowOf s b < 32 → near (contextOf s) b (lowOf s b) ≡ true
   unfolding lowOf
-  near-low h = go (eqb (b % 16) 0) refl h
+  near-low h = go (isFirst (s .core) b) refl h
     where
-      go : (t : Bool) → eqb (b % 16) 0 ≡ t → cond t 32 (b - 1) < 32 → near (contextOf s) b (cond t 32 (b - 1)) ≡ true
+      go : (t : Bool) → isFirst (s .core) b ≡ t → cond t 32 (b - 1) < 32 → near (contextOf s) b (cond t 32 (b - 1)) ≡ true
       go true e h = absurd (omega arith)
-      go false e h = let n = eqb-false (b % 16) 0 e in near-split (b - 1) (inr (omega arith)) (omega arith)
+      go false e h =
+          let p : b - 1 + 1 ≡ b = omega (arith, not-first (s .core) b e) in
+          near-run (b - 1) (inr p) (sym (rw p at (next-in (s .core) (b - 1) .0 (rw p (eqb-false (b % run) 0 e)))))
 
   pub near-high : highOf s b < 32 → near (contextOf s) b (highOf s b) ≡ true
   unfolding highOf
-  near-high h = go (eqb (b % 16) 15) refl h
+  near-high h = go (isLast (s .core) b) refl h
     where
-      go : (t : Bool) → eqb (b % 16) 15 ≡ t → cond t 32 (b + 1) < 32 → near (contextOf s) b (cond t 32 (b + 1)) ≡ true
+      go : (t : Bool) → isLast (s .core) b ≡ t → cond t 32 (b + 1) < 32 → near (contextOf s) b (cond t 32 (b + 1)) ≡ true
       go true e h = absurd (omega arith)
-      go false e h = let n = eqb-false (b % 16) 15 e in near-split (b + 1) (inl refl) (omega arith)
+      go false e h = near-run (b + 1) (inl refl) (next-in (s .core) b .0 (eqb-false ((b + 1) % run) 0 e))
 
 -- ---- a test on the near banks, and on the bank itself; a number that is no bank passes
 

@@ -1,9 +1,49 @@
 // Which banks share sense amps, by the settings: every other crate asks here. Number 32 stands for no bank.
 ghost use mathlib.Core.Path.{_≡_};
-ghost use Prim.Native.Nat.{_<_};
-ghost use Rattle.spec_rules.specs.Neighbour.{contextOf, near};
-ghost use Rattle.chan_view.specs.form.Beside.{lowOf, highOf, firstNear, lastNear};
+ghost use Prim.Native.Nat.{_<_, _/_};
+ghost use lib.Dec.{eqb};
+ghost use Rattle.spec_rules.specs.Neighbour.{runOf, contextOf, near};
+ghost use Rattle.chan_view.specs.form.Beside.{isFirst, isLast, lowOf, highOf, firstNear, lastNear};
 use settings::Settings;
+
+// Whether a bank is the first of its run.
+fn is_first(core: u32, b: u32) -> bool
+    ensures { λ r. ⌜ r ≡ isFirst core b ⌝ }
+{
+    if core == 0 {
+        return b % 16 == 0;
+    }
+    if core == 1 {
+        return b % 32 == 0;
+    }
+    true
+}
+
+// Whether a bank is the last of its run.
+fn is_last(core: u32, b: u32) -> bool
+    ensures { λ r. ⌜ r ≡ isLast core b ⌝ }
+{
+    if core == 0 {
+        return b % 16 == 15;
+    }
+    if core == 1 {
+        return b % 32 == 31;
+    }
+    true
+}
+
+// Whether two banks are of one run.
+fn in_run(core: u32, b: u32, x: u32) -> bool
+    ensures { λ r. ⌜ r ≡ eqb (b / runOf core) (x / runOf core) ⌝ }
+{
+    if core == 0 {
+        return b / 16 == x / 16;
+    }
+    if core == 1 {
+        return b / 32 == x / 32;
+    }
+    b == x
+}
 
 // Whether bank x is bank b or a neighbour of it.
 pub fn is_near(s: Settings, b: u32, x: u32) -> bool
@@ -11,21 +51,21 @@ pub fn is_near(s: Settings, b: u32, x: u32) -> bool
 {
     let above = num::wide32(b) + 1 == num::wide32(x);
     let below = num::wide32(x) + 1 == num::wide32(b);
-    (x == b) | ((above | below) & (b / 16 == x / 16))
+    (x == b) | ((above | below) & in_run(s.core, b, x))
 }
 
 // The neighbour below a bank.
 pub fn low_of(s: Settings, b: u32) -> u32
     ensures { λ r. ⌜ r ≡ lowOf s b ⌝ }
 {
-    if b % 16 == 0 { 32 } else { b - 1 }
+    if is_first(s.core, b) { 32 } else { b - 1 }
 }
 
 // The neighbour above a bank.
 pub fn high_of(s: Settings, b: u32) -> u32
     ensures { λ r. ⌜ r ≡ highOf s b ⌝ }
 {
-    if b % 16 == 15 { 32 } else { b + 1 }
+    if is_last(s.core, b) { 32 } else { b + 1 }
 }
 
 // The neighbour below a bank, or the bank where there is none.
@@ -33,7 +73,7 @@ pub fn first_near(s: Settings, x: usize) -> usize
     requires { ⌜ x < 32 ⌝ }
     ensures { λ r. ⌜ (r ≡ firstNear s x) × (r < 32) ⌝ }
 {
-    if x % 16 == 0 { x } else { x - 1 }
+    if is_first(s.core, x as u32) { x } else { x - 1 }
 }
 
 // The neighbour above a bank, or the bank where there is none.
@@ -41,5 +81,5 @@ pub fn last_near(s: Settings, x: usize) -> usize
     requires { ⌜ x < 32 ⌝ }
     ensures { λ r. ⌜ (r ≡ lastNear s x) × (r < 32) ⌝ }
 {
-    if x % 16 == 15 { x } else { x + 1 }
+    if is_last(s.core, x as u32) { x } else { x + 1 }
 }

@@ -22,7 +22,7 @@ use Rattle.record.specs.declared.RequestRead.{RequestRead}
 use Rattle.record.specs.declared.RequestRead.the-variants.{Refused as RefusedRequest, Accepted}
 use Rattle.record.specs.Request.{requestRead}
 use Rattle.spec_rules.specs.Neighbour.{Context, contextOf}
-use Rattle.spec_rules.proofs.NeighbourLaws.{split-neighbours}
+use Rattle.spec_rules.proofs.NeighbourLaws.{core-neighbours}
 use Rattle.spec_plan.specs.declared.PlannerState.{PlannerState}
 use Rattle.spec_plan.specs.declared.Outcome.{Outcome}
 use Rattle.spec_plan.specs.declared.Outcome.the-variants.{Refused, Made}
@@ -88,7 +88,7 @@ module _ (p : PlannerState) (request : List ℕ) (v : plannerValid (contextOf se
   unfolding requestText contextOf
   outcome-text room e =
       rw (count-records (contextOf setH) p request roomBytes)
-      (text-by (planOutcome (contextOf setH) p request roomBytes) _ _ (rw e at (room-lines (contextOf setH) (split-neighbours setH) p request v w room setH-valid)))
+      (text-by (planOutcome (contextOf setH) p request roomBytes) _ _ (rw e at (room-lines (contextOf setH) (core-neighbours setH) p request v w room setH-valid)))
 
   planning-is : (room : List ℕ) → planning setH p request room
       ≡ record {
@@ -114,7 +114,7 @@ pub planner-valid : (input : List ℕ) → Bytes input → (i : ℕ) → planner
 unfolding plannerFor
 planner-valid input w zero = fresh-valid (contextOf setH)
 planner-valid input w (suc i) =
-    next-valid (contextOf setH) (split-neighbours setH) (plannerFor input i) (requestIn input i) roomBytes (Bytes-part input (24 * i) 24 w) (planner-valid input w i)
+    next-valid (contextOf setH) (core-neighbours setH) (plannerFor input i) (requestIn input i) roomBytes (Bytes-part input (24 * i) 24 w) (planner-valid input w i)
 
 module _ (input : List ℕ) (i : ℕ) {p : PlannerState} (e : p ≡ plannerFor input i) where
   -- the request that is lent for turn i

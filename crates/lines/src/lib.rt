@@ -37,6 +37,7 @@ pub fn set_h() -> Settings
         rows: 2,
         columns: 4,
         device: 0,
+        core: 0,
     }
 }
 

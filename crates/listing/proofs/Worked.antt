@@ -15,7 +15,7 @@ use Rattle.packet.specs.Col.{maskBit, maskField, colFields, colWord, maskSaid, 
 use Rattle.record.specs.Record.{rowRecord, colRecord, recordOf, recordRead, isKnown, wellFormed, firstBad}
 use Rattle.record.specs.Refusal.{answerOf}
 use Rattle.record.specs.Request.{usesByte, spareRight, placed, requestOf, requestRead}
-use Rattle.spec_rules.specs.Neighbour.{bankCount, split, contextOf}
+use Rattle.spec_rules.specs.Neighbour.{bankCount, runOf, inRuns, contextOf}
 use Rattle.spec_rules.specs.Packets.{rowTraits, colTraits, traits, retireTraits, instant, isPacket}
 use Rattle.spec_rules.specs.History.{bankBy, bankAfter, isClosed, isOpen, leaving, loads, waitingNext, waitingAfter, deeds, events, keeps}
 use Rattle.spec_rules.specs.Distances.{distances}
@@ -97,5 +97,5 @@ results =
     ∷ []
 
 pub worked : runs ≡ results
-unfolding request read write refresh drain codes lines numbers early runs results bytes number allUpTo firstFalse deviceHead rowFields rowWord rowOf rowDecoded maskBit maskField colFields colWord maskSaid maskOf colOf colDecoded rowRecord colRecord recordOf recordRead isKnown wellFormed firstBad answerOf usesByte spareRight placed requestOf requestRead split contextOf rowTraits colTraits traits retireTraits instant isPacket bankBy bankAfter isClosed isOpen leaving loads waitingNext waitingAfter deeds events keeps bankCount distances dataDelay dueAfter ruleOf rules rule1 rule4 rule9 rule12 rule14 rule15 rule16 lowest lowestRule firstBroken fresh waitingOf bufferOf bankNext trackNext afterPacket trackRetired afterRetire afterData after maxUpTo bounds placedAt under earliest leastFrom freshPlanner slot sent flushed flushedWhile closed closedUpTo reached plannedRead loaded written plannedWrite turned plannedRefresh plannedWait plannedDrain stepsOf planned inTime timely outcomeOf outcomeBy planOutcome isMade draftBy planNext planRecords known recordsUpTo recordsOf ruleAnswer recordsAnswer listAnswer digit decimalIn hexFour dash maskText line rowLine colLine recordLine setOf setH recordLines refusedLine recordsLine outcomeText requestText plannerFor recordsListed textUpTo lengthRight listing
+unfolding request read write refresh drain codes lines numbers early runs results bytes number allUpTo firstFalse deviceHead rowFields rowWord rowOf rowDecoded maskBit maskField colFields colWord maskSaid maskOf colOf colDecoded rowRecord colRecord recordOf recordRead isKnown wellFormed firstBad answerOf usesByte spareRight placed requestOf requestRead runOf inRuns contextOf rowTraits colTraits traits retireTraits instant isPacket bankBy bankAfter isClosed isOpen leaving loads waitingNext waitingAfter deeds events keeps bankCount distances dataDelay dueAfter ruleOf rules rule1 rule4 rule9 rule12 rule14 rule15 rule16 lowest lowestRule firstBroken fresh waitingOf bufferOf bankNext trackNext afterPacket trackRetired afterRetire afterData after maxUpTo bounds placedAt under earliest leastFrom freshPlanner slot sent flushed flushedWhile closed closedUpTo reached plannedRead loaded written plannedWrite turned plannedRefresh plannedWait plannedDrain stepsOf planned inTime timely outcomeOf outcomeBy planOutcome isMade draftBy planNext planRecords known recordsUpTo recordsOf ruleAnswer recordsAnswer listAnswer digit decimalIn hexFour dash maskText line rowLine colLine recordLine setOf setH recordLines refusedLine recordsLine outcomeText requestText plannerFor recordsListed textUpTo lengthRight listing
 worked = refl

@@ -17,7 +17,7 @@ use Rattle.spec_rules.specs.Neighbour.{bankCount, contextOf}
 use Rattle.spec_rules.specs.History.{isClosed}
 use Rattle.spec_rules.specs.Channel.{stateOf}
 use Rattle.spec_rules.proofs.Bools.{iff-eq, not-both}
-use Rattle.spec_rules.proofs.NeighbourLaws.{split-neighbours}
+use Rattle.spec_rules.proofs.NeighbourLaws.{core-neighbours}
 use Rattle.spec_state.specs.Valid.{apart}
 use Rattle.chan_view.specs.form.Beside.{lowOf, highOf}
 use Rattle.chan_view.proofs.NearLaws.{or-right, Beside, own, low, high, Below, no-low, one-low, below, Above, no-high, one-high, above, near-beside, near-low}
@@ -35,11 +35,11 @@ module _ (s : Settings) (ch : Channel) (e : length (ch .banks) ≡ 32) where
 
   -- no bank is its own neighbour
   other : (x y : ℕ) → contextOf s .nbr x y ≡ true → x ≡ y → ⊥
-  other x y h q = not-both (contextOf s .nbr x y) h (rw q (split-neighbours s .irreflexive y))
+  other x y h q = not-both (contextOf s .nbr x y) h (rw q (core-neighbours s .irreflexive y))
 
   -- of two neighbours one is the bank below the other
   one-below : (x y : ℕ) → x < 32 → y < 32 → contextOf s .nbr x y ≡ true → (y ≡ lowOf s x) ⊎ (x ≡ lowOf s y)
-  one-below x y l m h = go (near-beside s x y (or-right (eqb y x) _ h)) (near-beside s y x (or-right (eqb x y) _ (split-neighbours s .symmetric y x ∙ h)))
+  one-below x y l m h = go (near-beside s x y (or-right (eqb y x) _ h)) (near-beside s y x (or-right (eqb x y) _ (core-neighbours s .symmetric y x ∙ h)))
     where
       cross : Above s x → Above s y → y ≡ highOf s x → x ≡ highOf s y → ⊥
       cross (no-high a b) v p q = omega arith

@@ -27,14 +27,14 @@ use Rattle.spec_rules.specs.Neighbour.{bankCount, Context, contextOf, near}
 use Rattle.spec_rules.specs.History.{isClosed, anyWrite}
 use Rattle.spec_rules.specs.Checks.{since}
 use Rattle.spec_rules.proofs.Bools.{iff-eq}
-use Rattle.spec_rules.proofs.NeighbourLaws.{split-neighbours}
+use Rattle.spec_rules.proofs.NeighbourLaws.{core-neighbours}
 use Rattle.spec_plan.specs.declared.PlannerState.{PlannerState}
 use Rattle.spec_plan.specs.Plan.{Draft, rowPacket, colPacket, stateIn, delays, anyWaits, sent, flushed, flushedWhile, closed, closedUpTo, reached, plannedRead, loaded, written, plannedWrite, turned, plannedRefresh, plannedWait, plannedDrain, stepsOf, planned}
 use Rattle.spec_plan.specs.Call.{listBytes, inTime, timely}
 use Rattle.spec_plan.specs.PlannerBytes.{plannerBytes, plannerIn, plannerRight}
 use Rattle.spec_plan.proofs.SentLaws.{when-either, sent-refresh, while-keeps}
 use Rattle.spec_plan.proofs.PlanLaws.{Good, good-while, good-reached}
-use Rattle.spec_plan.proofs.Bound.{most-made}
+use Rattle.spec_plan.proofs.Bound.{most-any}
 use Rattle.spec_plan.proofs.CallLaws.{planned-made}
 use Rattle.spec_plan.proofs.PlannerRoundTrip.{planner-length}
 use Rattle.spec_plan.proofs.Timely.{lastDelay, timely-is}
@@ -77,7 +77,7 @@ module _ (s : Settings) (b : List ℕ) (k : Ready s 999999997 b) (room : List �
 
   -- "No request makes more than 18 records."
   enough : (q : Request) → Fits (planned cx q (plannerIn b)) room 0
-  enough q = omega (arith, most-made s (plannerIn b) (inv s 999999997 b k) q)
+  enough q = omega (arith, most-any s (plannerIn b) (inv s 999999997 b k) q)
 
   module _ (at : Place) (i : InPlace s at) where
     -- the row reached
@@ -86,7 +86,7 @@ module _ (s : Settings) (b : List ℕ) (k : Ready s 999999997 b) (room : List �
 
     reached-good : Good cx (plannerIn b) there
     unfolding bankCount contextOf
-    reached-good = good-reached cx (split-neighbours s) (plannerIn b) d (good s 999999997 b k) (at .bank) (at .row) (i .0) (i .1) .0
+    reached-good = good-reached cx (core-neighbours s) (plannerIn b) d (good s 999999997 b k) (at .bank) (at .row) (i .0) (i .1) .0
 
     reached-marked : Marked s 1000006208 there
     reached-marked = marked-reached s (readies s 999999997 b k .figures) (at .bank) (at .row) 1000000000 d (start s 999999997 b k) (omega arith)
@@ -119,7 +119,7 @@ module _ (s : Settings) (b : List ℕ) (k : Ready s 999999997 b) (room : List �
     clean-after : (b2 : List ℕ) → b2 ≡ plannerBytes (clean .planner) → After s 1000009000 clean b2
     clean-after =
         after-of s 999999997 b k (1000006208 + 128) 1000009000 clean (omega arith) (omega arith) (marked-while s (readies s 999999997 b k .figures) test 1000006208 there reached-marked (omega arith))
-        (good-while cx (split-neighbours s) (plannerIn b) there reached-good test refl)
+        (good-while cx (core-neighbours s) (plannerIn b) there reached-good test refl)
 
     module _ (b1 room1 : List ℕ) (to1 : ℕ) (w : Drawn s there room 0 b1 room1 to1) where
       back : plannerIn b1 ≡ there .planner
@@ -239,7 +239,7 @@ module _ (s : Settings) (b : List ℕ) (k : Ready s 999999997 b) (room : List �
   emptied-after : (b1 : List ℕ) → b1 ≡ plannerBytes (emptied .planner) → After s 1000001000 emptied b1
   emptied-after =
       after-of s 999999997 b k (1000000000 + 128) 1000001000 emptied (omega arith) (omega arith) (marked-while s (readies s 999999997 b k .figures) anyWaits 1000000000 d (start s 999999997 b k) (omega arith))
-      (good-while cx (split-neighbours s) (plannerIn b) d (good s 999999997 b k) anyWaits refl)
+      (good-while cx (core-neighbours s) (plannerIn b) d (good s 999999997 b k) anyWaits refl)
 
   -- all banks from the first on
   all-shut : (z : Draft) → closedUpTo cx (λ y. leb 0 y) 32 z ≡ shut z
@@ -330,7 +330,7 @@ unfolding contextOf
 left-timely s b k q delay n i left e =
     let cx : Context = contextOf s in
     let d : Draft = planned cx q (plannerIn b) in
-    let made = planned-made cx (split-neighbours s) (plannerIn b) (inv s 999999997 b k) q i in
+    let made = planned-made cx (core-neighbours s) (plannerIn b) (inv s 999999997 b k) q i in
     let m : Marked s 1000006403 d = marked-more s 1000006400 1000006403 (omega arith) d (request-marked s 999999997 b k (omega arith) q (n .0)) in
     let a : After s 1000006400 d left = after-step s (readies s 999999997 b k .figures) 1000006400 d (omega arith) m (made .inv) left e in
     rw (n .1) (ends-by (word left 752) (d .planner .now .0) (lastDelay cx q) (ap (λ (p : PlannerState). p .now .0) (sym (a .back)) ∙ now-is s 1000006400 left (a .ready)) (now-some s 1000006400 left (a .ready))

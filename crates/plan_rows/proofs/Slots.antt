@@ -1,13 +1,13 @@
 -- The least instants of ROW packets in stored numbers are those of the plan.
 -- Assumes nothing.
-use Prim.Native.Nat.{ℕ, _+_, _*_, _%_, _<_, _≤_, max}
+use Prim.Native.Nat.{ℕ, _+_, _*_, _<_, _≤_, max}
 use mathlib.Core.Path.{_≡_, refl, sym, ap, ap₂, _∙_}
 use mathlib.Core.Bool.{Bool, true, false, cond, not}
 use mathlib.Core.List.{List}
 use mathlib.Core.Option.{some}
 use native.Mathlib.Nat.{max-zero, zero-add}
 use native.Mathlib.Omega.{arith}
-use borrow.Author.Tests.{ltb-false, eqb-false}
+use borrow.Author.Tests.{ltb-false}
 use lib.Dec.{eqb, ltb}
 use lib.ListN.{length}
 use Rattle.settings.specs.declared.Settings.{Settings}
@@ -25,9 +25,9 @@ use Rattle.spec_rules.specs.Earliest.{earliest, leastFrom}
 use Rattle.spec_rules.proofs.TrackLaws.{row-keeps}
 use Rattle.spec_rules.proofs.ByCommand.{act-bounds, prer-bounds, refa-bounds}
 use Rattle.spec_state.specs.ChannelBytes.{instantOf, trackIn, lastsIn, channelIn}
-use Rattle.chan_view.specs.form.Beside.{lowOf, highOf, firstNear, lastNear}
+use Rattle.chan_view.specs.form.Beside.{isLast, lowOf, highOf, firstNear, lastNear}
 use Rattle.chan_view.specs.form.Bounds.{three}
-use Rattle.chan_view.proofs.NearLaws.{Below, no-low, one-low, below}
+use Rattle.chan_view.proofs.NearLaws.{Below, no-low, one-low, below, not-last}
 use Rattle.chan_view.proofs.BoundLaws.{near-bound, three-latest}
 use Rattle.spec_plan.specs.declared.PlannerState.{PlannerState}
 use Rattle.spec_plan.specs.Plan.{rowPacket, slot}
@@ -90,11 +90,11 @@ first-bank s x l = go (below s x)
 
 pub last-bank : (s : Settings) (x : ℕ) → x < 32 → lastNear s x < 32
 unfolding lastNear
-last-bank s x l = go (eqb (x % 16) 15) refl
+last-bank s x l = go (isLast (s .core) x) refl
   where
-    go : (q : Bool) → eqb (x % 16) 15 ≡ q → cond q x (x + 1) < 32
+    go : (q : Bool) → isLast (s .core) x ≡ q → cond q x (x + 1) < 32
     go true e = l
-    go false e = omega (arith, eqb-false (x % 16) 15 e)
+    go false e = omega (arith, not-last (s .core) x e)
 
 module _ (s : Settings) (b : List ℕ) (low : 4 ≤ plannerIn b .now .0) where
   abbrev state : PlannerState

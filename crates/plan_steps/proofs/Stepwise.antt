@@ -15,7 +15,7 @@ use Rattle.spec_rules.specs.declared.Write.{Write}
 use Rattle.spec_rules.specs.Neighbour.{bankCount, Context, contextOf, near}
 use Rattle.spec_rules.specs.History.{isClosed, anyWrite}
 use Rattle.spec_rules.proofs.Bools.{not-both}
-use Rattle.spec_rules.proofs.NeighbourLaws.{split-neighbours}
+use Rattle.spec_rules.proofs.NeighbourLaws.{core-neighbours}
 use Rattle.spec_plan.specs.declared.PlannerState.{PlannerState}
 use Rattle.spec_plan.specs.Plan.{Draft, rowPacket, colPacket, when, waiting, stateIn, openOn, anyWaits, sent, flushed, flushedWhile, closed, closedUpTo, reached}
 use Rattle.spec_plan.specs.PlannerBytes.{plannerBytes, plannerIn}
@@ -69,7 +69,7 @@ module _ (s : Settings) (top : ℕ) (b : List ℕ) (k : Ready s top b) where
     once-after : (b1 : List ℕ) → b1 ≡ plannerBytes (once .planner) → After s 1000009000 once b1
     once-after =
         after-of (top + 3 + 64) 1000009000 once (omega arith) (omega arith) (marked-when s (readies s top b k .figures) (test (waiting d)) (top + 3) d (start s top b k) (omega arith))
-        (when-either (Good cx (plannerIn b)) (test (waiting d)) (flushed cx) d (λ _. good-flushed cx (split-neighbours s) (plannerIn b) d good) (λ _. good))
+        (when-either (Good cx (plannerIn b)) (test (waiting d)) (flushed cx) d (λ _. good-flushed cx (core-neighbours s) (plannerIn b) d good) (λ _. good))
 
     -- it passes only where a write waits
     pub passes : (z : Draft) (q : Bool) → q ≡ test (waiting z) → q ≡ true → anyWaits (waiting z) ≡ true
@@ -125,7 +125,7 @@ module _ (s : Settings) (top : ℕ) (b : List ℕ) (k : Ready s top b) where
     pub saved-after : (b1 : List ℕ) → b1 ≡ plannerBytes (saved .planner) → After s 1000009000 saved b1
     saved-after =
         after-of (top + 3 + 128) 1000009000 saved (omega arith) (omega arith) (marked-while s (readies s top b k .figures) lost (top + 3) d (start s top b k) (omega arith))
-        (good-while cx (split-neighbours s) (plannerIn b) d good lost refl)
+        (good-while cx (core-neighbours s) (plannerIn b) d good lost refl)
 
     pub saved-open : (b1 : List ℕ) → plannerIn b1 ≡ saved .planner → OpenAt b x → OpenAt b1 x
     unfolding bankCount
@@ -167,7 +167,7 @@ module _ (s : Settings) (top : ℕ) (b : List ℕ) (k : Ready s top b) where
     unfolding bankCount
     up-to-after n l =
         after-of (top + 3 + 192 * n) 1000008000 (upTo n) (omega arith) (omega arith) (marked-up-to s (readies s top b k .figures) pick n (top + 3) d (start s top b k) (omega arith))
-        (good-up-to cx (split-neighbours s) (plannerIn b) d good pick n (omega arith))
+        (good-up-to cx (core-neighbours s) (plannerIn b) d good pick n (omega arith))
 
     -- before the first turn of the loop
     pub first-drawn : (room : List ℕ) (at : ℕ) → Drawn s (upTo first) room at b room at
@@ -202,11 +202,11 @@ module _ (s : Settings) (top : ℕ) (b : List ℕ) (k : Ready s top b) where
     pub cleared-after : (b1 : List ℕ) → b1 ≡ plannerBytes (cleared .planner) → After s 1000008000 cleared b1
     cleared-after =
         after-of (top + 3 + 6144) 1000008000 cleared (omega arith) (omega arith) (marked-all s (readies s top b k .figures) (near cx x) (top + 3) d (start s top b k) (omega arith))
-        (good-cleared cx (split-neighbours s) (plannerIn b) d good x .0)
+        (good-cleared cx (core-neighbours s) (plannerIn b) d good x .0)
 
     pub cleared-shut : (b1 : List ℕ) → plannerIn b1 ≡ cleared .planner → NearShut s b1 x
     unfolding NearShut bankCount
-    cleared-shut b1 back = rw back (good-cleared cx (split-neighbours s) (plannerIn b) d good x .1)
+    cleared-shut b1 back = rw back (good-cleared cx (core-neighbours s) (plannerIn b) d good x .1)
 
     -- a step g after that, in a room for both
     module _ (g : Draft → Draft) (blind : Blind g) (room : List ℕ) (fits : Fits (g cleared) room 0) where

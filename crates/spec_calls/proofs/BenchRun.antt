@@ -23,7 +23,7 @@ use Rattle.record.specs.Refusal.{answerOf}
 use Rattle.record.specs.Request.{requestRead}
 use Rattle.record.proofs.RefusalLaws.{refused-number}
 use Rattle.spec_rules.specs.Neighbour.{Context, contextOf}
-use Rattle.spec_rules.proofs.NeighbourLaws.{split-neighbours}
+use Rattle.spec_rules.proofs.NeighbourLaws.{core-neighbours}
 use Rattle.spec_plan.specs.declared.PlannerState.{PlannerState}
 use Rattle.spec_plan.specs.declared.Outcome.{Outcome}
 use Rattle.spec_plan.specs.declared.Outcome.the-variants.{Refused, Made}
@@ -161,7 +161,7 @@ module _ (settings : List ℕ) (s : Settings) (a : settingsRead settings ≡ Acc
   unfolding BytesIn callsOf plannerAfter
   after-valid [] b p k = k
   after-valid (c ∷ l) b p k =
-      after-valid l (b .1) (planNext (contextOf s) p (c .request) (length (c .room))) (next-valid (contextOf s) (split-neighbours s) p (c .request) (length (c .room)) (b .0) k)
+      after-valid l (b .1) (planNext (contextOf s) p (c .request) (length (c .room))) (next-valid (contextOf s) (core-neighbours s) p (c .request) (length (c .room)) (b .0) k)
 
   bench-from : (calls : List PlanCall) → BytesIn calls → (p : PlannerState) → plannerValid (contextOf s) p ≡ true → (list : List ℕ) →
       benchAfter settings calls (record { planner = plannerBytes p; list = list })
@@ -173,7 +173,7 @@ module _ (settings : List ℕ) (s : Settings) (a : settingsRead settings ≡ Acc
       let new : List Record = planRecords (contextOf s) p (c .request) (length (c .room)) in
       rw (
         bench-next settings s a p k c list,
-        bench-from l (b .1) q (next-valid (contextOf s) (split-neighbours s) p (c .request) (length (c .room)) (b .0) k) (list ++ listBytes s new),
+        bench-from l (b .1) q (next-valid (contextOf s) (core-neighbours s) p (c .request) (length (c .room)) (b .0) k) (list ++ listBytes s new),
         append-assoc list (listBytes s new) (listBytes s (listed (contextOf s) q (callsOf l))),
         list-append s new (listed (contextOf s) q (callsOf l)),
       )
@@ -188,7 +188,7 @@ module _ (settings : List ℕ) (s : Settings) (a : settingsRead settings ≡ Acc
       let made =
       ap (λ (x : PlanAnswer). eqb (x .number) 0) (call-answer settings s a p k (c .request) (c .room)) ∙ answer-accepted (planOutcome (contextOf s) p (c .request) (length (c .room)))
       in
-      let rest = fed-from l (b .1) q (next-valid (contextOf s) (split-neighbours s) p (c .request) (length (c .room)) (b .0) k) (list ++ listBytes s new) in
+      let rest = fed-from l (b .1) q (next-valid (contextOf s) (core-neighbours s) p (c .request) (length (c .room)) (b .0) k) (list ++ listBytes s new) in
       rw (bench-next settings s a p k c list) (fed-same (c .request) _ _ _ _ made rest)
 
   module _ (calls : List PlanCall) (b : BytesIn calls) where

@@ -16,7 +16,7 @@ use Rattle.settings.specs.Settings.{settingsRead, valid}
 use Rattle.settings.proofs.SettingsLaws.{accepted-valid}
 use Rattle.record.specs.declared.Record.{Record}
 use Rattle.spec_rules.specs.Neighbour.{Context, contextOf}
-use Rattle.spec_rules.proofs.NeighbourLaws.{split-neighbours}
+use Rattle.spec_rules.proofs.NeighbourLaws.{core-neighbours}
 use Rattle.spec_plan.specs.Planner.{freshPlanner}
 use Rattle.spec_plan.specs.Call.{listBytes}
 use Rattle.spec_plan.specs.Runs.{OfBytes, listed}
@@ -26,7 +26,7 @@ use Rattle.spec_model.proofs.NextValid.{fresh-model-valid}
 use Rattle.spec_runs.specs.Drive.{Drive, started, called, driven, wideCalls}
 use Rattle.spec_runs.specs.WholeRun.{EndsInDrain, WholeRun}
 use Rattle.spec_runs.proofs.DriveLaws.{Ready, driven-within, driven-none-left}
-use Rattle.spec_runs.proofs.Demand.{run-fits, run-data, run-ready, whole-run-split}
+use Rattle.spec_runs.proofs.Demand.{run-fits, run-data, run-ready, whole-run-core}
 use Rattle.spec_check.specs.Check.{recordsUpTo}
 use Rattle.spec_calls.specs.Runs.{PlanCall, Device, freshBench, benchAfter, freshDevice, deviceNext, deviceAfter, wideBuffers, BytesIn, DrainsLast, CallsRun}
 use Rattle.spec_calls.proofs.ListOf.{length-list, list-count, records-up-to, list-checked}
@@ -87,7 +87,7 @@ module _ (settings : List ℕ) (s : Settings) (a : settingsRead settings ≡ Acc
 
   ready : Ready (contextOf s) freshModel store l
   unfolding contextOf
-  ready = run-ready (contextOf s) v (split-neighbours s) (callsOf calls) of-bytes store stored
+  ready = run-ready (contextOf s) v (core-neighbours s) (callsOf calls) of-bytes store stored
 
   stands : Stands s (listBytes s l) (length l) freshModel store l
   unfolding freshModel contextOf
@@ -99,8 +99,8 @@ module _ (settings : List ℕ) (s : Settings) (a : settingsRead settings ≡ Acc
         within = omega arith;
         model-valid = fresh-model-valid (contextOf s) v;
         data-held = ((omega arith, omega arith), (omega arith, omega arith));
-        fits = run-fits (contextOf s) v (split-neighbours s) (callsOf calls) of-bytes;
-        data-in = run-data (contextOf s) v (split-neighbours s) (callsOf calls) of-bytes;
+        fits = run-fits (contextOf s) v (core-neighbours s) (callsOf calls) of-bytes;
+        data-in = run-data (contextOf s) v (core-neighbours s) (callsOf calls) of-bytes;
         ready = ready;
       }
 
@@ -137,7 +137,7 @@ module _ (settings : List ℕ) (s : Settings) (a : settingsRead settings ≡ Acc
 
   module _ (rooms : List (List ℕ)) where
     whole : WholeRun (contextOf s) (callsOf calls) store (lengths rooms)
-    whole = whole-run-split s v (callsOf calls) of-bytes store stored w (lengths rooms)
+    whole = whole-run-core s v (callsOf calls) of-bytes store stored w (lengths rooms)
 
     done-is : recordsUpTo s list (device rooms .next) ≡ take (length l - length (end rooms .pending)) l
     done-is = rw (device-end rooms, list-is) (records-up-to s l (ready .coded) (length l - length (end rooms .pending)) (omega arith))

@@ -35,7 +35,7 @@ use Rattle.spec_rules.specs.History.{two}
 use Rattle.spec_rules.specs.Channel.{stateOf, waitingOf}
 use Rattle.spec_rules.specs.Checks.{judged}
 use Rattle.spec_rules.proofs.Bools.{and-left, and-right}
-use Rattle.spec_rules.proofs.NeighbourLaws.{split-neighbours}
+use Rattle.spec_rules.proofs.NeighbourLaws.{core-neighbours}
 use Rattle.spec_state.specs.Valid.{bankValid, channelValid}
 use Rattle.spec_state.proofs.NextValid.{valid-sound}
 use Rattle.spec_plan.specs.Call.{listBytes}
@@ -275,7 +275,7 @@ module _ (settings : List ℕ) (s : Settings) (a : settingsRead settings ≡ Acc
         stands = k .stands ∙ sym (append-assoc (k .before) (recordBytes s r) (listBytes s l));
         taken = length-append (k .before) (recordBytes s r) ∙ omega (arith, k .taken, length-record (contextOf s) r, k .within);
         within = omega (arith, k .within);
-        model-valid = next-model-valid (contextOf s) (accepted-valid settings s a) (split-neighbours s) m (k .model-valid) r (k .fits .0) (k .ready .passing .0);
+        model-valid = next-model-valid (contextOf s) (accepted-valid settings s a) (core-neighbours s) m (k .model-valid) r (k .fits .0) (k .ready .passing .0);
         data-held = bytes-held (contextOf s) m r (k .data-in .0) (k .data-held);
         fits = k .fits .1;
         data-in = k .data-in .1;

@@ -23,7 +23,7 @@ use Rattle.record.specs.Record.{recordRead}
 use Rattle.record.proofs.RoundTrip.{Held, record-read-held}
 use Rattle.record.proofs.RefusalLaws.{rule-number}
 use Rattle.spec_rules.specs.Neighbour.{Context, contextOf}
-use Rattle.spec_rules.proofs.NeighbourLaws.{split-neighbours}
+use Rattle.spec_rules.proofs.NeighbourLaws.{core-neighbours}
 use Rattle.spec_model.specs.declared.ModelState.{ModelState}
 use Rattle.spec_model.specs.declared.Stepped.{Stepped}
 use Rattle.spec_model.specs.declared.Stepped.the-variants as stepped
@@ -101,7 +101,7 @@ module _ (settings : List ℕ) (s : Settings) (a : settingsRead settings ≡ Acc
       let x : Stepped = stepAnswer (contextOf s) m (length (c .store)) (c .given) (length (c .room)) in
       let zero-taken = ap (λ (y : StepAnswer). eqb (y .number) 0) (answer-is cs f (c .store) (c .given) (c .room)) ∙ taken-number x in
       record {
-        good = step-valid (contextOf s) (accepted-valid settings s a) (split-neighbours s) m (f .good) (length (c .store)) (c .given) (length (c .room));
+        good = step-valid (contextOf s) (accepted-valid settings s a) (core-neighbours s) m (f .good) (length (c .store)) (c .given) (length (c .room));
         fits = step-fits (contextOf s) m (f .fits) (length (c .store)) (c .given) (length (c .room)) (w .0);
         left = ap (λ (b : List ℕ). stepCall settings b (c .store) (c .given) (c .room) .model) (f .left) ∙ step-model settings s a m (f .good) (f .fits) (c .store) (c .given) (c .room);
         accepted = taken-same (recordSaid (recordRead s (c .given))) _ _ _ _ zero-taken (f .accepted);
@@ -113,11 +113,11 @@ module _ (settings : List ℕ) (s : Settings) (a : settingsRead settings ≡ Acc
   under-accepted cs f store given room n =
       let cx : Context = contextOf s in
       let m : ModelState = modelAfter cx cs in
-      let k = tracked cx (split-neighbours s) cs in
+      let k = tracked cx (core-neighbours s) cs in
       let e = answer-is cs f store given room in
       rw (f .accepted) (
-        λ q. named (stepAnswer cx m (length store) given (length room)) n (sym e ∙ q) (step-rule cx (split-neighbours s) m (takenBy cx cs) k (length store) given (length room) n),
-        λ b. e ∙ ap steppedAnswer (rule-step cx (split-neighbours s) m (takenBy cx cs) k (length store) given (length room) n b),
+        λ q. named (stepAnswer cx m (length store) given (length room)) n (sym e ∙ q) (step-rule cx (core-neighbours s) m (takenBy cx cs) k (length store) given (length room) n),
+        λ b. e ∙ ap steppedAnswer (rule-step cx (core-neighbours s) m (takenBy cx cs) k (length store) given (length room) n b),
       )
 
 -- settings out of range have 1, not 11

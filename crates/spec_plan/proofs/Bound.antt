@@ -1,19 +1,19 @@
--- "a request may make 18 records." (document 02 a), and a drain that makes 18.
+-- No request makes more records than its core form allows (`spec_plan/specs/Most.antt`), and for each form a drain that makes so many.
 -- Assumes nothing.
 use Prim.Native.Nat.{ℕ, zero, suc, _+_, _*_, _-_, _/_, _≤_, _<_}
 use mathlib.Core.Path.{_≡_, refl, sym, _∙_}
 use mathlib.Core.Bool.{Bool, true, false, not, _&&_, _||_, cond}
 use mathlib.Core.List.{List, [], _∷_, map}
 use mathlib.Core.Option.{Option, none, some}
-use lib.Dec.{eqb}
+use lib.Dec.{eqb, ltb}
 use lib.ListN.{length, length-append}
-use borrow.Author.Tests.{eqb-true, eq-eqb}
+use borrow.Author.Tests.{eqb-true, eqb-false, eq-eqb, ltb-true}
 use native.Mathlib.Numerals.{add-one}
 use native.Mathlib.Omega.{arith}
 use Rattle.settings.specs.declared.Settings.{Settings}
 use Rattle.num.specs.Bytes.{bytes, number}
 use Rattle.num.specs.Search.{allUpTo}
-use Rattle.settings.specs.Bench.{setOf, setH}
+use Rattle.settings.specs.Bench.{setOf}
 use Rattle.packet.specs.declared.RowPacket.the-variants.{Act, Prer, Refa, Refp}
 use Rattle.packet.specs.declared.ColPacket.the-variants.{Nocop, Rd}
 use Rattle.record.specs.declared.Dualoct.{Dualoct}
@@ -26,7 +26,7 @@ use Rattle.spec_rules.specs.declared.Bank.{Bank}
 use Rattle.spec_rules.specs.declared.Write.{Write}
 use Rattle.spec_rules.specs.declared.Buffer.{Buffer}
 use Rattle.spec_rules.specs.declared.Buffer.the-variants.{Empty, One, Two}
-use Rattle.spec_rules.specs.Neighbour.{bankCount, Context, split, near, contextOf}
+use Rattle.spec_rules.specs.Neighbour.{bankCount, Context, runOf, inRuns, near, contextOf}
 use Rattle.spec_rules.specs.Packets.{rowTraits, colTraits, traits, retireTraits, instant, isPacket}
 use Rattle.spec_rules.specs.History.{bankBy, isClosed, isOpen, rest, leaving, loads, anyWrite}
 use Rattle.spec_rules.specs.Rules.{dataDelay}
@@ -38,6 +38,7 @@ use Rattle.spec_rules.proofs.Bools.{not-both, and-left}
 use Rattle.spec_plan.specs.declared.PlannerState.{PlannerState}
 use Rattle.spec_plan.specs.Planner.{freshPlanner, plannerValid}
 use Rattle.spec_plan.specs.Call.{inTime, timely, outcomeOf, outcomeBy, planOutcome, isMade, draftBy, planNext, planRecords}
+use Rattle.spec_plan.specs.Most.{requestMost, AtMost}
 use Rattle.spec_plan.specs.Runs.{Call, plannerAfter}
 use Rattle.spec_plan.specs.Plan.{Draft, rowPacket, colPacket, when, waiting, stateIn, openOn, hits, anyWaits, slot, sent, flushed, flushedWhile, closed, loses, closedUpTo, cleared, delays, reached, plannedRead, loaded, written, plannedWrite, turned, plannedRefresh, plannedWait, plannedDrain, stepsOf, planned}
 use Rattle.spec_plan.proofs.SentLaws.{when-either, Sized, sent-records, flushed-waiting, row-waiting, read-waiting, while-keeps, while-size, while-state, saved, up-to-shut}
@@ -74,8 +75,8 @@ count-pairs p (suc k) h =
 
 -- a bank and its neighbours are at most three
 near-range : (s : Settings) (b x : ℕ) → near (contextOf s) b x ≡ true → (b ≤ x + 1) × (x ≤ b + 1)
-unfolding split contextOf
-near-range s b x e = go (eqb x b) (eqb (b + 1) x) (eqb (x + 1) b) (eqb (b / 16) (x / 16)) refl refl refl e
+unfolding inRuns contextOf
+near-range s b x e = go (eqb x b) (eqb (b + 1) x) (eqb (x + 1) b) (eqb (b / runOf (s .core)) (x / runOf (s .core))) refl refl refl e
   where
     go : (i j k l : Bool) → eqb x b ≡ i → eqb (b + 1) x ≡ j → eqb (x + 1) b ≡ k → i || ((j || k) && l) ≡ true → (b ≤ x + 1) × (x ≤ b + 1)
     go true j k l ei ej ek h = omega (arith, eqb-true x b ei)
@@ -95,20 +96,44 @@ count-near s b (suc n) = go (near (contextOf s) b n) refl (count-near s b n)
     go true e ih = let r : (b ≤ n + 1) × (n ≤ b + 1) = near-range s b n e in omega arith
     go false e ih = omega arith
 
--- of two neighbours one is closed: at most 16 of the 32 banks are open
-open-half : (s : Settings) (state : ℕ → Bank) → Banked (contextOf s) state → count (λ x. not (isClosed (state x))) bankCount ≤ 16
-unfolding bankCount split contextOf
-open-half s state k =
-    count-pairs (λ x. not (isClosed (state x))) 16
-    (λ j m. go (isClosed (state (2 * j))) (isClosed (state (2 * j + 1))) (k .one-closed (2 * j) (2 * j + 1) (omega arith) (omega arith) (twins j)))
+count-all : (p : ℕ → Bool) (n : ℕ) → count p n ≤ n
+unfolding count
+count-all p zero = omega arith
+count-all p (suc n) = go (p n) (count-all p n)
   where
-    twins : (j : ℕ) → split (2 * j) (2 * j + 1) ≡ true
-    twins j = rw (eq-eqb (2 * j + 1) (2 * j + 1) refl, eq-eqb (2 * j / 16) ((2 * j + 1) / 16) (omega arith))
+    go : (b : Bool) → count p n ≤ n → cond b 1 0 + count p n ≤ suc n
+    go true ih = omega arith
+    go false ih = omega arith
 
-    go : (a c : Bool) → a || c ≡ true → not a && not c ≡ false
-    go true c h = refl
-    go false true h = refl
-    go false false h = sym h
+-- a bank of even number and the next one are neighbours in a run of 16 and of 32
+twins : (core j : ℕ) → ltb core 2 ≡ true → inRuns (runOf core) (2 * j) (2 * j + 1) ≡ true
+unfolding inRuns runOf
+twins core j l = go (eqb core 0) (eqb core 1) refl refl
+  where
+    go : (a c : Bool) → eqb core 0 ≡ a → eqb core 1 ≡ c
+        → (eqb (2 * j + 1) (2 * j + 1) || eqb (2 * j + 1 + 1) (2 * j)) && eqb (2 * j / cond a 16 (cond c 32 1)) ((2 * j + 1) / cond a 16 (cond c 32 1)) ≡ true
+    go true c e f = rw (eq-eqb (2 * j + 1) (2 * j + 1) refl, eq-eqb (2 * j / 16) ((2 * j + 1) / 16) (omega arith))
+    go false true e f = rw (eq-eqb (2 * j + 1) (2 * j + 1) refl, eq-eqb (2 * j / 32) ((2 * j + 1) / 32) (omega arith))
+    go false false e f = absurd (omega (arith, ltb-true core 2 l, eqb-false core 0 e, eqb-false core 1 f))
+
+-- of two neighbours one is closed: at most 16 of the 32 banks are open, or all where none are neighbours
+open-most : (s : Settings) (state : ℕ → Bank) → Banked (contextOf s) state → count (λ x. not (isClosed (state x))) bankCount + 2 ≤ requestMost (s .core)
+unfolding bankCount contextOf requestMost
+open-most s state k = go (ltb (s .core) 2) refl
+  where
+    one-of : (a c : Bool) → a || c ≡ true → not a && not c ≡ false
+    one-of true c h = refl
+    one-of false true h = refl
+    one-of false false h = sym h
+
+    go : (q : Bool) → ltb (s .core) 2 ≡ q → count (λ x. not (isClosed (state x))) 32 + 2 ≤ cond q 18 34
+    go true e =
+        omega (
+          arith,
+          count-pairs (λ x. not (isClosed (state x))) 16
+          (λ j m. one-of (isClosed (state (2 * j))) (isClosed (state (2 * j + 1))) (k .one-closed (2 * j) (2 * j + 1) (omega arith) (omega arith) (twins (s .core) j e))),
+        )
+    go false e = omega (arith, count-all (λ x. not (isClosed (state x))) 32)
 
 -- ---- the records made, and one more for each write that waits
 
@@ -210,7 +235,7 @@ module _ (s : Settings) where
   unfolding written loaded sent
   written-length at mask bytes d = simp length-append (omega arith)
 
-  drained-cost : (d : Draft) → Sized d → Banked (contextOf s) (stateIn d) → cost (plannedDrain (contextOf s) d) ≤ cost d + 16
+  drained-cost : (d : Draft) → Sized d → Banked (contextOf s) (stateIn d) → cost (plannedDrain (contextOf s) d) + 2 ≤ cost d + requestMost (s .core)
   unfolding plannedDrain
   drained-cost d k b =
       let z : Draft = flushedWhile (contextOf s) anyWaits d in
@@ -221,17 +246,25 @@ module _ (s : Settings) where
         up-to-cost (contextOf s) (λ x. true) z n bankCount (omega arith),
         while-cost (contextOf s) anyWaits refl d,
         count-le (λ x. true && not (isClosed (stateIn z x))) (λ x. not (isClosed (stateIn d x))) bankCount (λ x m e. rw (same x m) at e),
-        open-half s (stateIn d) b,
+        open-most s (stateIn d) b,
       )
 
-  pub most-made : (p : PlannerState) → Inv (contextOf s) p → (q : Request) → length (planned (contextOf s) q p .records) ≤ 18
+  least-most : 18 ≤ requestMost (s .core)
+  unfolding requestMost
+  least-most = go (ltb (s .core) 2)
+    where
+      go : (q : Bool) → 18 ≤ cond q 18 34
+      go true = omega arith
+      go false = omega arith
+
+  most-by : (p : PlannerState) → Inv (contextOf s) p → (q : Request) → length (planned (contextOf s) q p .records) ≤ requestMost (s .core)
   unfolding planned stepsOf plannedRead plannedWrite plannedRefresh turned plannedWait
-  most-made p v q = go q v
+  most-by p v q = go q v
     where
       d : Draft
       d = record { planner = p; records = [] }
 
-      go : (q : Request) → Inv (contextOf s) p → length (stepsOf (contextOf s) q d .records) ≤ 18
+      go : (q : Request) → Inv (contextOf s) p → length (stepsOf (contextOf s) q d .records) ≤ requestMost (s .core)
       go (Read at) k =
           let z : Draft = reached (contextOf s) (at .bank) (at .row) d in
           let test : List Write → Bool = delays at in
@@ -244,10 +277,11 @@ module _ (s : Settings) where
             while-cost (contextOf s) test refl z,
             reached-cost (at .bank) (at .row) d (k .size),
             start-cost p,
+            least-most,
           )
       go (WriteTo at mask bytes) k =
           let z : Draft = reached (contextOf s) (at .bank) (at .row) d in
-          omega (arith, written-length at mask bytes z, records-cost z, reached-cost (at .bank) (at .row) d (k .size), start-cost p)
+          omega (arith, written-length at mask bytes z, records-cost z, reached-cost (at .bank) (at .row) d (k .size), start-cost p, least-most)
       go RefreshBank k =
           let b : ℕ = p .refresh in
           let z : Draft = cleared (contextOf s) b d in
@@ -259,30 +293,45 @@ module _ (s : Settings) where
             sent-cost (contextOf s) (rowPacket (Refa b)) z (row-waiting (contextOf s) (Refa b) z),
             cleared-cost b d (k .size),
             start-cost p,
+            least-most,
           )
       go (Wait cycles) k = omega arith
       go Drain k = omega (arith, records-cost (plannedDrain (contextOf s) d), drained-cost d (k .size) (k .banked), start-cost p)
 
   -- from a state that is not refused
-  pub most : (p : PlannerState) → plannerValid (contextOf s) p ≡ true → (q : Request) → length (planned (contextOf s) q p .records) ≤ 18
-  most p v q = most-made p (valid-inv (contextOf s) p v) q
+  pub most : AtMost s
+  most p v q = most-by p (valid-inv (contextOf s) p v) q
 
--- ---- a drain that makes 18: two writes wait, and sixteen banks are open
+  -- under any core form
+  pub most-any : (p : PlannerState) → Inv (contextOf s) p → (q : Request) → length (planned (contextOf s) q p .records) ≤ 34
+  unfolding requestMost
+  most-any p v q = omega (arith, most-by p v q, any (ltb (s .core) 2))
+    where
+      any : (b : Bool) → cond b 18 34 ≤ 34
+      any true = omega arith
+      any false = omega arith
+
+-- ---- drains that make so many: two writes wait, and sixteen banks are open, or all
 
 place : ℕ → Place
 place bank = record { bank = bank; row = 0; column = 0 }
 
--- reads of every other bank from 0 on, and a write to the last
-sixteen : List Request
-sixteen = reads 15 (WriteTo (place 30) 0xFFFF (record { dqa = 0; dqb = 0 }) ∷ WriteTo (place 30) 0xFFFF (record { dqa = 0; dqb = 0 }) ∷ [])
+-- reads of n banks from 0 on, each so many after the one before, and two writes to the next
+requests : ℕ → ℕ → List Request
+requests step n = reads n (WriteTo (place (step * n)) 0xFFFF (record { dqa = 0; dqb = 0 }) ∷ WriteTo (place (step * n)) 0xFFFF (record { dqa = 0; dqb = 0 }) ∷ [])
   where
     reads : ℕ → List Request → List Request
     reads zero l = l
-    reads (suc n) l = reads n (Read (place (2 * n)) ∷ l)
+    reads (suc n) l = reads n (Read (place (step * n)) ∷ l)
 
-pub calls : List Call
-calls = map (λ (q : Request). record { request = requestBytes q; room = 576 }) sixteen
+calls : ℕ → ℕ → List Call
+calls step n = map (λ (q : Request). record { request = requestBytes q; room = 1088 }) (requests step n)
 
-pub most-reached : length (planRecords (contextOf setH) (plannerAfter (contextOf setH) freshPlanner calls) (requestBytes Drain) 576) ≡ 18
-unfolding setOf setH place sixteen calls bytes number allUpTo usesByte spareRight placed requestOf requestRead requestFields requestBytes split contextOf rowTraits colTraits traits instant isPacket bankBy isClosed isOpen bankCount dataDelay leaving loads fresh waitingOf bufferOf bankNext trackNext afterPacket trackRetired afterRetire afterData after maxUpTo bounds distances retireTraits placedAt under earliest leastFrom freshPlanner slot sent flushed flushedWhile closed closedUpTo reached plannedRead loaded written plannedWrite turned plannedRefresh plannedWait plannedDrain stepsOf planned inTime timely outcomeOf outcomeBy planOutcome isMade draftBy planNext planRecords plannerAfter
-most-reached = refl
+-- how many records a drain makes after them under set H with a core form
+pub drained : ℕ → ℕ → ℕ → ℕ
+drained core step n =
+    length (planRecords (contextOf (setOf 2 4 core)) (plannerAfter (contextOf (setOf 2 4 core)) freshPlanner (calls step n)) (requestBytes Drain) 1088)
+
+pub most-reached : (drained 0 2 15 ≡ requestMost 0) × ((drained 1 2 15 ≡ requestMost 1) × (drained 2 1 31 ≡ requestMost 2))
+unfolding drained requestMost setOf place requests calls bytes number allUpTo usesByte spareRight placed requestOf requestRead requestFields requestBytes runOf inRuns contextOf rowTraits colTraits traits instant isPacket bankBy isClosed isOpen bankCount dataDelay leaving loads fresh waitingOf bufferOf bankNext trackNext afterPacket trackRetired afterRetire afterData after maxUpTo bounds distances retireTraits placedAt under earliest leastFrom freshPlanner slot sent flushed flushedWhile closed closedUpTo reached plannedRead loaded written plannedWrite turned plannedRefresh plannedWait plannedDrain stepsOf planned inTime timely outcomeOf outcomeBy planOutcome isMade draftBy planNext planRecords plannerAfter
+most-reached = (refl, (refl, refl))

@@ -26,7 +26,7 @@ use Rattle.spec_rules.specs.Distances.{onlyACT}
 use Rattle.spec_rules.specs.Channel.{trackOf, stateOf, waitingOf, inBank, bankNext, afterPacket, leavingOf, after, afterData}
 use Rattle.spec_rules.specs.Checks.{since, bounds}
 use Rattle.spec_rules.specs.Earliest.{placedAt, under, earliest, retireBound, slotFrom, soonest, leastFrom}
-use Rattle.spec_rules.proofs.NeighbourLaws.{split-neighbours}
+use Rattle.spec_rules.proofs.NeighbourLaws.{core-neighbours}
 use Rattle.spec_rules.proofs.ByCommand.{wr-bounds, retire-bounds}
 use Rattle.spec_rules.proofs.HistoryLaws.{last-le-newest}
 use Rattle.spec_rules.proofs.TrackLaws.{Tracks, after-waits}
@@ -193,10 +193,13 @@ write-rate cx ns full calls bytes a b ia ib oa ob m n d e =
     (hit-records cx p a m d, rw next at (hit-records cx (written cx a m d (record { planner = p; records = [] }) .planner) b n e))
 
 -- set H's timings ask no more
-pub full-rate-h : (rows columns : ℕ) → FullRate (setOf rows columns)
+pub full-rate-h : (rows columns core : ℕ) → FullRate (setOf rows columns core)
 unfolding setOf
-full-rate-h rows columns = (omega arith, omega arith)
+full-rate-h rows columns core = (omega arith, omega arith)
 
-pub write-rate-h : (rows columns : ℕ) (calls : List Call) → OfBytes calls → let cx : Context = contextOf (setOf rows columns) in AtFullRate cx (plannerAfter cx freshPlanner calls)
+pub write-rate-h : (rows columns core : ℕ) (calls : List Call) → OfBytes calls →
+    let cx : Context = contextOf (setOf rows columns core) in
+    AtFullRate cx (plannerAfter cx freshPlanner calls)
 unfolding contextOf
-write-rate-h rows columns calls bytes = write-rate (contextOf (setOf rows columns)) (split-neighbours (setOf rows columns)) (full-rate-h rows columns) calls bytes
+write-rate-h rows columns core calls bytes =
+    write-rate (contextOf (setOf rows columns core)) (core-neighbours (setOf rows columns core)) (full-rate-h rows columns core) calls bytes

@@ -18,7 +18,7 @@ use Rattle.record.specs.declared.Record.the-variants.{RowAt, ColAt, DataOf}
 use Rattle.record.specs.declared.Request.{Request}
 use Rattle.record.specs.declared.Request.the-variants.{Read, Write, Refresh, Wait, Drain}
 use Rattle.record.specs.Request.{usesByte, spareRight, placed, requestOf, requestRead, requestFields, requestBytes}
-use Rattle.spec_rules.specs.Neighbour.{bankCount, split, contextOf}
+use Rattle.spec_rules.specs.Neighbour.{bankCount, runOf, inRuns, contextOf}
 use Rattle.spec_rules.specs.Packets.{rowTraits, colTraits, traits, retireTraits, instant, isPacket}
 use Rattle.spec_rules.specs.History.{bankBy, isClosed, isOpen, leaving, loads}
 use Rattle.spec_rules.specs.Rules.{dataDelay}
@@ -49,7 +49,7 @@ write bank row column mask d = Write (record { bank = bank; row = row; column = 
 -- each request with room for the most records that one makes
 calls : List Request → List Call
 calls [] = []
-calls (q ∷ l) = record { request = requestBytes q; room = 576 } ∷ calls l
+calls (q ∷ l) = record { request = requestBytes q; room = 1088 } ∷ calls l
 
 row : ℕ → RowPacket → Record
 row t p = RowAt (record { 0 = t }) p
@@ -112,6 +112,36 @@ lists =
 pub listOf : List Request → List Record
 listOf l = listed (contextOf setH) freshPlanner (calls l)
 
+-- ---- the three core forms
+
+-- banks 15 and 16; an open bank beside the bank of a refresh
+pub coreRuns : List (List Request)
+coreRuns =
+    (read 15 0 0 ∷ read 16 0 0 ∷ [])
+    ∷ (read 1 0 0 ∷ Refresh ∷ [])
+    ∷ []
+
+-- split, one run, no dependency
+pub coreLists : List (List (List Record))
+coreLists =
+    ((row 4 (Act 15 0) ∷ col 13 (Rd 15 0 full) ∷ row 13 (Act 16 0) ∷ col 22 (Rd 16 0 full) ∷ [])
+    ∷ (row 4 (Act 1 0) ∷ col 13 (Rd 1 0 full) ∷ row 24 (Prer 1) ∷ row 32 (Refa 0) ∷ row 52 (Refp 0) ∷ [])
+    ∷ [])
+    ∷ ((row 4 (Act 15 0) ∷ col 13 (Rd 15 0 full) ∷ row 24 (Prer 15) ∷ row 32 (Act 16 0) ∷ col 41 (Rd 16 0 full) ∷ [])
+    ∷ (row 4 (Act 1 0) ∷ col 13 (Rd 1 0 full) ∷ row 24 (Prer 1) ∷ row 32 (Refa 0) ∷ row 52 (Refp 0) ∷ [])
+    ∷ [])
+    ∷ ((row 4 (Act 15 0) ∷ col 13 (Rd 15 0 full) ∷ row 13 (Act 16 0) ∷ col 22 (Rd 16 0 full) ∷ [])
+    ∷ (row 4 (Act 1 0) ∷ col 13 (Rd 1 0 full) ∷ row 13 (Refa 0) ∷ row 33 (Refp 0) ∷ [])
+    ∷ [])
+    ∷ []
+
+pub listUnder : ℕ → List Request → List Record
+listUnder core l = listed (contextOf (setOf 2 4 core)) freshPlanner (calls l)
+
 pub worked : map listOf runs ≡ lists
-unfolding setOf setH read ones twos write calls row col dat full runs lists listOf bytes number allUpTo usesByte spareRight placed requestOf requestRead requestFields requestBytes split contextOf rowTraits colTraits traits instant isPacket bankBy isClosed isOpen bankCount dataDelay leaving loads fresh waitingOf bufferOf bankNext trackNext afterPacket trackRetired afterRetire afterData after maxUpTo bounds distances retireTraits placedAt under earliest leastFrom freshPlanner slot sent flushed flushedWhile closed closedUpTo reached plannedRead loaded written plannedWrite turned plannedRefresh plannedWait plannedDrain stepsOf planned inTime timely outcomeOf outcomeBy planOutcome isMade draftBy planNext planRecords listed
+unfolding setOf setH read ones twos write calls row col dat full runs lists listOf bytes number allUpTo usesByte spareRight placed requestOf requestRead requestFields requestBytes runOf inRuns contextOf rowTraits colTraits traits instant isPacket bankBy isClosed isOpen bankCount dataDelay leaving loads fresh waitingOf bufferOf bankNext trackNext afterPacket trackRetired afterRetire afterData after maxUpTo bounds distances retireTraits placedAt under earliest leastFrom freshPlanner slot sent flushed flushedWhile closed closedUpTo reached plannedRead loaded written plannedWrite turned plannedRefresh plannedWait plannedDrain stepsOf planned inTime timely outcomeOf outcomeBy planOutcome isMade draftBy planNext planRecords listed
 worked = refl
+
+pub core-worked : map (λ (core : ℕ). map (listUnder core) coreRuns) (0 ∷ 1 ∷ 2 ∷ []) ≡ coreLists
+unfolding setOf read calls row col full coreRuns coreLists listUnder bytes number allUpTo usesByte spareRight placed requestOf requestRead requestFields requestBytes runOf inRuns contextOf rowTraits colTraits traits instant isPacket bankBy isClosed isOpen bankCount dataDelay leaving loads fresh waitingOf bufferOf bankNext trackNext afterPacket trackRetired afterRetire afterData after maxUpTo bounds distances retireTraits placedAt under earliest leastFrom freshPlanner slot sent flushed flushedWhile closed closedUpTo reached plannedRead loaded written plannedWrite turned plannedRefresh plannedWait plannedDrain stepsOf planned inTime timely outcomeOf outcomeBy planOutcome isMade draftBy planNext planRecords listed
+core-worked = refl

@@ -3,10 +3,10 @@ use record::Refusal;
 use settings::PacketAt;
 use spec_rules::Channel;
 
-// The most records that a request makes, and the bytes that they take; the bytes of a planner.
-pub const MOST_RECORDS: usize = 18;
+// The most records that a request makes under any core form, and the bytes that they take; the bytes of a planner.
+pub const MOST_RECORDS: usize = 34;
 
-pub const MOST_BYTES: usize = 576;
+pub const MOST_BYTES: usize = 1088;
 
 pub const PLANNER_BYTES: usize = 768;
 

@@ -7,14 +7,14 @@ use lib.Dec.{eqb}
 use borrow.Author.Tests.{ne-eqb}
 use native.Mathlib.Omega.{arith}
 use Rattle.settings.specs.declared.Settings.{Settings}
-use Rattle.spec_rules.specs.Neighbour.{Context, Neighbours, split, contextOf, near}
+use Rattle.spec_rules.specs.Neighbour.{Context, Neighbours, runOf, inRuns, contextOf, near}
 use Rattle.spec_rules.proofs.Bools.{eqb-sym}
 
-pub split-neighbours : (s : Settings) → Neighbours (contextOf s)
-unfolding split contextOf
-split-neighbours s =
+pub core-neighbours : (s : Settings) → Neighbours (contextOf s)
+unfolding inRuns contextOf
+core-neighbours s =
     record {
-      symmetric = λ x y. rw (or-comm (eqb (x + 1) y) (eqb (y + 1) x), eqb-sym (x / 16) (y / 16));
+      symmetric = λ x y. rw (or-comm (eqb (x + 1) y) (eqb (y + 1) x), eqb-sym (x / runOf (s .core)) (y / runOf (s .core)));
       irreflexive = λ x. rw (ne-eqb (x + 1) x (λ q. omega arith));
     }
 

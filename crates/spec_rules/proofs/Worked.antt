@@ -15,7 +15,7 @@ use Rattle.packet.specs.declared.ColPacket.{ColPacket}
 use Rattle.packet.specs.declared.ColPacket.the-variants.{Nocop, Wr, Rd}
 use Rattle.record.specs.declared.Record.{Record}
 use Rattle.record.specs.declared.Record.the-variants.{RowAt, ColAt, DataOf}
-use Rattle.spec_rules.specs.Neighbour.{bankCount, split, contextOf}
+use Rattle.spec_rules.specs.Neighbour.{bankCount, runOf, inRuns, contextOf}
 use Rattle.spec_rules.specs.Packets.{rowTraits, colTraits, traits, retireTraits, instant, isPacket}
 use Rattle.spec_rules.specs.History.{bankBy, bankAfter, isClosed, isOpen, leaving, loads, waitingNext, waitingAfter, deeds, events, keeps}
 use Rattle.spec_rules.specs.Rules.{dataDelay, dueAfter, rules}
@@ -199,5 +199,5 @@ verdicts =
     ∷ []
 
 pub worked : (map byRules lists ≡ verdicts) × (map byTests lists ≡ verdicts)
-unfolding setOf setH numbers verdict byRules byTests lists verdicts split contextOf rowTraits colTraits traits instant isPacket bankBy bankAfter isClosed isOpen leaving loads waitingNext waitingAfter deeds events retireTraits keeps bankCount dataDelay dueAfter distances ruleOf rules rule1 rule4 rule9 rule12 rule14 rule15 rule16 lowest lowestRule firstBroken everyRule fresh waitingOf bufferOf dueOf bankNext trackNext afterPacket trackRetired afterRetire afterData after maxUpTo checkOf checks judged channelAfter firstFound allUpTo firstFalse
+unfolding setOf setH numbers verdict byRules byTests lists verdicts runOf inRuns contextOf rowTraits colTraits traits instant isPacket bankBy bankAfter isClosed isOpen leaving loads waitingNext waitingAfter deeds events retireTraits keeps bankCount dataDelay dueAfter distances ruleOf rules rule1 rule4 rule9 rule12 rule14 rule15 rule16 lowest lowestRule firstBroken everyRule fresh waitingOf bufferOf dueOf bankNext trackNext afterPacket trackRetired afterRetire afterData after maxUpTo checkOf checks judged channelAfter firstFound allUpTo firstFalse
 worked = (refl, refl)

@@ -30,7 +30,7 @@ use Rattle.spec_rules.specs.Checks.{checkOf, checks, judged, foundAt}
 use Rattle.spec_rules.proofs.Bools.{and-left, and-right}
 use Rattle.spec_rules.proofs.BrokenLaws.{lowest-none}
 use Rattle.spec_rules.proofs.CheckerRight.{found-is-rule}
-use Rattle.spec_rules.proofs.NeighbourLaws.{split-neighbours}
+use Rattle.spec_rules.proofs.NeighbourLaws.{core-neighbours}
 use Rattle.spec_plan.specs.declared.PlannerState.{PlannerState}
 use Rattle.spec_plan.specs.Planner.{freshPlanner}
 use Rattle.spec_plan.specs.Call.{planNext}
@@ -169,7 +169,7 @@ pub whole-run : (cx : Context) → valid (cx .settings) ≡ true → Neighbours 
 whole-run cx v ns calls b store n w rooms = run-whole cx v ns calls b store n w rooms
 
 -- for two runs of 17 sense amps
-pub whole-run-split : (s : Settings) → valid s ≡ true → (calls : List Call) → OfBytes calls → (store : List ℕ) → length store ≡ storeLength (contextOf s) → Bytes store → (rooms : List ℕ)
+pub whole-run-core : (s : Settings) → valid s ≡ true → (calls : List Call) → OfBytes calls → (store : List ℕ) → length store ≡ storeLength (contextOf s) → Bytes store → (rooms : List ℕ)
     → WholeRun (contextOf s) calls store rooms
 unfolding contextOf
-whole-run-split s v calls b store n w rooms = whole-run (contextOf s) v (split-neighbours s) calls b store n w rooms
+whole-run-core s v calls b store n w rooms = whole-run (contextOf s) v (core-neighbours s) calls b store n w rooms

@@ -18,7 +18,7 @@ use Rattle.spec_rules.specs.Neighbour.{bankCount, Context, contextOf}
 use Rattle.spec_rules.specs.History.{isClosed, isOpen, anyWrite, allWrites}
 use Rattle.spec_rules.specs.Channel.{trackOf, stateOf, waitingOf}
 use Rattle.spec_rules.proofs.Bools.{iff-eq, not-both, and-left, and-right, all-ext, all-and}
-use Rattle.spec_rules.proofs.NeighbourLaws.{split-neighbours}
+use Rattle.spec_rules.proofs.NeighbourLaws.{core-neighbours}
 use Rattle.spec_state.specs.Valid.{bankValid, trackValid, writeValid, lastsValid, apart, channelValid}
 use Rattle.spec_state.specs.ChannelBytes.{bankIn, trackIn, tracksIn, lastsIn, writeIn, bufferIn, channelIn, zeroPart, channelSpare}
 use Rattle.spec_state.proofs.PlaneLaws.{length-tracks, tracks-at}
@@ -56,10 +56,10 @@ module _ (s : Settings) (state : ℕ → Bank) where
   low-pair x y lx ly e h = rw e (rw (ne-eqb (lowOf s x) 32 (λ z. omega arith)) at h)
 
   pair-of-lows : (x y : ℕ) → x < 32 → y < 32 → contextOf s .nbr x y ≡ true → lowRight x ≡ true → lowRight y ≡ true → pair x y ≡ true
-  pair-of-lows x y lx ly n hx hy = go (near-beside s x y (or-right (eqb y x) _ n)) (near-beside s y x (or-right (eqb x y) _ (split-neighbours s .symmetric y x ∙ n))) (above s x) (above s y)
+  pair-of-lows x y lx ly n hx hy = go (near-beside s x y (or-right (eqb y x) _ n)) (near-beside s y x (or-right (eqb x y) _ (core-neighbours s .symmetric y x ∙ n))) (above s x) (above s y)
     where
       same : y ≡ x → pair x y ≡ true
-      same e = not-both (contextOf s .nbr x y) n (rw e (split-neighbours s .irreflexive x))
+      same e = not-both (contextOf s .nbr x y) n (rw e (core-neighbours s .irreflexive x))
 
       go : Beside s x y → Beside s y x → Above s x → Above s y → pair x y ≡ true
       go (own e) q u v = same e

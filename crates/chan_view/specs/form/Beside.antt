@@ -1,30 +1,38 @@
 -- Banks beside a bank and their places in the array of all banks, as code computes them. Number 32 stands for no bank.
 -- Assumes nothing.
 use Prim.Native.Nat.{ℕ, _+_, _-_, _%_}
-use mathlib.Core.Bool.{cond}
+use mathlib.Core.Bool.{Bool, cond}
 use mathlib.Core.List.{List}
 use lib.Dec.{eqb, ltb}
 use lib.ListN.{getD}
 use Rattle.settings.specs.declared.Settings.{Settings}
 use Rattle.spec_rules.specs.declared.BankTrack.{BankTrack}
+use Rattle.spec_rules.specs.Neighbour.{runOf}
 use Rattle.spec_rules.specs.Channel.{idle}
 use Rattle.chan_view.specs.declared.Held.{Held}
 use Rattle.chan_view.specs.declared.Tracks.{Tracks}
 
--- ---- neighbours, where 15 and 16 are none
+-- ---- neighbours, by a bank's place in its run
+
+-- whether a bank is the first or the last of its run, by the core form
+abbrev pub isFirst : ℕ → ℕ → Bool
+isFirst core b = eqb (b % runOf core) 0
+
+abbrev pub isLast : ℕ → ℕ → Bool
+isLast core b = eqb ((b + 1) % runOf core) 0
 
 unfoldable pub lowOf : Settings → ℕ → ℕ
-lowOf s b = cond (eqb (b % 16) 0) 32 (b - 1)
+lowOf s b = cond (isFirst (s .core) b) 32 (b - 1)
 
 unfoldable pub highOf : Settings → ℕ → ℕ
-highOf s b = cond (eqb (b % 16) 15) 32 (b + 1)
+highOf s b = cond (isLast (s .core) b) 32 (b + 1)
 
 -- the first and the last of a bank and its neighbours
 unfoldable pub firstNear : Settings → ℕ → ℕ
-firstNear s x = cond (eqb (x % 16) 0) x (x - 1)
+firstNear s x = cond (isFirst (s .core) x) x (x - 1)
 
 unfoldable pub lastNear : Settings → ℕ → ℕ
-lastNear s x = cond (eqb (x % 16) 15) x (x + 1)
+lastNear s x = cond (isLast (s .core) x) x (x + 1)
 
 -- ---- places
 

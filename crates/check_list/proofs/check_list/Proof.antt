@@ -4,7 +4,7 @@ use mathlib.Core.Path.{_≡_, sym, _∙_, ap}
 use native.Mathlib.Omega.{arith}
 use borrow.Author.Tests.{eq-eqb, ne-eqb}
 use Rattle.spec_rules.specs.Neighbour.{contextOf}
-use Rattle.spec_rules.proofs.NeighbourLaws.{split-neighbours}
+use Rattle.spec_rules.proofs.NeighbourLaws.{core-neighbours}
 use Rattle.record.specs.declared.Refusal.the-variants.{Word, Rule}
 use Rattle.record.specs.Record.{recordsIn}
 use Rattle.check_walk.specs.declared.Stop.{Stop}
@@ -31,7 +31,7 @@ returns-2 c =
     let end : c .before .walk .result .at ≡ recordsIn (a .list .now) = c .if2 .taken in
     let q = sym (ap (λ (x : Stop). x .at) (c .before .walk .ensures)) ∙ end in
     rw (eq-eqb _ 0 (c .before .before .if1 .left), eq-eqb _ _ (list-good (contextOf (a .s)) (a .list .now) q))
-    (stop-passed (contextOf (a .s)) _ (a .list .now) (recordsIn (a .list .now)) (split-neighbours (a .s)) q ∙ ap (ruleAnswer (contextOf (a .s))) (list-via (a .s) (a .list .now)))
+    (stop-passed (contextOf (a .s)) _ (a .list .now) (recordsIn (a .list .now)) (core-neighbours (a .s)) q ∙ ap (ruleAnswer (contextOf (a .s))) (list-via (a .s) (a .list .now)))
 
 returns-3 : tie.Need-returns-3
 unfolding listAnswer recordsAnswer stopOf contextOf
@@ -61,7 +61,7 @@ returns-5 c =
     let g = sym (c .before .first-bad .ensures) ∙ c .if4 .left in
     rw (eq-eqb _ 0 (c .before .before .before .before .before .before .if1 .left), eq-eqb _ _ g)
     (ap (λ (x : Stop). Refused (Rule (x .rule) (x .at))) w
-    ∙ stop-refused (contextOf (a .s)) _ (a .list .now) (recordsIn (a .list .now)) (split-neighbours (a .s)) (list-formed (a .s) (a .list .now) g) (λ z. c .before .before .before .before .if2 .left (e ∙ z))
+    ∙ stop-refused (contextOf (a .s)) _ (a .list .now) (recordsIn (a .list .now)) (core-neighbours (a .s)) (list-formed (a .s) (a .list .now) g) (λ z. c .before .before .before .before .if2 .left (e ∙ z))
     ∙ ap (ruleAnswer (contextOf (a .s))) (list-via (a .s) (a .list .now)))
 
 pub check-list-spec : {M : Type 1} → statement M

@@ -1,24 +1,19 @@
--- `chan_view::neighbours::first_near` meets its contract: by the bank's place in its half.
-use Prim.Native.Nat.{_%_}
-use mathlib.Core.Path.{_≡_}
+-- `chan_view::neighbours::first_near` meets its contract: by the bank's place in its run.
+use mathlib.Core.Path.{sym, _∙_}
 use native.Mathlib.Omega.{arith}
-use borrow.Author.Tests.{eq-eqb, ne-eqb}
 use Rattle.chan_view.specs.form.Beside.{firstNear}
+use Rattle.chan_view.proofs.NearLaws.{not-first}
 use borrow.Author.Needs.{needs}
 use Rattle.chan_view.proofs.neighbours.first_near.Statement.{statement}
 use Rattle.chan_view.proofs.neighbours.first_near.Tie as tie
 
 returns : tie.Need-returns
 unfolding firstNear
-returns c =
-    let e : c .before .args .x % 16 ≡ 0 = omega arith in
-    rw (eq-eqb _ _ e) (omega arith)
+returns c = rw (sym (c .before .is-first .ensures) ∙ c .if1 .taken) (search needs)
 
 returns-2 : tie.Need-returns-2
 unfolding firstNear
-returns-2 c =
-    let e : c .before .args .x % 16 ≡ 0 → ⊥ = λ z. omega arith in
-    rw (ne-eqb _ _ e) (omega arith)
+returns-2 c = rw (sym (c .before .is-first .ensures) ∙ c .if1 .left) (search needs)
 
 pub first-near-spec : {M : Type 1} → statement M
-first-near-spec = tie.close (tie.spec (λ c. search needs) returns returns-2)
+first-near-spec = tie.close (tie.spec (λ c. search needs) (λ c κs. search needs) (λ c. omega (arith, not-first _ _ (sym (c .before .is-first .ensures) ∙ c .if1 .left))) returns returns-2)
