@@ -26,7 +26,7 @@ use Rattle.spec_plan.specs.Planner.{plannerValid}
 use Rattle.spec_plan.specs.PlannerBytes.{plannerLength, plannerBytes, plannerIn, plannerRight}
 use Rattle.spec_plan.specs.Plan.{Draft, planned}
 use Rattle.spec_plan.specs.Call.{listBytes, timely, outcomeOf, outcomeBy, planOutcome, isMade, draftBy, planNext, planRecords, planRoom}
-use Rattle.spec_plan.proofs.Bound.{most}
+use Rattle.spec_plan.proofs.Bound.{most-any}
 use Rattle.spec_plan.proofs.PlannerRoundTrip.{planner-length}
 use Rattle.plan_bytes.specs.form.Numbers.{word, Tops, Below}
 use Rattle.plan_calm.specs.form.Calm.{isCalm}
@@ -116,9 +116,9 @@ module _ (s : Settings) (planner : List ℕ) where
         let fits = le-leb (length (planned (contextOf s) q (plannerIn planner) .records)) (length room / 32) (omega arith) in
         rw (t, fits) (rw en at a, (ea, el))
 
-    -- "No request makes more than 18 records."
-    pub enough : (list : List ℕ) → 576 ≤ length list → 32 * length (planned (contextOf s) q (plannerIn planner) .records) ≤ length list
-    enough list l = omega (arith, most s (plannerIn planner) (right-valid h) q)
+    -- no request makes more than 34 records
+    pub enough : (list : List ℕ) → 1088 ≤ length list → 32 * length (planned (contextOf s) q (plannerIn planner) .records) ≤ length list
+    enough list l = omega (arith, most-any s (plannerIn planner) (right-valid h) q)
 
     pub full : timely (contextOf s) (planned (contextOf s) q (plannerIn planner)) ≡ true → length room / 32 < length (planned (contextOf s) q (plannerIn planner) .records)
         → (r : PlanAnswer) → r ≡ planAnswer (Refused refusal.Full) → Leaves (served (contextOf s) planner (Accepted q) room) r planner room
@@ -127,7 +127,7 @@ module _ (s : Settings) (planner : List ℕ) where
 
     -- a state and a list of the call's own: the lent state is copied to the one, the request is planned there, and what both become
     -- is copied back
-    module _ (state list : List ℕ) (e : length state ≡ 768) (m : 576 ≤ length list) (copy : List ℕ) (ec : copy ≡ splice state 0 planner) where
+    module _ (state list : List ℕ) (e : length state ≡ 768) (m : 1088 ≤ length list) (copy : List ℕ) (ec : copy ≡ splice state 0 planner) where
       copied : copy ≡ planner
       copied = ec ∙ splice-whole state planner (right-length h ∙ sym e)
 

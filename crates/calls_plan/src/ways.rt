@@ -49,7 +49,7 @@ fn on_lent(s: Settings, planner: &mut [u8], q: Request, room: &mut [u8]) -> Plan
     requires { ⌜ plannerRight (contextOf s) (now planner) ≡ true ⌝ }
     requires { ⌜ isCalm (now planner) ≡ true ⌝ }
     requires { ⌜ InRange s q ⌝ }
-    requires { ⌜ 576 ≤ length (now room) ⌝ }
+    requires { ⌜ 1088 ≤ length (now room) ⌝ }
     ensures { λ r. ⌜ r ≡ served (contextOf s) (now (planner .entry)) (Accepted q) (now (room .entry)) .answer ⌝ }
     ensures { λ _. ⌜ now (planner .exit) ≡ served (contextOf s) (now (planner .entry)) (Accepted q) (now (room .entry)) .planner ⌝ }
     ensures { λ _. ⌜ now (room .exit) ≡ served (contextOf s) (now (planner .entry)) (Accepted q) (now (room .entry)) .room ⌝ }
@@ -85,7 +85,7 @@ fn tried(
     requires { ⌜ plannerRight (contextOf s) (now planner) ≡ true ⌝ }
     requires { ⌜ InRange s q ⌝ }
     requires { ⌜ length (now state) ≡ 768 ⌝ }
-    requires { ⌜ 576 ≤ length (now list) ⌝ }
+    requires { ⌜ 1088 ≤ length (now list) ⌝ }
     ensures { λ r. ⌜ r ≡ served (contextOf s) (now (planner .entry)) (Accepted q) (now (room .entry)) .answer ⌝ }
     ensures { λ _. ⌜ now (planner .exit) ≡ served (contextOf s) (now (planner .entry)) (Accepted q) (now (room .entry)) .planner ⌝ }
     ensures { λ _. ⌜ now (room .exit) ≡ served (contextOf s) (now (planner .entry)) (Accepted q) (now (room .entry)) .room ⌝ }

@@ -25,7 +25,7 @@ use Rattle.spec_plan.specs.Plan.{planned}
 use Rattle.spec_plan.specs.Planner.{plannerValid}
 use Rattle.spec_plan.specs.Call.{listBytes, timely, outcomeOf, outcomeBy, isMade, draftBy}
 use Rattle.spec_plan.proofs.Invariant.{valid-tested}
-use Rattle.spec_plan.proofs.Bound.{most}
+use Rattle.spec_plan.proofs.Bound.{most-any}
 use Rattle.plan_by_value.specs.declared.Draft.{Draft as Drawn}
 use Rattle.plan_by_value.specs.form.Answered.{nextBy, recordsBy}
 use Rattle.plan_by_value.specs.form.Drawn.{recordsOf, Draws}
@@ -50,10 +50,10 @@ module _ (s : Settings) (p : PlannerState) where
     -- of one that is in time
     module _ (l : d .late ≡ false) where
       pub count-is : d .count ≡ length (planned (contextOf s) q p .records)
-      count-is = draws-count s d (planned (contextOf s) q p) k (most s p v q) l
+      count-is = draws-count s d (planned (contextOf s) q p) k (most-any s p v q) l
 
-      pub count-most : d .count ≤ 18
-      count-most = omega (arith, count-is, most s p v q)
+      pub count-most : d .count ≤ 34
+      count-most = omega (arith, count-is, most-any s p v q)
 
       pub full-is : room / 32 < d .count → outcomeBy (contextOf s) p (Accepted q) room ≡ Refused Full
       unfolding outcomeBy outcomeOf
@@ -69,4 +69,4 @@ module _ (s : Settings) (p : PlannerState) where
 
       pub records-are : d .count ≤ room / 32 → recordsOf (d .list) (d .count) ≡ recordsBy (contextOf s) p (Accepted q) room
       unfolding isMade draftBy
-      records-are h = rw (made-is h) (k .records l (most s p v q))
+      records-are h = rw (made-is h) (k .records l (most-any s p v q))

@@ -49,7 +49,7 @@ pub(crate) struct Entry {
 // or of its data, or now, passed the last one; then the rest says nothing.
 pub(crate) struct Draft {
     pub planner: PlannerState,
-    pub list: [Entry; 18],
+    pub list: [Entry; 34],
     pub count: usize,
     pub late: bool,
 }

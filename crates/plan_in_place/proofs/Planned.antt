@@ -34,7 +34,7 @@ use Rattle.spec_plan.specs.Call.{listBytes, inTime, timely}
 use Rattle.spec_plan.specs.PlannerBytes.{plannerBytes, plannerIn, plannerRight}
 use Rattle.spec_plan.proofs.SentLaws.{when-either, sent-refresh, while-keeps}
 use Rattle.spec_plan.proofs.PlanLaws.{Good, good-while, good-reached}
-use Rattle.spec_plan.proofs.Bound.{most-any}
+use Rattle.spec_plan.proofs.Bound.{most-made}
 use Rattle.spec_plan.proofs.CallLaws.{planned-made}
 use Rattle.spec_plan.proofs.PlannerRoundTrip.{planner-length}
 use Rattle.spec_plan.proofs.Timely.{lastDelay, timely-is}
@@ -68,16 +68,16 @@ up-to-refresh cx pick (suc n) d =
     when-either (λ y. f y ≡ f d) (pick n && not (isClosed (stateIn z n))) (closed cx n) z
     (λ _. sent-refresh cx (rowPacket (Prer n)) (flushedWhile cx test z) ∙ save ∙ up-to-refresh cx pick n d) (λ _. up-to-refresh cx pick n d)
 
-module _ (s : Settings) (b : List ℕ) (k : Ready s 999999997 b) (room : List ℕ) (m : 576 ≤ length room) where
+module _ (s : Settings) (b : List ℕ) (k : Ready s 999999997 b) (room : List ℕ) (m : 1088 ≤ length room) where
   abbrev cx : Context
   cx = contextOf s
 
   abbrev d : Draft
   d = drafted b
 
-  -- "No request makes more than 18 records."
+  -- no request makes more than 34 records
   enough : (q : Request) → Fits (planned cx q (plannerIn b)) room 0
-  enough q = omega (arith, most-any s (plannerIn b) (inv s 999999997 b k) q)
+  enough q = omega (arith, most-made s (plannerIn b) (inv s 999999997 b k) q)
 
   module _ (at : Place) (i : InPlace s at) where
     -- the row reached

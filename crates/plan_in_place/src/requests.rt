@@ -38,7 +38,7 @@ fn read(s: Settings, b: &mut [u8], at: Place, room: &mut [u8]) -> usize
     requires { ⌜ Ready s 999999997 (now b) ⌝ }
     requires { ⌜ length (now b) ≡ 768 ⌝ }
     requires { ⌜ InPlace s at ⌝ }
-    requires { ⌜ 576 ≤ length (now room) ⌝ }
+    requires { ⌜ 1088 ≤ length (now room) ⌝ }
     ensures { λ r. ⌜ Drawn s (plannedRead (contextOf s) at (drafted (now (b .entry)))) (now (room .entry)) 0 (now (b .exit)) (now (room .exit)) r ⌝ }
 {
     let to = reach(s, b, at.bank, at.row, room);
@@ -51,7 +51,7 @@ fn write(s: Settings, b: &mut [u8], at: Place, mask: u32, d: Dualoct, room: &mut
     requires { ⌜ Ready s 999999997 (now b) ⌝ }
     requires { ⌜ length (now b) ≡ 768 ⌝ }
     requires { ⌜ InPlace s at ⌝ }
-    requires { ⌜ 576 ≤ length (now room) ⌝ }
+    requires { ⌜ 1088 ≤ length (now room) ⌝ }
     ensures { λ r. ⌜ Drawn s (plannedWrite (contextOf s) at mask d (drafted (now (b .entry)))) (now (room .entry)) 0 (now (b .exit)) (now (room .exit)) r ⌝ }
 {
     let to = reach(s, b, at.bank, at.row, room);
@@ -62,7 +62,7 @@ fn write(s: Settings, b: &mut [u8], at: Place, mask: u32, d: Dualoct, room: &mut
 fn refresh(s: Settings, b: &mut [u8], room: &mut [u8]) -> usize
     requires { ⌜ Ready s 999999997 (now b) ⌝ }
     requires { ⌜ length (now b) ≡ 768 ⌝ }
-    requires { ⌜ 576 ≤ length (now room) ⌝ }
+    requires { ⌜ 1088 ≤ length (now room) ⌝ }
     ensures { λ r. ⌜ Drawn s (plannedRefresh (contextOf s) (drafted (now (b .entry)))) (now (room .entry)) 0 (now (b .exit)) (now (room .exit)) r ⌝ }
 {
     let bank = u16_at(b, 756);
@@ -85,7 +85,7 @@ fn wait(s: Settings, b: &mut [u8], cycles: u32)
 fn drain(s: Settings, b: &mut [u8], room: &mut [u8]) -> usize
     requires { ⌜ Ready s 999999997 (now b) ⌝ }
     requires { ⌜ length (now b) ≡ 768 ⌝ }
-    requires { ⌜ 576 ≤ length (now room) ⌝ }
+    requires { ⌜ 1088 ≤ length (now room) ⌝ }
     ensures { λ r. ⌜ Drawn s (plannedDrain (contextOf s) (drafted (now (b .entry)))) (now (room .entry)) 0 (now (b .exit)) (now (room .exit)) r ⌝ }
 {
     let to = flush_all(s, b, room, 0);
@@ -98,7 +98,7 @@ pub fn plan(s: Settings, planner: &mut [u8], q: Request, room: &mut [u8]) -> usi
     requires { ⌜ valid s ≡ true ⌝ }
     requires { ⌜ plannerRight (contextOf s) (now planner) ≡ true ⌝ }
     requires { ⌜ InRange s q ⌝ }
-    requires { ⌜ 576 ≤ length (now room) ⌝ }
+    requires { ⌜ 1088 ≤ length (now room) ⌝ }
     ensures { λ _. ⌜ now (planner .exit) ≡ plannerBytes (planned (contextOf s) q (plannerIn (now (planner .entry))) .planner) ⌝ }
     ensures { λ _. ⌜ now (room .exit) ≡ splice (now (room .entry)) 0 (listBytes s (planned (contextOf s) q (plannerIn (now (planner .entry))) .records)) ⌝ }
     ensures { λ r. ⌜ r ≡ length (planned (contextOf s) q (plannerIn (now (planner .entry))) .records) ⌝ }

@@ -303,13 +303,16 @@ module _ (s : Settings) where
   most p v q = most-by p (valid-inv (contextOf s) p v) q
 
   -- under any core form
-  pub most-any : (p : PlannerState) → Inv (contextOf s) p → (q : Request) → length (planned (contextOf s) q p .records) ≤ 34
+  pub most-made : (p : PlannerState) → Inv (contextOf s) p → (q : Request) → length (planned (contextOf s) q p .records) ≤ 34
   unfolding requestMost
-  most-any p v q = omega (arith, most-by p v q, any (ltb (s .core) 2))
+  most-made p v q = omega (arith, most-by p v q, any (ltb (s .core) 2))
     where
       any : (b : Bool) → cond b 18 34 ≤ 34
       any true = omega arith
       any false = omega arith
+
+  pub most-any : (p : PlannerState) → plannerValid (contextOf s) p ≡ true → (q : Request) → length (planned (contextOf s) q p .records) ≤ 34
+  most-any p v q = most-made p (valid-inv (contextOf s) p v) q
 
 -- ---- drains that make so many: two writes wait, and sixteen banks are open, or all
 

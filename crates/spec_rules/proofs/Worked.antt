@@ -8,14 +8,14 @@ use mathlib.Core.List.{List, [], _∷_, map}
 use lib.Dec.{ltb}
 use lib.ListN.{length}
 use Rattle.num.specs.Search.{allUpTo, firstFalse}
-use Rattle.settings.specs.Bench.{setOf, setH}
+use Rattle.settings.specs.Bench.{setOf}
 use Rattle.packet.specs.declared.RowPacket.{RowPacket}
 use Rattle.packet.specs.declared.RowPacket.the-variants.{Act, Prer, Refa, Refp}
 use Rattle.packet.specs.declared.ColPacket.{ColPacket}
 use Rattle.packet.specs.declared.ColPacket.the-variants.{Nocop, Wr, Rd}
 use Rattle.record.specs.declared.Record.{Record}
 use Rattle.record.specs.declared.Record.the-variants.{RowAt, ColAt, DataOf}
-use Rattle.spec_rules.specs.Neighbour.{bankCount, runOf, inRuns, contextOf}
+use Rattle.spec_rules.specs.Neighbour.{bankCount, Context, runOf, inRuns, contextOf}
 use Rattle.spec_rules.specs.Packets.{rowTraits, colTraits, traits, retireTraits, instant, isPacket}
 use Rattle.spec_rules.specs.History.{bankBy, bankAfter, isClosed, isOpen, leaving, loads, waitingNext, waitingAfter, deeds, events, keeps}
 use Rattle.spec_rules.specs.Rules.{dataDelay, dueAfter, rules}
@@ -47,15 +47,19 @@ numbers n (b ∷ l) = cond b (numbers (suc n) l) (n ∷ numbers (suc n) l)
 pub verdict : ℕ → ℕ → ℕ → List Bool → List ℕ
 verdict place size lowest tests = cond (ltb place size) (place ∷ lowest ∷ numbers 1 tests) (place ∷ [])
 
-pub byRules : List Record → List ℕ
-byRules l =
-    let j : ℕ = firstBroken (contextOf setH) l in
-    verdict j (length l) (ruleAt (contextOf setH) l j) (rules (contextOf setH) (earlier l j) (recordIn l j))
+-- under set H with a core form
+pub setCore : ℕ → Context
+setCore core = contextOf (setOf 2 4 core)
 
-pub byTests : List Record → List ℕ
-byTests l =
-    let j : ℕ = firstFound (contextOf setH) l in
-    verdict j (length l) (foundAt (contextOf setH) l j) (checks (contextOf setH) (channelAfter (contextOf setH) l j) (recordIn l j))
+pub byRules : ℕ → List Record → List ℕ
+byRules core l =
+    let j : ℕ = firstBroken (setCore core) l in
+    verdict j (length l) (ruleAt (setCore core) l j) (rules (setCore core) (earlier l j) (recordIn l j))
+
+pub byTests : ℕ → List Record → List ℕ
+byTests core l =
+    let j : ℕ = firstFound (setCore core) l in
+    verdict j (length l) (foundAt (setCore core) l j) (checks (setCore core) (channelAfter (setCore core) l j) (recordIn l j))
 
 pub lists : List (List Record)
 lists =
@@ -198,6 +202,29 @@ verdicts =
     ∷ (4 ∷ [])
     ∷ []
 
-pub worked : (map byRules lists ≡ verdicts) × (map byTests lists ≡ verdicts)
-unfolding setOf setH numbers verdict byRules byTests lists verdicts runOf inRuns contextOf rowTraits colTraits traits instant isPacket bankBy bankAfter isClosed isOpen leaving loads waitingNext waitingAfter deeds events retireTraits keeps bankCount dataDelay dueAfter distances ruleOf rules rule1 rule4 rule9 rule12 rule14 rule15 rule16 lowest lowestRule firstBroken everyRule fresh waitingOf bufferOf dueOf bankNext trackNext afterPacket trackRetired afterRetire afterData after maxUpTo checkOf checks judged channelAfter firstFound allUpTo firstFalse
+pub worked : (map (byRules 0) lists ≡ verdicts) × (map (byTests 0) lists ≡ verdicts)
+unfolding setOf setCore numbers verdict byRules byTests lists verdicts runOf inRuns contextOf rowTraits colTraits traits instant isPacket bankBy bankAfter isClosed isOpen leaving loads waitingNext waitingAfter deeds events retireTraits keeps bankCount dataDelay dueAfter distances ruleOf rules rule1 rule4 rule9 rule12 rule14 rule15 rule16 lowest lowestRule firstBroken everyRule fresh waitingOf bufferOf dueOf bankNext trackNext afterPacket trackRetired afterRetire afterData after maxUpTo checkOf checks judged channelAfter firstFound allUpTo firstFalse
 worked = (refl, refl)
+
+-- ---- the three core forms
+
+-- "Form 1 makes 15 and 16 neighbours; form 2 has no neighbours": ACT beside an open bank; PRER beside a bank that opened less than tRAS
+-- before; PRER beside the bank of a waiting write
+pub coreLists : List (List Record)
+coreLists =
+    (row 4 (Act 15 0) ∷ row 32 (Act 16 0) ∷ [])
+    ∷ (row 4 (Act 0 0) ∷ row 32 (Act 1 0) ∷ [])
+    ∷ (row 4 (Act 0 0) ∷ row 23 (Prer 1) ∷ [])
+    ∷ (row 4 (Act 15 0) ∷ col 13 (Wr 15 0 full) ∷ dat 19 ∷ row 40 (Prer 16) ∷ [])
+    ∷ []
+
+pub coreVerdicts : List (List (List ℕ))
+coreVerdicts =
+    ((2 ∷ []) ∷ (1 ∷ 4 ∷ 4 ∷ []) ∷ (1 ∷ 6 ∷ 6 ∷ []) ∷ (4 ∷ []) ∷ [])
+    ∷ ((1 ∷ 4 ∷ 4 ∷ []) ∷ (1 ∷ 4 ∷ 4 ∷ []) ∷ (1 ∷ 6 ∷ 6 ∷ []) ∷ (3 ∷ 14 ∷ 14 ∷ []) ∷ [])
+    ∷ ((2 ∷ []) ∷ (2 ∷ []) ∷ (2 ∷ []) ∷ (4 ∷ []) ∷ [])
+    ∷ []
+
+pub core-worked : (map (λ (core : ℕ). map (byRules core) coreLists) (0 ∷ 1 ∷ 2 ∷ []) ≡ coreVerdicts) × (map (λ (core : ℕ). map (byTests core) coreLists) (0 ∷ 1 ∷ 2 ∷ []) ≡ coreVerdicts)
+unfolding setOf setCore numbers verdict byRules byTests coreLists coreVerdicts runOf inRuns contextOf rowTraits colTraits traits instant isPacket bankBy bankAfter isClosed isOpen leaving loads waitingNext waitingAfter deeds events retireTraits keeps bankCount dataDelay dueAfter distances ruleOf rules rule1 rule4 rule9 rule12 rule14 rule15 rule16 lowest lowestRule firstBroken everyRule fresh waitingOf bufferOf dueOf bankNext trackNext afterPacket trackRetired afterRetire afterData after maxUpTo checkOf checks judged channelAfter firstFound allUpTo firstFalse
+core-worked = (refl, refl)

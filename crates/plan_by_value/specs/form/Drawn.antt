@@ -73,19 +73,19 @@ unfoldable pub recordsOf : List Entry → ℕ → List Record
 recordsOf l zero = []
 recordsOf l (suc n) = recordsOf l n ++ (getD l n blank .made ∷ [])
 
--- late where an instant passes the last one; otherwise the same planner, and the same records while they are at most 18
+-- late where an instant passes the last one; otherwise the same planner, and the same records while they are at most 34
 pub record Draws (s : Settings) (d : Drawn) (e : Draft) : Type 0 where
   pub late : d .late ≡ not (timely (contextOf s) e)
   pub planner : d .late ≡ false → d .planner ≡ e .planner
-  pub records : d .late ≡ false → length (e .records) ≤ 18 → recordsOf (d .list) (d .count) ≡ e .records
+  pub records : d .late ≡ false → length (e .records) ≤ 34 → recordsOf (d .list) (d .count) ≡ e .records
 
 -- a draft with one record more, while there is a place for it
 unfoldable pub addedTo : Drawn → PlannerState → Record → Bool → Drawn
 addedTo d p q late =
     record {
       planner = p;
-      list = cond (ltb (d .count) 18) (set (d .list) (d .count) (record { made = q })) (d .list);
-      count = cond (ltb (d .count) 18) (d .count + 1) (d .count);
+      list = cond (ltb (d .count) 34) (set (d .list) (d .count) (record { made = q })) (d .list);
+      count = cond (ltb (d .count) 34) (d .count + 1) (d .count);
       late = d .late || late;
     }
 
