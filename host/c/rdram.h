@@ -1,6 +1,7 @@
 /*
  * rdram.h: Direct RDRAM packet words, block logs and their index (rdram_index.h), timing rules, plans,
- * a device model, a meter of the data pins (rdram_meter.h). Link with librdram.a. Common to all calls:
+ * a device model, a meter of the data pins (rdram_meter.h), all under settings (rdram_settings.h).
+ * Link with librdram.a. Common to all calls:
  * - A buffer is a pointer and its length in bytes. A null pointer is allowed with length 0. No
  *   alignment is needed. Numbers in buffers have their low byte first.
  * - The buffers of one call must not overlap.
@@ -14,27 +15,13 @@
 
 #include "rdram_index.h"
 #include "rdram_meter.h"
+#include "rdram_settings.h"
 #include <stddef.h>
 #include <stdint.h>
 
 #ifdef __cplusplus
 extern "C" {
 #endif
-
-/*
- * Settings, 32 bytes: sixteen 16-bit numbers in this order.
- *    0 to 8  tRC tRAS tRP tPP tRR tRCD tRTR tRDP tRTP, each 4 to 64
- *    9       tCC, 4 to 16
- *   10       tCAC, 7 to 12
- *   11       tCWD, 1 to tCAC - 1
- *   12       0
- *   13       rows, 1 to 512
- *   14       columns, 1 to 128
- *   15       device, 0 to 31
- */
-#define RDRAM_SETTINGS_BYTES 32
-/* Set H, for a first try: static const uint8_t settings[RDRAM_SETTINGS_BYTES] = RDRAM_SET_H; */
-#define RDRAM_SET_H {28, 0, 20, 0, 8, 0, 8, 0, 8, 0, 9, 0, 8, 0, 4, 0, 4, 0, 4, 0, 8, 0, 6, 0, 0, 0, 2, 0, 4, 0, 0, 0}
 
 /*
  * Record, 32 bytes: instant 4, kind 1 (enum rdram_kind), zero 3, word 8, data 16. A D record has
@@ -59,8 +46,11 @@ extern "C" {
  */
 #define RDRAM_REQUEST_BYTES 24
 
-/* The most records that one request makes: room for so many is enough. */
-#define RDRAM_REQUEST_RECORDS 18
+/*
+ * The most records that one request makes under any core form: room for so many is enough. Where banks
+ * have neighbours it is 18.
+ */
+#define RDRAM_REQUEST_RECORDS 34
 
 /*
  * Planner, 768 bytes: the state of a planner between two requests. A program need not look inside;
@@ -252,11 +242,11 @@ rdram_copied rdram_log_decode(const uint8_t *settings, size_t settings_len,
  * starts with every bank closed, the write buffer empty and no earlier record. Number 0: it passes;
  * an empty list passes. No buffer is written.
  *
- * Data come tCAC after their RD and go tCWD after their WR. Banks are neighbours where their
- * numbers differ by 1, but for 15 and 16. PRER and REFP close their bank and each neighbour that is
- * open or under refresh. A write waits from its WR on. A COL packet other than RD retires the
- * oldest, if tRTR has passed since its WR. In 4 to 8, 13 and 14 ACT stands for ACT and REFA, and
- * PRER for PRER and REFP. "Near" is the same bank or a neighbour. A distance is the least one.
+ * Data come tCAC after their RD and go tCWD after their WR. Which banks are neighbours, the core form
+ * says (enum rdram_core). PRER and REFP close their bank and each neighbour that is open or under
+ * refresh. A write waits from its WR on. A COL packet other than RD retires the oldest, if tRTR has
+ * passed since its WR. In 4 to 8, 13 and 14 ACT stands for ACT and REFA, and PRER for PRER and REFP.
+ * "Near" is the same bank or a neighbour. A distance is the least one.
  *
  *    1  ROW and COL instants never fall; all, data's too, 4 to 1,000,000,000
  *    2  ROW to ROW: 4

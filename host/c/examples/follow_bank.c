@@ -12,7 +12,7 @@
 
 #define BANK 7
 #define REQUESTS 200
-#define RECORDS (REQUESTS * 17)
+#define RECORDS (REQUESTS * RDRAM_REQUEST_RECORDS)
 #define BLOCKS ((RECORDS + 14) / 15)
 
 static const uint8_t SET_H[RDRAM_SETTINGS_BYTES] = RDRAM_SET_H;

@@ -71,6 +71,11 @@ void use_set_h(void)
     use_figures(SET_H);
 }
 
+void use_core(unsigned core)
+{
+    settings[RDRAM_SETTINGS_CORE] = (uint8_t)core;
+}
+
 void use_bad_figure(int figure)
 {
     use_set_h();

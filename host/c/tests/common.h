@@ -38,13 +38,17 @@ void fill(uint8_t *bytes, size_t length);
 
 /* ---- Settings ---- */
 
-/* tRC tRAS tRP tPP tRR tRCD tRTR tRDP tRTP tCC tCAC tCWD 0 rows columns device */
+/* tRC tRAS tRP tPP tRR tRCD tRTR tRDP tRTP tCC tCAC tCWD 0 rows columns, device + 256 x core form */
 extern const uint16_t SET_H[16];
 extern uint8_t settings[RDRAM_SETTINGS_BYTES], settings_before[RDRAM_SETTINGS_BYTES];
 
 void use_figures(const uint16_t *figures);
 void use_figure(int figure, unsigned value);
 void use_set_h(void);
+
+/* The core form, in the place of that of the settings. */
+void use_core(unsigned core);
+#define CORES 3
 
 /* Set H with one number out of its range. */
 void use_bad_figure(int figure);

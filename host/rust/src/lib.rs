@@ -24,12 +24,14 @@ mod model;
 mod planner;
 pub mod raw;
 mod refusal;
+mod settings;
 
 pub use index::{index_add, index_banks, index_check, index_make, index_query};
 pub use meter::Meter;
 pub use model::{Event, Model};
 pub use planner::{Planner, Request};
 pub use refusal::Refusal;
+pub use settings::{Core, Settings};
 
 /// Bytes of the settings.
 pub const SETTINGS_BYTES: usize = 32;
@@ -41,8 +43,8 @@ pub const BLOCK_BYTES: usize = 512;
 pub const BLOCK_RECORDS: usize = 15;
 /// Bytes of a request.
 pub const REQUEST_BYTES: usize = 24;
-/// Most records of a request.
-pub const REQUEST_RECORDS: usize = 18;
+/// Most records of a request under any core form; 18 where banks have neighbours.
+pub const REQUEST_RECORDS: usize = 34;
 /// Bytes of a planner.
 pub const PLANNER_BYTES: usize = 768;
 /// Bytes of a model.
@@ -55,80 +57,6 @@ pub const INDEX_WORD_BYTES: usize = 4;
 pub const DUALOCT_BYTES: usize = 16;
 /// The mask of a COL packet that is sent without one (M = 0).
 pub const MASK_FULL: u16 = 0xFFFF;
-
-/// Timings in cycles, the size of the device and its number.
-///
-/// The nine timings from `t_rc` to `t_rtp` are 4 to 64, `t_cc` 4 to 16, `t_cac` 7 to 12, `t_cwd`
-/// 1 to `t_cac` − 1, `rows` 1 to 512, `columns` 1 to 128 and `device` 0 to 31. Every call tests
-/// this and answers [`Refusal::Settings`] otherwise.
-#[derive(Clone, Copy, Debug, PartialEq, Eq)]
-pub struct Settings {
-    pub t_rc: u16,
-    pub t_ras: u16,
-    pub t_rp: u16,
-    pub t_pp: u16,
-    pub t_rr: u16,
-    pub t_rcd: u16,
-    pub t_rtr: u16,
-    pub t_rdp: u16,
-    pub t_rtp: u16,
-    pub t_cc: u16,
-    pub t_cac: u16,
-    pub t_cwd: u16,
-    pub rows: u16,
-    pub columns: u16,
-    pub device: u16,
-}
-
-impl Settings {
-    /// Set H of document 01, with which the examples run.
-    pub const SET_H: Settings = Settings {
-        t_rc: 28,
-        t_ras: 20,
-        t_rp: 8,
-        t_pp: 8,
-        t_rr: 8,
-        t_rcd: 9,
-        t_rtr: 8,
-        t_rdp: 4,
-        t_rtp: 4,
-        t_cc: 4,
-        t_cac: 8,
-        t_cwd: 6,
-        rows: 2,
-        columns: 4,
-        device: 0,
-    };
-
-    /// The settings as the library reads them: sixteen numbers, low byte first.
-    ///
-    /// ```
-    /// # let settings = rdram::Settings { rows: 512, device: 7, ..rdram::Settings::SET_H };
-    /// let bytes = settings.to_bytes();
-    /// assert_eq!(bytes[..4], [28, 0, 20, 0]);
-    /// assert_eq!(bytes[24..], [0, 0, 0, 2, 4, 0, 7, 0]); // 0, rows, columns, device
-    /// ```
-    pub fn to_bytes(&self) -> [u8; SETTINGS_BYTES] {
-        #[rustfmt::skip]
-        let figures = [
-            self.t_rc, self.t_ras, self.t_rp, self.t_pp, self.t_rr, self.t_rcd, self.t_rtr,
-            self.t_rdp, self.t_rtp, self.t_cc, self.t_cac, self.t_cwd, 0, self.rows, self.columns,
-            self.device,
-        ];
-        let mut bytes = [0; SETTINGS_BYTES];
-        for (pair, figure) in bytes.chunks_exact_mut(2).zip(figures) {
-            pair.copy_from_slice(&figure.to_le_bytes());
-        }
-        bytes
-    }
-
-    /// The length of a [`Model`]'s store: rows × columns × 512.
-    pub fn store_bytes(&self) -> usize {
-        // At most 33,554,432 for settings that are not refused.
-        let dualocts = usize::from(self.rows).saturating_mul(self.columns.into());
-        dualocts.saturating_mul(512)
-    }
-}
 
 /// The kind of a word.
 #[derive(Clone, Copy, Debug, PartialEq, Eq)]

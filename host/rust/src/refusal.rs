@@ -209,7 +209,7 @@ impl fmt::Display for Refusal {
         match *self {
             Refusal::Settings => f.write_str(
                 "a figure of the settings or of the planner, model or meter is outside its range; \
-                 correct the settings, or go on from a state that the library made",
+                 correct the settings, or go on from a state that the library made under them",
             ),
             Refusal::Kind => f.write_str("a request's kind is above 4; correct the kind"),
             Refusal::Spare => f.write_str(

@@ -1,7 +1,7 @@
-/* Settings: each number at and beyond its bounds, tCWD against tCAC, and lengths, by all four calls. */
+/* Settings: each number at and beyond its bounds, tCWD against tCAC, core forms and lengths, by all four calls. */
 #include "test.h"
 
-/* In the order of SET_H. */
+/* In the order of SET_H, the device without the core form. */
 static const uint16_t LOW[16] = {4, 4, 4, 4, 4, 4, 4, 4, 4, 4, 7, 1, 0, 1, 1, 0};
 static const uint16_t HIGH[16] = {64, 64, 64, 64, 64, 64, 64, 64, 64, 16, 12, 11, 0, 512, 128, 31};
 
@@ -28,12 +28,25 @@ static void test_figure(int at)
     if (at == 10)
         figures[11] = 6; /* below the least tCAC */
     const int values[5] = {LOW[at] - 1, LOW[at], HIGH[at], HIGH[at] + 1, HIGH[at] + 256};
-    for (int i = 0; i < 5; i++) {
+    for (int i = 0; i < (at == 15 ? 4 : 5); i++) {
         int beyond = values[i] < LOW[at] || values[i] > HIGH[at];
         figures[at] = (uint16_t)values[i];
         use_figures(figures);
         check(all_refuse(settings, sizeof settings, beyond), "settings number %d with value %d", at, values[i]);
     }
+}
+
+/* The high byte of the last number: a form above 2 is refused. */
+static void test_core_forms(void)
+{
+    for (unsigned core = 0; core < 256; core++)
+        for (unsigned device = 0; device < 33; device++) {
+            use(2, 4, device);
+            use_core(core);
+            int beyond = core > RDRAM_CORE_INDEPENDENT || device > 31;
+            /* the word of ACT is of the device, and of no form */
+            check(all_refuse(settings, sizeof settings, beyond), "device %u with core form %u", device, core);
+        }
 }
 
 void test_settings(void)
@@ -44,6 +57,7 @@ void test_settings(void)
     check(memcmp(set_h, settings, sizeof set_h) == 0, "set H of the header");
     for (int at = 0; at < 16; at++)
         test_figure(at);
+    test_core_forms();
     for (unsigned cac = 7; cac <= 12; cac++) {
         use(2, 4, 0);
         use_figure(10, cac);

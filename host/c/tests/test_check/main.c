@@ -19,6 +19,7 @@ int main(void)
     test_lengths();
     test_settings();
     test_timings();
+    test_cores();
     test_word_before_rule();
     test_31_records();
     return report();

@@ -207,3 +207,45 @@ void test_timings(void)
     use_figure(15, 1); /* device */
     check(both_are(RDRAM_REFUSED_WORD, 0, 0), "a list of another device");
 }
+
+/* The rule that the last record breaks under core forms 0, 1 and 2, or 0 where the list passes. */
+void test_cores(void)
+{
+    static const struct {
+        uint32_t rules[CORES];
+        const char *text;
+    } LISTS[] = {
+        /* 15 and 16 are neighbours in one run of 32 alone */
+        {{0, 4, 0}, "4 ACT 15, 12 ACT 16"},
+        {{0, 5, 0}, "4 ACT 15, 24 PRER 15, 31 ACT 16"},
+        {{0, 6, 0}, "4 ACT 15, 23 PRER 16"},
+        {{0, 7, 0}, "4 PRER 15, 11 ACT 16"},
+        {{4, 7, 0}, "4 ACT 15, 30 PRER 16, 37 ACT 14"},
+        {{4, 0, 0}, "4 ACT 15, 30 PRER 16, 38 ACT 14"},
+        {{0, 9, 0}, "4 ACT 15, 24 PRER 16, 40 RD 15"},
+        {{0, 13, 0}, "4 ACT 15, 21 RD 15, 24 PRER 16"},
+        {{0, 14, 0}, "4 ACT 15, 13 WR 15, 19 D, 24 REFP 16"},
+        /* other banks that follow each other are such in both */
+        {{4, 4, 0}, "4 ACT 0, 12 ACT 1"},
+        {{4, 4, 0}, "4 ACT 1, 12 REFA 0"},
+        {{4, 4, 5}, "4 ACT 0, 11 ACT 1"},
+        {{6, 6, 0}, "4 ACT 0, 23 PRER 1"},
+        {{7, 7, 0}, "4 PRER 0, 11 ACT 1"},
+        {{9, 9, 0}, "4 ACT 0, 24 PRER 1, 40 RD 0"},
+        {{13, 13, 0}, "4 ACT 30, 21 RD 30, 24 PRER 31"},
+        {{14, 14, 0}, "4 ACT 0, 13 WR 0, 19 D, 24 PRER 1"},
+        /* a bank and itself in all three */
+        {{4, 4, 4}, "4 ACT 0, 32 ACT 0"},
+    };
+    for (size_t i = 0; i < COUNT(LISTS); i++)
+        for (unsigned core = 0; core < CORES; core++) {
+            uint32_t rule = LISTS[i].rules[core];
+            use_list(LISTS[i].text);
+            use_core(core);
+            int ok = rule ? both_are(RDRAM_REFUSED_RULE, rule, records - 1) : both_are(0, 0, 0);
+            check(ok, "rule %" PRIu32 " under core form %u: %s", rule, core, LISTS[i].text);
+        }
+    use_list("4 ACT 0");
+    use_core(RDRAM_CORE_INDEPENDENT + 1);
+    check(both_are(RDRAM_REFUSED_SETTINGS, 0, 0), "core form 3");
+}

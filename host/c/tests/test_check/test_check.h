@@ -33,6 +33,7 @@ void test_passing_lists(void);
 void test_single_rules(void);
 void test_several_rules(void);
 void test_timings(void);
+void test_cores(void);
 
 /* refusals.c */
 void test_empty(void);

@@ -17,6 +17,7 @@ int main(void)
 {
     test_runs();
     test_rules();
+    test_cores();
     test_places();
     test_masks();
     test_refresh_rows();
@@ -27,6 +28,7 @@ int main(void)
     test_second_write();
     test_stored_instants();
     test_unused_bytes();
+    test_states_by_core();
     test_lengths();
     test_order();
     test_spare_bytes();

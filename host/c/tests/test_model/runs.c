@@ -80,6 +80,22 @@ void test_rules(void)
         run(RUNS[i]);
 }
 
+/* Neighbours are those of the core form: 15 and 16, and 0 and 1. */
+void test_cores(void)
+{
+    static const char *const RUNS[CORES] = {
+        "4 ACT 15 1, 12 ACT 16, 21 RD 16: reads, 32 PRER 17, 33 RD 15: reads, 41 RD 16: rule 9, 41 ACT 0, "
+        "49 ACT 1: rule 4, 61 PRER 1, 69 RD 0: rule 9",
+        "4 ACT 15 1, 12 ACT 16: rule 4, 23 PRER 16: rule 6, 24 PRER 16, 40 RD 15: rule 9, 40 ACT 16, 49 RD 16: reads",
+        "4 ACT 15 1, 12 ACT 16, 21 RD 16: reads, 24 PRER 14, 25 RD 15: reads, 32 ACT 0, 40 ACT 1, 48 REFA 2, 49 RD 0: "
+        "reads, 56 PRER 2: rule 6, 68 REFP 2, 69 RD 1: reads"};
+    for (unsigned core = 0; core < CORES; core++) {
+        begin();
+        use_core(core);
+        run_more(RUNS[core]);
+    }
+}
+
 /* Each place: a write goes to its own dualoct and to no other. */
 void test_places(void)
 {

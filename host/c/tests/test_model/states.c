@@ -200,3 +200,25 @@ void test_unused_bytes(void)
             check(ok, "byte %d, which is not used", byte);
         }
 }
+
+/* One bank open and one under refresh: refused where they are neighbours, which the core form says. */
+void test_states_by_core(void)
+{
+    for (unsigned core = 0; core < CORES; core++) {
+        int ok = 1;
+        begin();
+        use_core(core);
+        for (int a = 0; a < 32; a++)
+            for (int b = 0; b < 32; b++) {
+                int neighbours = (a - b == 1 || b - a == 1) && (core == 1 || (core == 0 && a / 16 == b / 16));
+                rdram_model_fresh(model, MODEL);
+                put(model + 640 + 2 * a, 1, 2);
+                put(model + 640 + 2 * b, 65535, 2);
+                /* a record without coding, whose refusal comes after that of a state */
+                use_record("4 PRER 20");
+                record[31] = 1;
+                ok &= refuses(neighbours ? RDRAM_REFUSED_SETTINGS : RDRAM_REFUSED_WORD, 0, 0);
+            }
+        check(ok, "two banks not closed, core form %u", core);
+    }
+}

@@ -70,9 +70,10 @@ static void feed_array(void)
 void test_whole_runs(void)
 {
     unsigned refused = 0;
-    for (int runs = 0; runs < 100; runs++) {
+    for (unsigned runs = 0; runs < 150; runs++) {
         int ok = rdram_planner_fresh(planner, sizeof planner) == 0;
         begin();
+        use_core(runs % CORES);
         for (int requests = 0; requests <= 100; requests++) {
             any_request();
             if (requests == 100) {
@@ -87,7 +88,7 @@ void test_whole_runs(void)
             feed_array();
             ok &= records_right(made.records);
         }
-        check(ok && store_right(), "run %d against an array", runs);
+        check(ok && store_right(), "run %u against an array", runs);
     }
     check(reads > 1000 && refused > 10, "%" PRIu64 " reads, %u refused", reads, refused);
     check(retired_bytes == mask_ones, "%" PRIu64 " bytes retired, %" PRIu64 " ones", retired_bytes, mask_ones);

@@ -56,6 +56,7 @@ void run(const char *text);
 /* runs.c */
 void test_runs(void);
 void test_rules(void);
+void test_cores(void);
 void test_places(void);
 void test_masks(void);
 void test_refresh_rows(void);
@@ -68,6 +69,7 @@ void test_no_write(void);
 void test_second_write(void);
 void test_stored_instants(void);
 void test_unused_bytes(void);
+void test_states_by_core(void);
 
 /* refusals.c */
 void test_lengths(void);

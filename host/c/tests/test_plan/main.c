@@ -22,12 +22,14 @@ int main(void)
     test_second_write();
     test_stored_instants();
     test_unused_bytes();
+    test_states_by_core();
     test_requests();
     test_spare_bytes();
     test_lengths();
     test_settings();
     test_null_pointers();
     test_horizon();
-    test_eighteen_records();
+    test_cores();
+    test_most_records();
     return report();
 }

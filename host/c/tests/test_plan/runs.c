@@ -132,25 +132,67 @@ void test_refresh_banks(void)
     check(list_passes(), "refreshes pass the check");
 }
 
-/* Sixteen open banks and two waiting writes: two NOCOP and 16 PRER. */
-void test_eighteen_records(void)
+/* Set H under each core form. */
+void test_cores(void)
 {
+    static const struct {
+        unsigned core;
+        run run;
+    } RUNS[] = {
+        {0, {"read 15, read 16", "4 ACT 15, 13 RD 15, 13 ACT 16, 22 RD 16"}},
+        {1, {"read 15, read 16", "4 ACT 15, 13 RD 15, 24 PRER 15, 32 ACT 16, 41 RD 16"}},
+        {2, {"read 15, read 16", "4 ACT 15, 13 RD 15, 13 ACT 16, 22 RD 16"}},
+        /* a refresh beside an open neighbour */
+        {0, {"read 1, refresh", "4 ACT 1, 13 RD 1, 24 PRER 1, 32 REFA 0, 52 REFP 0"}},
+        {1, {"read 1, refresh", "4 ACT 1, 13 RD 1, 24 PRER 1, 32 REFA 0, 52 REFP 0"}},
+        {2, {"read 1, refresh", "4 ACT 1, 13 RD 1, 13 REFA 0, 33 REFP 0"}},
+        /* a write between two open neighbours, and another row of its own bank */
+        {1,
+         {"read 15, read 17, write 16 1 2 0003, drain",
+          "4 ACT 15, 13 RD 15, 13 ACT 17, 22 RD 17, 24 PRER 15, 33 PRER 17, 41 ACT 16 1, 42 WR 16 2, 48 D, "
+          "50 NOCOP 0 0 0003, 61 PRER 16"}},
+        {2,
+         {"read 15, read 17, write 16 1 2 0003, drain",
+          "4 ACT 15, 13 RD 15, 13 ACT 17, 22 RD 17, 22 ACT 16 1, 28 WR 16 2, 34 D, 36 NOCOP 0 0 0003, 36 PRER 15, "
+          "44 PRER 16, 52 PRER 17"}},
+        {2, {"read 0, read 1, read 0 1",
+             "4 ACT 0, 13 RD 0, 13 ACT 1, 22 RD 1, 24 PRER 0, 32 ACT 0 1, 41 RD 0"}},
+    };
+    for (size_t i = 0; i < COUNT(RUNS); i++) {
+        begin();
+        use_core(RUNS[i].core);
+        check(plan_more(RUNS[i].run.requests), "accepted, core form %u: %s", RUNS[i].core, RUNS[i].run.requests);
+        test_list(&RUNS[i].run);
+    }
+}
+
+/* As many open banks as may be and two waiting writes: two NOCOP, and a PRER for each bank. */
+static void test_longest_drain(unsigned core)
+{
+    unsigned step = core == RDRAM_CORE_INDEPENDENT ? 1 : 2, most = core == RDRAM_CORE_INDEPENDENT ? 34 : 18;
     char text[40];
     begin();
-    for (unsigned bank = 0; bank < 32; bank += 2) {
-        snprintf(text, sizeof text, "%s %u", bank == 30 ? "write" : "read", bank);
+    use_core(core);
+    for (unsigned bank = 0; bank < 32; bank += step) {
+        snprintf(text, sizeof text, "%s %u", bank + step == 32 ? "write" : "read", bank);
         use_request(text);
         check(accepts(3 * RECORD), "%s", text);
     }
-    use_request("write 30");
+    use_request(text);
     check(accepts(2 * RECORD), "a second write");
     use_request("drain");
     int ok = 1;
-    for (size_t length = 0; length < ROOM; length++)
+    for (size_t length = 0; length < most * RECORD; length++)
         ok &= refuses(RDRAM_REFUSED_FULL, PLANNER, REQUEST, length);
-    check(ok, "rooms for fewer than 18 records");
+    check(ok, "rooms for fewer than %u records", most);
     size_t before = records;
-    check(accepts(ROOM + 31) && records == before + RDRAM_REQUEST_RECORDS, "18 records");
+    check(accepts(ROOM + 31) && records == before + most, "%u records", most);
     check(list_passes(), "they pass the check");
-    check(accepts(0) && records == before + RDRAM_REQUEST_RECORDS, "nothing left to drain");
+    check(accepts(0) && records == before + most, "nothing left to drain");
+}
+
+void test_most_records(void)
+{
+    for (unsigned core = 0; core < CORES; core++)
+        test_longest_drain(core);
 }

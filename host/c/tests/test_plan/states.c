@@ -177,3 +177,31 @@ void test_unused_bytes(void)
             check(ok, "byte %d, which is not used", byte);
         }
 }
+
+/* Two open banks: refused where they are neighbours, which the core form says. */
+void test_states_by_core(void)
+{
+    for (unsigned core = 0; core < CORES; core++) {
+        make_states();
+        use_core(core);
+        int ok = 1;
+        for (int a = 0; a < 32; a++)
+            for (int b = 0; b < 32; b++) {
+                int neighbours = (a - b == 1 || b - a == 1) && (core == 1 || (core == 0 && a / 16 == b / 16));
+                uint8_t one_open[PLANNER];
+                field other = {640 + 2 * b, 2, 2};
+                rdram_planner_fresh(one_open, PLANNER);
+                put(one_open + 640 + 2 * a, 1, 2);
+                ok &= neighbours ? refused_with(one_open, other) : comes_back_with(one_open, other);
+            }
+        check(ok, "two open banks, core form %u", core);
+    }
+    /* 15 and 16 are open: a state of forms 0 and 2, and of none above 2 */
+    for (unsigned core = 0; core < 5; core++) {
+        plan_all("read 15, read 16");
+        use_core(core);
+        use_request("wait 0");
+        int ok = core == 0 || core == 2 ? accepts(0) : refuses(RDRAM_REFUSED_SETTINGS, PLANNER, REQUEST, ROOM);
+        check(ok, "banks 15 and 16 open, core form %u", core);
+    }
+}

@@ -7,7 +7,7 @@
 #define PLANNER RDRAM_PLANNER_BYTES
 #define REQUEST RDRAM_REQUEST_BYTES
 #define ROOM (RDRAM_REQUEST_RECORDS * RECORD)
-#define MOST 80 /* records in the longest list */
+#define MOST 110 /* records in the longest list */
 
 /* Buffers are longer than what is lent of them, to see that the rest stays. */
 extern uint8_t planner[PLANNER + 64], planner_before[PLANNER + 64];
@@ -45,7 +45,8 @@ int list_passes(void);
 void test_runs(void);
 void test_timings(void);
 void test_refresh_banks(void);
-void test_eighteen_records(void);
+void test_cores(void);
+void test_most_records(void);
 
 /* states.c */
 void test_fresh(void);
@@ -55,6 +56,7 @@ void test_no_write(void);
 void test_second_write(void);
 void test_stored_instants(void);
 void test_unused_bytes(void);
+void test_states_by_core(void);
 
 /* refusals.c */
 void test_requests(void);

@@ -2,7 +2,7 @@
 
 use crate::buffers::{guarded, lent, pattern};
 use crate::reference::{self, Fields, Refused};
-use rdram::{raw, Kind, Packet, Refusal, Settings};
+use rdram::{raw, Core, Kind, Packet, Refusal, Settings};
 use std::collections::BTreeMap;
 
 /// How many cases had each answer number.
@@ -38,6 +38,12 @@ pub fn typed(settings: &[u8]) -> Option<Settings> {
         return None;
     }
     let n = |i: usize| u16::from_le_bytes([settings[2 * i], settings[2 * i + 1]]);
+    let core = match settings[31] {
+        0 => Core::Split,
+        1 => Core::OneRun,
+        2 => Core::Independent,
+        _ => return None,
+    };
     let s = Settings {
         t_rc: n(0),
         t_ras: n(1),
@@ -53,7 +59,8 @@ pub fn typed(settings: &[u8]) -> Option<Settings> {
         t_cwd: n(11),
         rows: n(13),
         columns: n(14),
-        device: n(15),
+        device: settings[30],
+        core,
     };
     assert_eq!(s.to_bytes(), settings);
     Some(s)

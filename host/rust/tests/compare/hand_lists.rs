@@ -31,10 +31,14 @@ pub fn item(line: &str) -> Item {
     }
 }
 
+/// The records of a list, separated by commas.
+pub fn lines(text: &str) -> Vec<Item> {
+    text.split(',').map(item).collect()
+}
+
 pub fn set_h_list(text: &str) -> (Vec<u8>, Vec<u8>) {
     let settings = bytes(&set_h(2, 4, 0));
-    let items: Vec<Item> = text.split(',').map(item).collect();
-    let list = list_bytes(&settings, &items);
+    let list = list_bytes(&settings, &lines(text));
     (settings, list)
 }
 

@@ -4,6 +4,7 @@
 
 mod buffers;
 mod calls;
+mod core_forms;
 mod flat_memory;
 mod hand_lists;
 mod index;
@@ -27,6 +28,7 @@ mod reference_rules;
 mod reference_state;
 mod refusals;
 mod rule_calls;
+mod rule_settings;
 mod rules;
 mod settings;
 mod state_bytes;

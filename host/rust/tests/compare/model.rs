@@ -2,13 +2,12 @@
 
 use crate::calls::Seen as Numbers;
 use crate::hand_lists::item;
-use crate::lists::{
-    any_items, change, half_legal, legal, list_bytes, over_writes, Item, SettingsSeen, LAST,
-};
+use crate::lists::{any_items, change, half_legal, legal, list_bytes, over_writes, Item, LAST};
 use crate::model_calls::{any_store, compare, fresh, small_numbers, Case, Run, Seen};
 use crate::random::{bytes, rounds, set_h, Random};
 use crate::reference::{number, COLUMNS, NOCOP, ROWS, T_CWD};
 use crate::reference_state::{newest, put, DUE};
+use crate::rule_settings::SettingsSeen;
 
 /// Gives some masks another number of ones, so that each number comes often.
 fn remask(random: &mut Random, items: &mut [Item]) {

@@ -3,11 +3,11 @@
 
 use crate::buffers::{self, guarded, lent, pattern};
 use crate::calls::{typed, Seen as Numbers};
-use crate::lists::rule_numbers;
 use crate::random::{bytes, Random};
 use crate::reference::{figures, number, packet, COLUMNS, NOCOP, PRER, RD, REFA, ROWS, WR};
 use crate::reference_model::{self as reference, Event, STATE_BYTES};
 use crate::reference_state::WAITING;
+use crate::rule_settings::rule_numbers;
 use crate::tuned_model;
 use crate::tuned_records;
 use rdram::{raw, Model, Refusal};

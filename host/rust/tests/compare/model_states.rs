@@ -5,13 +5,16 @@ use crate::buffers::fresh_refused;
 use crate::calls::Seen as Numbers;
 use crate::lists::{legal, list_bytes, Item, LAST};
 use crate::model_calls::{any_store, compare, fresh, small_numbers, wanted, Case, Run, Seen};
-use crate::random::{bytes, rounds, set_h, Random};
-use crate::reference::{Fields, ACT, COLUMNS, NOCOP, PRER, REFA, ROWS, T_CWD, WR};
+use crate::random::{bytes, rounds, set_h, with_core, Random};
+use crate::reference::{
+    device_and_core, Fields, ACT, COLUMNS, CORES, NOCOP, PRER, REFA, ROWS, T_CWD, WR,
+};
 use crate::reference_model::{state_fits, STATE_BYTES};
 use crate::reference_rules::near;
 use crate::reference_state::{instant, newest, put, put_writes, tag, DUE, WAITING};
 use crate::state_bytes::{
-    any_counts, assert_every_byte, ends, fields, unused, Field, Instants, UNUSED,
+    any_counts, are_neighbours, assert_every_byte, ends, fields, pairs_of_banks, unused, Field,
+    Instants, UNUSED,
 };
 use rdram::raw::rdram_model_fresh;
 use std::ops::Range;
@@ -173,38 +176,47 @@ fn lengths_of_models() {
     }
 }
 
-/// Two banks that are open or under refresh: refused where they are neighbours. 15 and 16 are not.
+/// Two banks that are open or under refresh: refused where they are neighbours. 15 and 16 are such in
+/// one run of 32 alone, and no banks are without dependency.
 #[test]
 fn neighbours_not_closed() {
-    let (mut seen, numbers) = (Numbers::default(), set_h(2, 4, 0));
+    let mut seen = Numbers::default();
     let mut store = vec![0; 4096];
     store[77] = 1;
-    for (a, b) in (0..32usize).flat_map(|a| (0..32usize).map(move |b| (a, b))) {
+    for (a, b) in pairs_of_banks() {
         for tags in [(1, 2), (1, 65_535), (65_535, 2), (65_535, 65_535)] {
             let mut state = fresh();
             put(&mut state, 640 + 2 * a, 2, tags.0);
             put(&mut state, 640 + 2 * b, 2, tags.1);
-            let answer = number(call(&numbers, &state, &store, &late_prer(&numbers, 9)));
-            let neighbours = a.abs_diff(b) == 1 && a / 16 == b / 16;
-            assert_eq!(answer == 1, neighbours, "banks {a} and {b}");
-            seen.add(answer);
+            for core in CORES {
+                let numbers = with_core(set_h(2, 4, 0), core);
+                let answer = number(call(&numbers, &state, &store, &late_prer(&numbers, 9)));
+                let refused = are_neighbours(core, a, b);
+                assert_eq!(answer == 1, refused, "banks {a} and {b}, form {core}");
+                seen.add(answer);
+            }
         }
     }
     seen.report("model, two banks not closed", &[0, 1]);
 }
 
-/// Each waiting write needs its bank open by ACT. Bank 9 is open.
+/// Each waiting write needs its bank open by ACT. Bank 9 is open, so that 8 and 10 are closed where
+/// banks have neighbours.
 #[test]
 fn banks_of_the_waiting_writes() {
-    let (numbers, store) = (set_h(2, 4, 0), vec![3; 4096]);
+    let store = vec![3; 4096];
     let nocop = Fields {
         command: NOCOP,
         bank: 0,
         place: 0,
         mask: 0x1234,
     };
-    let record = record(&numbers, 900, Some(nocop));
-    for bank in 0..=255u32 {
+    let record = record(&set_h(2, 4, 0), 900, Some(nocop));
+    for (core, bank) in CORES
+        .into_iter()
+        .flat_map(|core| (0..=255).map(move |b| (core, b)))
+    {
+        let numbers = with_core(set_h(2, 4, 0), core);
         for (due, tag) in [false, true]
             .into_iter()
             .flat_map(|due| [0, 1, 2, 3, 65_535].map(|t| (due, t)))
@@ -216,7 +228,7 @@ fn banks_of_the_waiting_writes() {
                 put(&mut state, 640 + 18, 2, 1);
                 put(&mut state, 640 + 2 * (bank as usize % 32), 2, tag);
                 let answer = call(&numbers, &state, &store, &record);
-                let alone = bank != 8 && bank != 10;
+                let alone = core == 2 || (bank != 8 && bank != 10);
                 let open = bank < 32 && (tag == 1 || tag == 2) && alone;
                 let want = if due { Err((11, 15)) } else { Ok(0) };
                 assert_eq!(answer, if open { want } else { Err((1, 0)) });
@@ -248,10 +260,11 @@ fn counts_of_writes() {
 /// Banks of which no two neighbours are both not closed; answers those that are open.
 fn any_banks(random: &mut Random, numbers: &[u16; 16], state: &mut [u8]) -> Vec<usize> {
     let (mut open, mut below) = (Vec::new(), 0);
+    let core = device_and_core(numbers).1;
     for bank in 0..32usize {
         let row = random.below(numbers[ROWS].into()) as u64;
         let mut tag = random.pick(&[0, 0, 0, row + 1, row + 1, 65_535]);
-        if bank % 16 != 0 && below != 0 {
+        if bank > 0 && are_neighbours(core, bank - 1, bank) && below != 0 {
             tag = 0;
         }
         put(state, 640 + 2 * bank, 2, tag);
@@ -290,8 +303,9 @@ fn any_record(random: &mut Random, numbers: &[u16; 16], state: &[u8]) -> Vec<u8>
     if packet.command > NOCOP && !open.is_empty() && !random.chance(8) {
         packet.bank = random.pick(&open);
     }
+    let core = device_and_core(numbers).1.into();
     let free: Vec<u32> = (0..32)
-        .filter(|b| (0..32).all(|c| !near(*b, c) || tag(state, c as usize) == 0))
+        .filter(|b| (0..32).all(|c| !near(core, *b, c) || tag(state, c as usize) == 0))
         .collect();
     if [ACT, REFA].contains(&packet.command) && !free.is_empty() && !random.chance(8) {
         packet.bank = random.pick(&free);

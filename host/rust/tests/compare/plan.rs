@@ -1,13 +1,13 @@
 //! Random and damaged requests, planned by the library and by the reference.
 
-use crate::lists::{rule_numbers, SettingsSeen, T_CC, T_RTR};
 use crate::plan_calls::{Run, Seen, ENOUGH};
 use crate::plan_streams::{
-    bare, read, sixteen_banks, wait, write, Maker, DRAIN, READ, REFRESH, WAIT, WRITE,
+    bare, most_banks, read, wait, write, Maker, DRAIN, READ, REFRESH, WAIT, WRITE,
 };
-use crate::random::{rounds, set_h, Random};
-use crate::reference::{COLUMNS, ROWS};
+use crate::random::{rounds, set_h, with_core, Random};
+use crate::reference::{device_and_core, COLUMNS, CORES, ROWS};
 use crate::reference_state::{put, LAST, WAITING};
+use crate::rule_settings::{rule_numbers, SettingsSeen, T_CC, T_RTR};
 
 /// Plans requests one after the other, now and then with too little room first.
 fn plan_all(random: &mut Random, seen: &mut Seen, run: &mut Run, maker: &Maker, requests: usize) {
@@ -50,18 +50,20 @@ fn long_streams() {
         let maker = Maker::new(&mut random, &numbers);
         let mut run = Run::new(&numbers);
         plan_all(&mut random, &mut seen, &mut run, &maker, 150);
+        assert_eq!(run.call(&mut seen, &wait(u32::MAX), 0), Err(7));
         run.check();
     }
     seen.report("plan, long streams", &[0, 2, 3, 4, 5, 6, 7, 8, 13]);
     seen.all_kinds();
 }
 
-/// Sixteen open banks and one waiting write, or two where the settings let a WR come beside another.
+/// As many open banks as may be and one waiting write, or two where the settings let a WR come beside
+/// another.
 fn all_waiting(random: &mut Random, seen: &mut Seen, numbers: &[u16; 16]) -> Run {
     let mut run = Run::new(numbers);
     let row = |random: &mut Random| random.below(numbers[ROWS].into()) as u16;
-    let mut banks = sixteen_banks(random);
-    for i in (1..16).rev() {
+    let mut banks = most_banks(random, device_and_core(numbers).1);
+    for i in (1..banks.len()).rev() {
         banks.swap(i, random.below(i + 1));
     }
     for bank in &banks {
@@ -77,43 +79,56 @@ fn all_waiting(random: &mut Random, seen: &mut Seen, numbers: &[u16; 16]) -> Run
     run
 }
 
-#[test]
-fn eighteen_records() {
-    let (mut seen, mut random) = (Seen::default(), Random::new(63));
+/// The longest request: a drain with as many open banks and waiting writes as may be. It makes 18
+/// records where banks have neighbours, else 34.
+fn longest_drain(random: &mut Random, seen: &mut Seen, numbers: &[u16; 16], every_left: bool) {
     let drain = bare(DRAIN);
-    for round in 0..300 {
-        let numbers = match round {
-            0 => set_h(2, 4, 0),
-            _ => rule_numbers(&mut random),
-        };
-        let run = all_waiting(&mut random, &mut seen, &numbers);
-        let need = 16 + usize::from(run.state[WAITING]);
-        assert_eq!(need == 18, numbers[T_CC] < numbers[T_RTR]);
-        for records in 0..need {
-            let room = 32 * records + random.below(32);
-            let refused = run.clone().call(&mut seen, &drain, room);
-            assert_eq!(refused, Err(8), "room for {records} records");
-        }
-        let mut drained = run.clone();
-        assert_eq!(drained.call(&mut seen, &drain, ENOUGH), Ok(need));
-        // Nothing is open now.
-        assert_eq!(drained.call(&mut seen, &drain, 0), Ok(0));
-        drained.check();
-        // At the end of time any of them may be the first that is late.
-        let span = (drained.now() - run.now()) as usize;
-        let lefts: Vec<usize> = match round {
-            0 => (0..=span + 1).collect(),
-            _ => (0..12).map(|_| random.below(span + 2)).collect(),
-        };
-        for left in lefts {
-            let mut late = run.clone();
-            let cycles = LAST - left as u64 - late.now();
-            late.call(&mut seen, &wait(cycles as u32), 0).unwrap();
-            _ = late.call(&mut seen, &drain, ENOUGH);
+    let most = [18, 18, 34][usize::from(device_and_core(numbers).1)];
+    let run = all_waiting(random, seen, numbers);
+    let need = most - 2 + usize::from(run.state[WAITING]);
+    assert_eq!(need == most, numbers[T_CC] < numbers[T_RTR]);
+    for records in 0..need {
+        let room = 32 * records + random.below(32);
+        let refused = run.clone().call(seen, &drain, room);
+        assert_eq!(refused, Err(8), "room for {records} records");
+    }
+    let mut drained = run.clone();
+    assert_eq!(drained.call(seen, &drain, ENOUGH), Ok(need));
+    // Nothing is open now.
+    assert_eq!(drained.call(seen, &drain, 0), Ok(0));
+    drained.check();
+    // At the end of time any of them may be the first that is late.
+    let span = (drained.now() - run.now()) as usize;
+    let lefts: Vec<usize> = match every_left {
+        true => (0..=span + 1).collect(),
+        false => (0..12).map(|_| random.below(span + 2)).collect(),
+    };
+    for left in lefts {
+        let mut late = run.clone();
+        let cycles = LAST - left as u64 - late.now();
+        late.call(seen, &wait(cycles as u32), 0).unwrap();
+        _ = late.call(seen, &drain, ENOUGH);
+    }
+}
+
+#[test]
+fn most_records() {
+    let (mut seen, mut random) = (Seen::default(), Random::new(63));
+    for core in CORES {
+        longest_drain(
+            &mut random,
+            &mut seen,
+            &with_core(set_h(2, 4, 0), core),
+            true,
+        );
+        for _ in 0..120 {
+            let numbers = with_core(rule_numbers(&mut random), core);
+            longest_drain(&mut random, &mut seen, &numbers, false);
         }
     }
-    seen.report("plan, eighteen records", &[0, 7, 8]);
-    assert!(seen.with_records(17) > 0 && seen.with_records(18) >= 150);
+    seen.report("plan, most records", &[0, 7, 8]);
+    assert!(seen.with_records(17) > 0 && seen.with_records(18) >= 100);
+    assert!(seen.with_records(33) > 0 && seen.with_records(34) >= 50);
 }
 
 #[test]
@@ -173,9 +188,12 @@ fn one_of_each_kind() -> Vec<Vec<u8>> {
 
 #[test]
 fn every_distance_to_the_horizon() {
-    let (mut seen, numbers) = (Seen::default(), set_h(2, 4, 0));
-    for prefix in prefixes() {
-        let mut run = Run::new(&numbers);
+    let mut seen = Seen::default();
+    let runs = prefixes()
+        .into_iter()
+        .flat_map(|p| CORES.map(|core| (p.clone(), core)));
+    for (prefix, core) in runs {
+        let mut run = Run::new(&with_core(set_h(2, 4, 0), core));
         for request in &prefix {
             run.call(&mut seen, request, ENOUGH).unwrap();
         }
@@ -238,17 +256,19 @@ fn lengths_of_requests() {
     seen.report("plan, lengths of requests", &[0, 7, 13]);
 }
 
-/// Every length of a room up to some bytes more than 18 records.
+/// Every length of a room up to some bytes more than the most records.
 #[test]
 fn rooms() {
-    let (mut seen, mut random, numbers) = (Seen::default(), Random::new(66), set_h(2, 4, 0));
-    let run = all_waiting(&mut random, &mut seen, &numbers);
-    for request in one_of_each_kind() {
-        let need = run.clone().call(&mut seen, &request, ENOUGH);
-        for room in 0..=ENOUGH + 40 {
-            let answer = run.clone().call(&mut seen, &request, room);
-            let short = need.is_ok_and(|records| room / 32 < records);
-            assert_eq!(answer, if short { Err(8) } else { need }, "room {room}");
+    let (mut seen, mut random) = (Seen::default(), Random::new(66));
+    for core in CORES {
+        let run = all_waiting(&mut random, &mut seen, &with_core(set_h(2, 4, 0), core));
+        for request in one_of_each_kind() {
+            let need = run.clone().call(&mut seen, &request, ENOUGH);
+            for room in 0..=ENOUGH + 40 {
+                let answer = run.clone().call(&mut seen, &request, room);
+                let short = need.is_ok_and(|records| room / 32 < records);
+                assert_eq!(answer, if short { Err(8) } else { need }, "room {room}");
+            }
         }
     }
     seen.report("plan, rooms of every length", &[0, 7, 8]);

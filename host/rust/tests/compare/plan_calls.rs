@@ -10,6 +10,7 @@ use crate::reference_plan::{self as reference, STATE_BYTES};
 use crate::reference_state::{instant, WAITING};
 use crate::tuned_plan;
 use rdram::{raw, Planner, Refusal, Request};
+use std::collections::BTreeMap;
 
 /// What a call must do: the number of a refusal, or the new records and the next state.
 pub type Want = Result<(Vec<u8>, Vec<u8>), u32>;
@@ -166,7 +167,7 @@ pub struct Seen {
     /// Accepted requests by kind.
     kinds: [u64; 5],
     /// Accepted requests by the number of their records.
-    records: [u64; 19],
+    records: BTreeMap<usize, u64>,
     /// NOCOP before RD, NOCOP before PRER, two PRER before ACT or REFA, a WR with a mask; two NOCOP
     /// before RD, two NOCOP before PRER, a WR that leaves two writes waiting.
     shapes: [u64; 7],
@@ -179,7 +180,7 @@ impl Seen {
             return;
         };
         self.kinds[usize::from(request[0])] += 1;
-        self.records[commands.len()] += 1;
+        *self.records.entry(commands.len()).or_default() += 1;
         let pair = |a, b| commands.windows(2).any(|w| w == [Some(a), Some(b)]);
         let flushed = |c| {
             commands
@@ -201,7 +202,7 @@ impl Seen {
     /// Prints the counts; fails unless exactly these numbers were seen.
     pub fn report(&self, name: &str, numbers: &[u32]) {
         self.numbers.report(name, numbers);
-        let most = self.records.iter().rposition(|n| *n > 0).unwrap_or(0);
+        let most = self.records.keys().last().unwrap_or(&0);
         let [read, write, refresh, wait, drain] =
             [READ, WRITE, REFRESH, WAIT, DRAIN].map(|kind| self.kinds[usize::from(kind)]);
         println!("{name}: accepted: {read} read, {write} write, {refresh} refresh, {wait} wait, {drain} drain");
@@ -218,7 +219,7 @@ impl Seen {
         assert!(self.kinds.iter().all(|n| *n > 0), "{:?}", self.kinds);
         assert!(self.shapes.iter().all(|n| *n > 0), "{:?}", self.shapes);
         assert!(
-            self.records[..7].iter().all(|n| *n > 0),
+            (0..7).all(|n| self.with_records(n) > 0),
             "{:?}",
             self.records
         );
@@ -226,7 +227,7 @@ impl Seen {
 
     /// Accepted requests of so many records.
     pub fn with_records(&self, records: usize) -> u64 {
-        self.records[records]
+        self.records.get(&records).copied().unwrap_or(0)
     }
 }
 
@@ -240,7 +241,7 @@ pub struct Run {
 }
 
 /// Room for any request.
-pub const ENOUGH: usize = 18 * 32;
+pub const ENOUGH: usize = rdram::REQUEST_RECORDS * 32;
 
 impl Run {
     pub fn new(numbers: &[u16; 16]) -> Run {

@@ -12,7 +12,7 @@ use crate::two_writes;
 const NAMES: [&str; 7] = ["ACT", "PRER", "REFA", "REFP", "NOCOP", "WR", "RD"];
 
 /// The lines of a list.
-fn listing(settings: &[u8], list: &[u8]) -> Vec<String> {
+pub fn listing(settings: &[u8], list: &[u8]) -> Vec<String> {
     let f = figures(settings).unwrap();
     let mut written = (0, 0);
     let line = |record: &[u8]| {

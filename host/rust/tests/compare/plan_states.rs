@@ -3,15 +3,16 @@
 
 use crate::buffers::fresh_refused;
 use crate::calls::Seen as Numbers;
-use crate::lists::rule_numbers;
 use crate::plan_calls::{compare, fresh, Case, Run, Seen, Want, ENOUGH};
 use crate::plan_streams::{bare, read, wait, write, Maker, DRAIN};
-use crate::random::{bytes, rounds, set_h, Random};
-use crate::reference::{COLUMNS, ROWS};
+use crate::random::{bytes, rounds, set_h, with_core, Random};
+use crate::reference::{device_and_core, COLUMNS, CORES, ROWS};
 use crate::reference_plan::{state_fits, STATE_BYTES};
 use crate::reference_state::{put, put_instant, put_writes, DUE, WAITING};
+use crate::rule_settings::rule_numbers;
 use crate::state_bytes::{
-    any_counts, assert_every_byte, ends, fields, unused, Field, Instants, UNUSED,
+    any_counts, are_neighbours, assert_every_byte, ends, fields, pairs_of_banks, unused, Field,
+    Instants, UNUSED,
 };
 use crate::tuned_plan;
 use rdram::raw::rdram_planner_fresh;
@@ -177,29 +178,35 @@ fn refused_settings(settings: &[u8], planner: &[u8]) -> u32 {
     1
 }
 
-/// Two open banks: refused where they are neighbours. 15 and 16 are not.
+/// Two open banks: refused where they are neighbours. 15 and 16 are such in one run of 32 alone, and
+/// no banks are without dependency.
 #[test]
 fn open_neighbours() {
-    let (mut seen, numbers) = (Numbers::default(), set_h(2, 4, 0));
-    for a in 0..32usize {
-        for b in 0..32usize {
-            let mut state = fresh();
-            put(&mut state, 640 + 2 * a, 2, 1);
-            put(&mut state, 640 + 2 * b, 2, 2);
+    let mut seen = Numbers::default();
+    for (a, b) in pairs_of_banks() {
+        let mut state = fresh();
+        put(&mut state, 640 + 2 * a, 2, 1);
+        put(&mut state, 640 + 2 * b, 2, 2);
+        for core in CORES {
+            let numbers = with_core(set_h(2, 4, 0), core);
             let number = call(&numbers, &state, &bare(DRAIN), ENOUGH);
-            let neighbours = a.abs_diff(b) == 1 && a / 16 == b / 16;
-            assert_eq!(number == 1, neighbours, "banks {a} and {b}");
+            let refused = are_neighbours(core, a, b);
+            assert_eq!(number == 1, refused, "banks {a} and {b}, form {core}");
             seen.add(number);
         }
     }
     seen.report("plan, two open banks", &[0, 1]);
 }
 
-/// Each waiting write needs its bank open by ACT. Bank 9 is open.
+/// Each waiting write needs its bank open by ACT. Bank 9 is open, so that 8 and 10 are closed where
+/// banks have neighbours.
 #[test]
 fn banks_of_the_waiting_writes() {
-    let numbers = set_h(2, 4, 0);
-    for bank in 0..=255u32 {
+    for (core, bank) in CORES
+        .into_iter()
+        .flat_map(|core| (0..=255).map(move |b| (core, b)))
+    {
+        let numbers = with_core(set_h(2, 4, 0), core);
         for tag in [0, 1, 2, 3, 65_535] {
             let (write, other) = ((bank, 0, 4), (9, 3, 8));
             for writes in [vec![write], vec![write, other], vec![other, write]] {
@@ -208,9 +215,9 @@ fn banks_of_the_waiting_writes() {
                 put(&mut state, 640 + 18, 2, 1);
                 put(&mut state, 640 + 2 * (bank as usize % 32), 2, tag);
                 let number = call(&numbers, &state, &bare(DRAIN), ENOUGH);
-                let alone = bank != 8 && bank != 10;
+                let alone = core == 2 || (bank != 8 && bank != 10);
                 let open = bank < 32 && (tag == 1 || tag == 2) && alone;
-                assert_eq!(number == 0, open, "{writes:?}, {tag}");
+                assert_eq!(number == 0, open, "{writes:?}, {tag}, form {core}");
             }
         }
     }
@@ -240,10 +247,10 @@ fn any_state(random: &mut Random, numbers: &[u16; 16]) -> Vec<u8> {
     let mut state = vec![0; STATE_BYTES];
     let instants = Instants::new(random, 200, 4_096);
     instants.put_lasts(random, &mut state);
-    let mut open = Vec::new();
+    let (mut open, core) = (Vec::new(), device_and_core(numbers).1);
     for bank in 0..32usize {
-        let free = bank % 16 == 0 || open.last() != Some(&(bank - 1));
-        if free && random.chance(2) {
+        let free = |open: &usize| !are_neighbours(core, *open, bank);
+        if open.last().is_none_or(free) && random.chance(2) {
             let row = random.below(numbers[ROWS].into()) as u64;
             put(&mut state, 640 + 2 * bank, 2, row + 1);
             open.push(bank);

@@ -129,13 +129,17 @@ impl Maker {
     }
 }
 
-/// Sixteen banks of which no two are neighbours: in each half, pairs of banks of which first the
-/// lower and then the upper is taken.
-pub fn sixteen_banks(random: &mut Random) -> Vec<u8> {
-    let turn = [random.below(9), random.below(9)];
-    let pairs = (0..16).map(|pair| {
-        let upper = pair % 8 >= turn[pair / 8];
+/// As many banks as a core lets be open at once: all where none are neighbours, else one of each
+/// pair, in each run first the lower and then the upper.
+pub fn most_banks(random: &mut Random, core: u16) -> Vec<u8> {
+    if core == 2 {
+        return (0..32).collect();
+    }
+    let pairs = if core == 0 { 8 } else { 16 }; // of a run
+    let turn = [random.below(pairs + 1), random.below(pairs + 1)];
+    let banks = (0..16).map(|pair| {
+        let upper = pair % pairs >= turn[pair / pairs];
         (2 * pair + usize::from(upper)) as u8
     });
-    pairs.collect()
+    banks.collect()
 }

@@ -1,7 +1,7 @@
 //! Inputs from a generator with a fixed seed.
 
 use crate::reference::{
-    self, Fields, BOUNDS, COLUMNS, DEVICE, NOCOP, RESERVED, ROWS, T_CAC, T_CWD,
+    self, Fields, BOUNDS, COLUMNS, CORES, DEVICE, NOCOP, RESERVED, ROWS, T_CAC, T_CWD,
 };
 
 /// So many rounds of a test, times `RDRAM_ROUNDS` where the environment has it: a longer run.
@@ -56,7 +56,7 @@ impl Random {
         let mut numbers = BOUNDS.map(|(low, high)| self.between(low, high));
         numbers[T_CWD] = self.between(1, numbers[T_CAC] - 1);
         numbers[RESERVED] = 0;
-        numbers
+        with_core(numbers, self.pick(&CORES))
     }
 
     /// A packet that has a word under the settings.
@@ -114,11 +114,17 @@ pub fn bytes(numbers: &[u16; 16]) -> Vec<u8> {
     numbers.iter().flat_map(|n| n.to_le_bytes()).collect()
 }
 
-/// Set H of the paper with rows, columns and device.
+/// Set H of the paper with rows, columns and device; its core is split.
 pub fn set_h(rows: u16, columns: u16, device: u16) -> [u16; 16] {
     let mut numbers = [28, 20, 8, 8, 8, 9, 8, 4, 4, 4, 8, 6, 0, 0, 0, 0];
     numbers[ROWS] = rows;
     numbers[COLUMNS] = columns;
     numbers[DEVICE] = device;
+    numbers
+}
+
+/// Settings with a core form in the place of their own.
+pub fn with_core(mut numbers: [u16; 16], core: u16) -> [u16; 16] {
+    numbers[DEVICE] = numbers[DEVICE] % 256 + 256 * core;
     numbers
 }

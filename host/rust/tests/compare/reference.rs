@@ -1,4 +1,4 @@
-//! Settings, words, records and logs as plain Rust, written from document 01 alone.
+//! Settings, words, records and logs as plain Rust, written from documents 01 and 02 (c) alone.
 
 /// Number and place of a refusal; the place is 0 where none is named.
 #[derive(Clone, Copy, Debug, PartialEq, Eq)]
@@ -21,7 +21,8 @@ pub struct Figures {
     pub device: u64,
 }
 
-/// Low and high bounds of the sixteen numbers; tCWD is also below tCAC.
+/// Low and high bounds of the sixteen numbers; tCWD is also below tCAC, and the high byte of the last
+/// number is the core form.
 pub const BOUNDS: [(u16, u16); 16] = [
     (4, 64),  // tRC
     (4, 64),  // tRAS
@@ -47,23 +48,34 @@ pub const ROWS: usize = 13;
 pub const COLUMNS: usize = 14;
 pub const DEVICE: usize = 15;
 
+/// The core forms: 0 split, 1 one run of 32 dependent banks, 2 no dependency.
+pub const CORES: [u16; 3] = [0, 1, 2];
+
+/// The last number of the settings as device and core form.
+pub fn device_and_core(numbers: &[u16; 16]) -> (u16, u16) {
+    (numbers[DEVICE] % 256, numbers[DEVICE] / 256)
+}
+
 /// The figures, if the settings are not refused under 1.
 pub fn figures(settings: &[u8]) -> Option<Figures> {
     if settings.len() != 32 {
         return None;
     }
-    let numbers: Vec<u16> = settings.chunks(2).map(|b| number(b) as u16).collect();
+    let mut numbers: [u16; 16] =
+        std::array::from_fn(|i| number(&settings[2 * i..2 * i + 2]) as u16);
+    let (device, core) = device_and_core(&numbers);
+    numbers[DEVICE] = device;
     let in_range = numbers
         .iter()
         .zip(BOUNDS)
         .all(|(n, (low, high))| low <= *n && *n <= high);
-    if !in_range || numbers[T_CWD] > numbers[T_CAC] - 1 {
+    if !in_range || core > 2 || numbers[T_CWD] > numbers[T_CAC] - 1 {
         return None;
     }
     Some(Figures {
         rows: numbers[ROWS].into(),
         columns: numbers[COLUMNS].into(),
-        device: numbers[DEVICE].into(),
+        device: device.into(),
     })
 }
 

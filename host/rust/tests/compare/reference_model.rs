@@ -1,4 +1,4 @@
-//! The device model as plain Rust, written from documents 01 and 02 (a) alone, by history. It keeps
+//! The device model as plain Rust, written from documents 01 and 02 (a, c) alone, by history. It keeps
 //! every record that it has taken, judges the next by the rules of `reference_rules` against all of
 //! them, and reads banks, the waiting writes, their data and REFR off that list.
 

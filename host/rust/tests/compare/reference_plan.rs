@@ -1,4 +1,4 @@
-//! The planner as plain Rust, written from documents 01 and 02 (a) alone, by trying. It keeps every
+//! The planner as plain Rust, written from documents 01 and 02 (a, c) alone, by trying. It keeps every
 //! record that it has made, reads banks and the waiting writes off that list, and tries each packet
 //! at now, now + 1, .. until it breaks none of the rules of `reference_rules` against all earlier
 //! records.
@@ -181,7 +181,8 @@ impl Planner {
 
     /// PRER, with NOCOPs before it while it would lose a waiting write.
     fn close(&mut self, bank: u32) -> Result<(), Refused> {
-        self.nocops(|writes| writes.iter().any(|(b, ..)| near(*b, bank)))?;
+        let core = self.timings.core;
+        self.nocops(|writes| writes.iter().any(|(b, ..)| near(core, *b, bank)))?;
         self.send(PRER, bank, 0)
     }
 
@@ -194,11 +195,16 @@ impl Planner {
         Ok(())
     }
 
+    fn close_open_near(&mut self, bank: u32) -> Result<(), Refused> {
+        let core = self.timings.core;
+        self.close_open(|b| near(core, b, bank))
+    }
+
     fn reach(&mut self, at: Place) -> Result<(), Refused> {
         if open_row(&self.steps, at.bank) == Some(at.row) {
             return Ok(());
         }
-        self.close_open(|b| near(b, at.bank))?;
+        self.close_open_near(at.bank)?;
         self.send(ACT, at.bank, at.row)
     }
 
@@ -223,7 +229,7 @@ impl Planner {
 
     fn refresh(&mut self) -> Result<(), Refused> {
         let bank = self.refresh;
-        self.close_open(|b| near(b, bank))?;
+        self.close_open_near(bank)?;
         self.send(REFA, bank, 0)?;
         self.send(REFP, bank, 0)?;
         self.refresh = (bank + 1) % 32;

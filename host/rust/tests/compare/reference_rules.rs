@@ -1,4 +1,4 @@
-//! The sixteen rules as plain Rust, written from documents 01 and 02 (a) alone. A record is judged
+//! The sixteen rules as plain Rust, written from documents 01 and 02 (a, c) alone. A record is judged
 //! against each earlier record; no state is carried along: banks and the waiting writes are found
 //! by looking back through the list.
 
@@ -10,7 +10,7 @@ use crate::reference::{
 const FIRST: u64 = 4;
 const LAST: u64 = 1_000_000_000;
 
-/// The twelve timings.
+/// The twelve timings and the core form.
 #[derive(Clone, Copy)]
 pub struct Timings {
     pub rc: u64,
@@ -25,6 +25,7 @@ pub struct Timings {
     pub cc: u64,
     pub cac: u64,
     pub cwd: u64,
+    pub core: u64,
 }
 
 impl Timings {
@@ -43,6 +44,7 @@ impl Timings {
             cc: n(9),
             cac: n(10),
             cwd: n(11),
+            core: n(15) / 256,
         }
     }
 }
@@ -95,7 +97,7 @@ struct Oldest {
 impl Step {
     pub fn new(t: &Timings, earlier: &[Step], at: u64, packet: Option<Fields>) -> Step {
         let closes = match packet {
-            Some(p) if is_prer(p) => closed_by(earlier, p.bank),
+            Some(p) if is_prer(p) => closed_by(t, earlier, p.bank),
             _ => 0,
         };
         let oldest = waiting(earlier).first().map(|(place, bank)| Oldest {
@@ -139,13 +141,19 @@ fn is_col(p: Fields) -> bool {
     p.command >= NOCOP
 }
 
-/// Neighbours differ by 1 and are both in 0 to 15 or both in 16 to 31.
-pub fn neighbours(a: u32, b: u32) -> bool {
-    a.abs_diff(b) == 1 && a / 16 == b / 16
+/// Neighbours differ by 1. In a split core both are in 0 to 15 or both in 16 to 31, and in a core
+/// without dependency there are none.
+pub fn neighbours(core: u64, a: u32, b: u32) -> bool {
+    let in_one_run = match core {
+        0 => a / 16 == b / 16,
+        1 => true,
+        _ => false,
+    };
+    in_one_run && a.abs_diff(b) == 1
 }
 
-pub fn near(a: u32, b: u32) -> bool {
-    a == b || neighbours(a, b)
+pub fn near(core: u64, a: u32, b: u32) -> bool {
+    a == b || neighbours(core, a, b)
 }
 
 #[derive(Clone, Copy, Debug, PartialEq, Eq)]
@@ -157,12 +165,11 @@ pub enum Bank {
 
 /// A bank after the earlier records: the last of them that acts on it decides.
 pub fn bank(earlier: &[Step], bank: u32) -> Bank {
-    let packets = earlier.iter().rev().filter_map(|step| step.packet);
-    for p in packets {
-        match p.command {
-            ACT if p.bank == bank => return Bank::Open,
-            REFA if p.bank == bank => return Bank::Refresh,
-            PRER | REFP if near(p.bank, bank) => return Bank::Closed,
+    for step in earlier.iter().rev() {
+        match step.packet {
+            Some(p) if p.command == ACT && p.bank == bank => return Bank::Open,
+            Some(p) if p.command == REFA && p.bank == bank => return Bank::Refresh,
+            _ if step.closes >> bank & 1 == 1 => return Bank::Closed,
             _ => {}
         }
     }
@@ -181,8 +188,9 @@ pub fn waiting(earlier: &[Step]) -> Vec<(usize, u32)> {
 }
 
 /// A PRER closes its bank and any neighbour that is open or under refresh.
-fn closed_by(earlier: &[Step], prer: u32) -> u32 {
-    let closes = |b: u32| b == prer || (neighbours(b, prer) && bank(earlier, b) != Bank::Closed);
+fn closed_by(t: &Timings, earlier: &[Step], prer: u32) -> u32 {
+    let beside = |b: u32| neighbours(t.core, b, prer) && bank(earlier, b) != Bank::Closed;
+    let closes = |b: u32| b == prer || beside(b);
     (0..32).filter(|b| closes(*b)).map(|b| 1 << b).sum()
 }
 
@@ -193,7 +201,7 @@ fn distances(t: &Timings, a: &Step, b: &Step, mut need: impl FnMut(u32, u64)) {
     let (Some(p), Some(q)) = (a.packet, b.packet) else {
         return;
     };
-    let (same, near_banks) = (p.bank == q.bank, near(p.bank, q.bank));
+    let (same, near_banks) = (p.bank == q.bank, near(t.core, p.bank, q.bank));
     need(1, 0);
     if !is_col(p) && !is_col(q) {
         need(2, 4);
@@ -207,7 +215,7 @@ fn distances(t: &Timings, a: &Step, b: &Step, mut need: impl FnMut(u32, u64)) {
     if is_act(p) && is_prer(q) && near_banks {
         need(6, t.ras);
     }
-    let beside_closed = (0..32).any(|c| a.closes >> c & 1 == 1 && neighbours(c, q.bank));
+    let beside_closed = (0..32).any(|c| a.closes >> c & 1 == 1 && neighbours(t.core, c, q.bank));
     if is_prer(p) && is_act(q) && (near_banks || beside_closed) {
         need(7, t.rp);
     }
@@ -229,7 +237,8 @@ fn distances(t: &Timings, a: &Step, b: &Step, mut need: impl FnMut(u32, u64)) {
     if is_prer(q) && p.command == RD && near_banks {
         need(13, t.rdp);
     }
-    if is_prer(q) && a.retired().is_some_and(|(_, bank)| near(bank, q.bank)) {
+    let retired_near = |(_, bank)| near(t.core, bank, q.bank);
+    if is_prer(q) && a.retired().is_some_and(retired_near) {
         need(13, t.rtp);
     }
 }
@@ -256,13 +265,11 @@ fn leaves_writes(new: &Step, p: Fields, waiting: usize) -> bool {
 }
 
 /// Rules 9, 12, 14 and 16 and, of an ACT, 4.
-fn breaks_by_state(earlier: &[Step], new: &Step, p: Fields, broken: &mut Rules) {
+fn breaks_by_state(t: &Timings, earlier: &[Step], new: &Step, p: Fields, broken: &mut Rules) {
     let not_closed = |b: u32| bank(earlier, b) != Bank::Closed;
     let not_open = |b: u32| bank(earlier, b) != Bank::Open;
-    broken.add_if(
-        4,
-        is_act(p) && (0..32).any(|b| near(b, p.bank) && not_closed(b)),
-    );
+    let taken = |b: u32| near(t.core, b, p.bank) && not_closed(b);
+    broken.add_if(4, is_act(p) && (0..32).any(taken));
     let used = (p.command == RD || p.command == WR) && not_open(p.bank);
     broken.add_if(9, used || new.retired().is_some_and(|(_, b)| not_open(b)));
     let waiting = waiting(earlier);
@@ -283,7 +290,7 @@ pub fn broken(t: &Timings, earlier: &[Step], new: &Step) -> Rules {
         });
     }
     if let Some(p) = new.packet {
-        breaks_by_state(earlier, new, p, &mut broken);
+        breaks_by_state(t, earlier, new, p, &mut broken);
     }
     let due = Step::follows_wr(earlier).map(|at| at + t.cwd);
     let found = new.packet.is_none().then_some(new.at);

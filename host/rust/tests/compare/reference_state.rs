@@ -1,7 +1,9 @@
 //! The bytes 0 to 751 that the states of planner and model have in common, in the layout of
 //! `rdram.h`: read off a list of records that break no rule, and what is asked of them.
 
-use crate::reference::{number, Fields, ACT, COLUMNS, NOCOP, PRER, RD, REFA, REFP, ROWS, WR};
+use crate::reference::{
+    device_and_core, number, Fields, ACT, COLUMNS, NOCOP, PRER, RD, REFA, REFP, ROWS, WR,
+};
 use crate::reference_rules::{self as rules, neighbours, Bank, Step};
 
 pub const LAST: u64 = 1_000_000_000;
@@ -161,10 +163,11 @@ pub fn channel_fits(numbers: &[u16; 16], state: &[u8]) -> bool {
     let unused = [724..728, 730..736];
     let mut lasts = (0..640).chain(704..724).step_by(4);
     let row_fits = |tag: u64| tag <= numbers[ROWS].into() || tag == UNDER_REFRESH;
-    let both = |a: usize, b: usize| tag(state, a) != 0 && tag(state, b) != 0;
+    let core = device_and_core(numbers).1.into();
+    let closed = |bank: u32| tag(state, bank as usize) == 0;
     lasts.all(|at| instant(state, at) <= LAST)
         && (0..32).all(|bank| row_fits(tag(state, bank)))
-        && (0..31).all(|b| !neighbours(b, b + 1) || !both(b as usize, b as usize + 1))
+        && (0..31).all(|b| !neighbours(core, b, b + 1) || closed(b) || closed(b + 1))
         && unused.into_iter().all(|part| zero(&state[part]))
         && buffer_fits(numbers, state)
 }

@@ -1,11 +1,10 @@
 //! The rules on random lists, as lists and as logs.
 
-use crate::lists::{
-    any_items, change, half_legal, legal, list_bytes, over_writes, rule_numbers, SettingsSeen, LAST,
-};
+use crate::lists::{any_items, change, half_legal, legal, list_bytes, over_writes, LAST};
 use crate::random::{bytes, rounds, Random};
 use crate::reference::{blocks, seal};
 use crate::rule_calls::{check, check_both, check_log, Verdicts};
+use crate::rule_settings::{rule_numbers, SettingsSeen};
 
 /// Legal lists pass, and so does each list of their first records.
 #[test]

@@ -1,8 +1,11 @@
-//! Settings at and beyond the ends of every range, through all four calls.
+//! Settings at and beyond the ends of every range, through all four calls on words and logs.
 
 use crate::calls::{log_decode, log_encode, word_decode, word_encode, Seen};
-use crate::random::{bytes, rounds, set_h, Random};
-use crate::reference::{blocks, Fields, ACT, BOUNDS, RESERVED, T_CAC, T_CWD};
+use crate::random::{bytes, rounds, set_h, with_core, Random};
+use crate::reference::{
+    blocks, figures, Fields, ACT, BOUNDS, CORES, DEVICE, RESERVED, T_CAC, T_CWD,
+};
+use rdram::{Core, Settings};
 
 /// ACT of bank 0, row 0, device 0: a packet, its word, a list and a log.
 fn all_calls(seen: &mut Seen, settings: &[u8]) {
@@ -22,7 +25,16 @@ fn all_calls(seen: &mut Seen, settings: &[u8]) {
 
 #[test]
 fn set_h_of_the_crate() {
-    assert_eq!(rdram::Settings::SET_H.to_bytes()[..], bytes(&set_h(2, 4, 0)));
+    let cores = [Core::Split, Core::OneRun, Core::Independent];
+    for (core, form) in cores.into_iter().zip(CORES) {
+        let settings = Settings {
+            core,
+            ..Settings::SET_H
+        };
+        let numbers = with_core(set_h(2, 4, 0), form);
+        assert_eq!(settings.to_bytes()[..], bytes(&numbers));
+    }
+    assert_eq!(Settings::SET_H.core, Core::Split);
 }
 
 #[test]
@@ -73,6 +85,20 @@ fn reserved_number() {
         all_calls(&mut seen, &bytes(&numbers));
     }
     seen.report("settings, reserved number", &[0, 1, 10]);
+}
+
+/// Every last number: a device up to 31 in its low byte and a core form up to 2 in its high byte.
+#[test]
+fn device_and_core_form() {
+    let (mut seen, mut random) = (Seen::default(), Random::new(6));
+    for value in 0..=u16::MAX {
+        let mut numbers = random.numbers();
+        numbers[DEVICE] = value;
+        let fits = value % 256 <= 31 && value / 256 <= 2;
+        assert_eq!(figures(&bytes(&numbers)).is_some(), fits, "{value}");
+        all_calls(&mut seen, &bytes(&numbers));
+    }
+    seen.report("settings, device and core form", &[0, 1, 10]);
 }
 
 #[test]

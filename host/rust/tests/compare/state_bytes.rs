@@ -64,6 +64,19 @@ pub fn any_counts() -> impl Iterator<Item = (u8, u8, usize)> {
     pairs.flat_map(|(n, due)| [0, 1, 2].map(|writes| (n, due, writes)))
 }
 
+/// All pairs of banks.
+pub fn pairs_of_banks() -> impl Iterator<Item = (usize, usize)> {
+    (0..32).flat_map(|a| (0..32).map(move |b| (a, b)))
+}
+
+/// The neighbours of a core, pair by pair.
+pub fn are_neighbours(core: u16, a: usize, b: usize) -> bool {
+    match (a.min(b), a.max(b)) {
+        (15, 16) => core == 1,
+        (low, high) => high == low + 1 && core != 2,
+    }
+}
+
 /// Fields follow each other and end with the state.
 pub fn assert_every_byte(fields: &[Field], bytes: usize) {
     let ends = fields.iter().scan(0, |end, (at, width)| {

@@ -1,4 +1,4 @@
-//! The device model in plain Rust, written for speed from documents 01 and 02 (a): banks, write
+//! The device model in plain Rust, written for speed from documents 01 and 02 (a, c): banks, write
 //! buffer and last instants in a struct of numbers, and no list (the rival "tuned" of the benches). It goes on from
 //! any state that is not refused, also one that no run reaches.
 
@@ -48,12 +48,12 @@ impl Model {
 
     fn judge_opening(&mut self, f: &Figures, at: u32, bank: usize) -> Result<(), u32> {
         let ch = &mut self.channel;
-        let (below, above) = beside(bank);
+        let (below, above) = beside(f, bank);
         rules! {
             2: at < since(ch.last_row, 4),
             4: ch.tags[below] | ch.tags[bank] | ch.tags[above] != 0,
-            5: at < since(near(&ch.opened, bank), f.rc) || at < ch.others_ask(f, bank),
-            7: at < since(near(&ch.pre, bank), f.rp),
+            5: at < since(near(f, &ch.opened, bank), f.rc) || at < ch.others_ask(f, bank),
+            7: at < since(near(f, &ch.pre, bank), f.rp),
             15: ch.due,
         }
         Ok(())
@@ -61,12 +61,12 @@ impl Model {
 
     fn judge_prer(&self, f: &Figures, at: u32, bank: usize) -> Result<(), u32> {
         let ch = &self.channel;
-        let (below, above) = beside(bank);
+        let (below, above) = beside(f, bank);
         rules! {
             2: at < since(ch.last_row, 4),
-            6: at < since(near(&ch.opened, bank), f.ras),
+            6: at < since(near(f, &ch.opened, bank), f.ras),
             8: at < since(ch.last_pre, f.pp),
-            13: at < since(near(&ch.rd, bank), f.rdp) || at < since(near(&ch.retire, bank), f.rtp),
+            13: at < since(near(f, &ch.rd, bank), f.rdp) || at < since(near(f, &ch.retire, bank), f.rtp),
             14: ch.waiting().iter().any(|w| (below..=above).contains(&w.bank)),
             15: ch.due,
         }
@@ -168,9 +168,9 @@ impl Model {
         self.row_taken(at);
     }
 
-    fn close(&mut self, at: u32, bank: usize) {
+    fn close(&mut self, f: &Figures, at: u32, bank: usize) {
         let ch = &mut self.channel;
-        let (below, above) = beside(bank);
+        let (below, above) = beside(f, bank);
         ch.last_pre = at;
         ch.pre[bank] = at;
         for b in below..=above {
@@ -243,7 +243,7 @@ impl Model {
                 self.open(at, bank, row + 1);
             }
             Record::Refa { bank } => self.refresh(f, at, bank),
-            Record::Prer { bank } => self.close(at, bank),
+            Record::Prer { bank } => self.close(f, at, bank),
             Record::D { data } => {
                 match self.channel.count {
                     2 => self.second = data,
@@ -290,7 +290,7 @@ impl Model {
         let most = ch.tags.iter().fold(0, |m, tag| tag.wrapping_add(1).max(m));
         ch.lasts_are(MOST)
             & (most <= f.rows as u16 + 1)
-            & ch.apart()
+            & ch.apart(f)
             & (refr < f.rows.into())
             & ch.buffer_fits(f, state.first_chunk().unwrap())
     }

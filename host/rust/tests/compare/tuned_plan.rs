@@ -1,4 +1,4 @@
-//! The planner in plain Rust, written for speed from documents 01 and 02 (a): last instants in a
+//! The planner in plain Rust, written for speed from documents 01 and 02 (a, c): last instants in a
 //! struct of numbers, and no list (the rival "tuned" of the benches). It plans from any state that is not
 //! refused, also one that no run reaches.
 
@@ -8,7 +8,7 @@ use super::tuned_state::{
     REFP, WR,
 };
 
-/// No request gets from here past the last instant: it makes at most 18 packets, each at most 64
+/// No request gets from here past the last instant: it makes at most 34 packets, each at most 64
 /// after the latest instant before it, and data come at most 12 later.
 const SAFE: u32 = MOST - 4_096;
 pub const STATE_BYTES: usize = 768;
@@ -63,9 +63,9 @@ impl Planner {
     fn opening(&mut self, f: &Figures, bank: usize) -> u32 {
         let at = self
             .row_from()
-            .max(since(near(&self.channel.opened, bank), f.rc))
+            .max(since(near(f, &self.channel.opened, bank), f.rc))
             .max(self.channel.others_ask(f, bank))
-            .max(since(near(&self.channel.pre, bank), f.rp));
+            .max(since(near(f, &self.channel.pre, bank), f.rp));
         self.channel.opened[bank] = at;
         self.channel.last_opened = self.channel.last_opened.map(|last| last.max(at));
         self.row_sent(at);
@@ -83,10 +83,10 @@ impl Planner {
     fn precharge(&mut self, f: &Figures, out: &mut Out, bank: usize, code: u64) {
         let at = self
             .row_from()
-            .max(since(near(&self.channel.opened, bank), f.ras))
+            .max(since(near(f, &self.channel.opened, bank), f.ras))
             .max(since(self.channel.last_pre, f.pp))
-            .max(since(near(&self.channel.rd, bank), f.rdp))
-            .max(since(near(&self.channel.retire, bank), f.rtp));
+            .max(since(near(f, &self.channel.rd, bank), f.rdp))
+            .max(since(near(f, &self.channel.retire, bank), f.rtp));
         (self.channel.pre[bank], self.channel.last_pre) = (at, at);
         self.channel.tags[bank] = 0;
         self.row_sent(at);
@@ -125,7 +125,7 @@ impl Planner {
 
     /// Closes the open ones of a bank and its neighbours.
     fn close_near(&mut self, f: &Figures, out: &mut Out, bank: usize) {
-        let (below, above) = beside(bank);
+        let (below, above) = beside(f, bank);
         self.close(f, out, below);
         self.close(f, out, bank);
         self.close(f, out, above);
@@ -299,7 +299,7 @@ impl Planner {
         (usual || ch.lasts_are(MOST))
             & (self.now.wrapping_sub(1) < MOST)
             & (ch.tags.iter().fold(0, |most, tag| *tag.max(&most)) <= f.rows as u16)
-            & ch.apart()
+            & ch.apart(f)
             & (number(752) >> 32 < 32) // the refresh bank and zeros
             & (number(760) >> 32 == 0)
             & !ch.due

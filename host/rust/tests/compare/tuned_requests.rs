@@ -1,10 +1,10 @@
-//! What a planner in plain Rust takes and makes, written for speed from documents 01 and 02 (a):
+//! What a planner in plain Rust takes and makes, written for speed from documents 01 and 02 (a, c):
 //! requests of bytes, and the records of a call.
 
 use super::tuned_state::{Figures, FULL};
 
 /// The most records that a request makes.
-pub const RECORDS: usize = 18;
+pub const RECORDS: usize = 34;
 
 /// A refusal number.
 pub type Refused = u32;

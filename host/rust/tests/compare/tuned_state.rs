@@ -1,5 +1,5 @@
 //! What the tuned planner and the tuned model have in common, written for speed from documents 01
-//! and 02 (a): settings, the words' codes, and banks, write buffer and last instants as a struct of numbers.
+//! and 02 (a, c): settings, the words' codes, and banks, write buffer and last instants as a struct of numbers.
 
 pub const LAST: u32 = 1_000_000_000;
 /// Instants of states are counted from here.
@@ -31,6 +31,8 @@ pub struct Figures {
     pub row_device: u64,
     pub col_device: u64,
     pub second_device: u64,
+    /// The banks of a run, less 1: the core form.
+    pub run: usize,
 }
 
 #[rustfmt::skip]
@@ -39,18 +41,24 @@ const BOUNDS: [(u16, u16); 16] = [
     (7, 12), (1, 11), (0, 0), (1, 512), (1, 128), (0, 31),
 ];
 
+/// The banks of a run by the core form, less 1.
+const RUNS: [usize; 3] = [15, 31, 0];
+
 impl Figures {
     #[inline(always)]
     pub fn of(settings: &[u8]) -> Option<Figures> {
         let settings: &[u8; 32] = settings.try_into().ok()?;
         let number = |i: usize| u16::from_le_bytes([settings[2 * i], settings[2 * i + 1]]);
-        let fit = |i: usize| (number(i) >= BOUNDS[i].0) & (number(i) <= BOUNDS[i].1);
+        let mut numbers: [u16; 16] = std::array::from_fn(number);
+        numbers[15] = settings[30].into(); // the device; the core form follows it
+        let fit = |i: usize| (numbers[i] >= BOUNDS[i].0) & (numbers[i] <= BOUNDS[i].1);
         let fits = (0..16).fold(true, |fits, i| fits & fit(i));
-        let n = |i: usize| u32::from(number(i));
+        let n = |i: usize| u32::from(numbers[i]);
         if !fits | (n(11) >= n(10)) {
             return None;
         }
         let device = u64::from(n(15));
+        let run = *RUNS.get(usize::from(settings[31]))?;
         Some(Figures {
             rc: n(0),
             ras: n(1),
@@ -71,6 +79,7 @@ impl Figures {
             row_device: (16 + device) << 18, // DR4T, DR4F, DR3 to DR0
             col_device: (32 | device) << 34,
             second_device: device << 11,
+            run,
         })
     }
 }
@@ -152,9 +161,9 @@ pub fn since(last: u32, gap: u32) -> u32 {
 }
 
 /// The neighbours of a bank; the bank itself in the place of one that is missing.
-pub fn beside(bank: usize) -> (usize, usize) {
-    let below = bank - usize::from(!bank.is_multiple_of(16));
-    let above = bank + usize::from(bank % 16 != 15);
+pub fn beside(f: &Figures, bank: usize) -> (usize, usize) {
+    let below = bank - usize::from(bank & f.run != 0);
+    let above = bank + usize::from((bank + 1) & f.run != 0);
     (below, above)
 }
 
@@ -163,8 +172,8 @@ pub fn latest(instants: &[u32]) -> u32 {
 }
 
 /// The latest of a bank's and its neighbours' instants.
-pub fn near(instants: &[u32; 32], bank: usize) -> u32 {
-    let (below, above) = beside(bank & 31);
+pub fn near(f: &Figures, instants: &[u32; 32], bank: usize) -> u32 {
+    let (below, above) = beside(f, bank & 31);
     instants[below & 31]
         .max(instants[bank & 31])
         .max(instants[above & 31])
@@ -217,7 +226,7 @@ impl Channel {
             self.last_opened = Some(last);
             return since(last, f.rr);
         }
-        let (below, above) = beside(bank);
+        let (below, above) = beside(f, bank);
         let before = latest(&self.opened[..below]);
         let after = latest(&self.opened[above + 1..]);
         since(before.max(after), f.rr)
@@ -262,12 +271,13 @@ impl Channel {
     }
 
     /// Whether of two neighbours one is closed.
-    pub fn apart(&self) -> bool {
+    pub fn apart(&self, f: &Figures) -> bool {
         let mut above = [0; 32];
         above[..31].copy_from_slice(&self.tags[1..]);
-        above[15] = 0;
+        above[15] *= u16::from(16 & f.run != 0);
         let beside = self.tags.iter().zip(&above);
-        beside.fold(0, |both, (tag, above)| both | tag.min(above)) == 0
+        let both = beside.fold(0, |both, (tag, above)| both | tag.min(above));
+        (both == 0) | (f.run == 0)
     }
 
     /// Whether the bytes from 724 on are of a buffer, and the banks of waiting writes are open by ACT.

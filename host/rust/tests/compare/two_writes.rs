@@ -1,12 +1,12 @@
 //! Runs of document 02 (a) under set H, in which two writes wait, and streams of writes at full rate.
 //! `plan_runs` makes the runs by the reference and by the library.
 
-use crate::lists::{rule_numbers, T_CC, T_RTR};
 use crate::plan_calls::{Run, Seen, ENOUGH};
 use crate::plan_runs::{Runs, ONES, TWOS};
 use crate::plan_streams::{bare, read, write, DRAIN};
 use crate::random::{set_h, Random};
 use crate::reference::number;
+use crate::rule_settings::{rule_numbers, T_CC, T_RTR};
 
 pub fn runs() -> Runs {
     vec![

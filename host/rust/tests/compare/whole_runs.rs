@@ -4,13 +4,13 @@
 
 use crate::calls::typed;
 use crate::flat_memory::FlatMemory;
-use crate::lists::{rule_numbers, SettingsSeen};
 use crate::model_calls::{any_store, small_numbers};
 use crate::plan_calls::ENOUGH;
 use crate::plan_streams::{bare, read, wait, write, Maker, DRAIN, READ, REFRESH, WRITE};
 use crate::random::{bytes, rounds, set_h, Random};
 use crate::reference::{COLUMNS, ROWS};
 use crate::reference_state::WAITING;
+use crate::rule_settings::{rule_numbers, SettingsSeen};
 use rdram::{Event, Model, Planner, Refusal, Settings};
 use std::collections::VecDeque;
 

@@ -71,6 +71,8 @@ pub struct Checker {
     row_device: u64,
     col_device: u64,
     second_device: u64,
+    /// The banks of a run, less 1.
+    run: usize,
     banks: [Bank; 32],
     now: u64,
     row_2: u64,
@@ -86,12 +88,6 @@ pub struct Checker {
     due: Option<u64>,
 }
 
-/// A bank and its neighbours.
-fn near(bank: usize) -> std::ops::Range<usize> {
-    let (first, last) = (matches!(bank, 0 | 16), matches!(bank, 15 | 31));
-    bank - usize::from(!first)..bank + 1 + usize::from(!last)
-}
-
 impl Checker {
     pub fn new(settings: &[u8]) -> Option<Checker> {
         let f = Figures::of(settings)?;
@@ -105,6 +101,7 @@ impl Checker {
             row_device: f.row_device,
             col_device: f.col_device,
             second_device: f.second_device,
+            run: f.run,
             banks: [CLOSED; 32],
             now: 4,
             row_2: 0,
@@ -116,6 +113,12 @@ impl Checker {
             newer: None,
             due: None,
         })
+    }
+
+    /// A bank and its neighbours.
+    fn near(&self, bank: usize) -> std::ops::Range<usize> {
+        let above = bank + 1;
+        bank - usize::from(bank & self.run != 0)..above + usize::from(above & self.run != 0)
     }
 
     // ---- Form ----
@@ -165,12 +168,12 @@ impl Checker {
     // ---- Rules: each answers the lowest broken rule, or 0 and takes the record ----
 
     fn act(&mut self, at: u64, bank: usize, opens: bool) -> u32 {
-        let t = &self.t;
+        let (t, near) = (&self.t, self.near(bank));
         let closed = |b: &Bank| b.state == State::Closed;
         if at < self.row_2 {
             return 2;
         }
-        if !self.banks[near(bank)].iter().all(closed) {
+        if !self.banks[near.clone()].iter().all(closed) {
             return 4;
         }
         if at < self.banks[bank].act_5 || self.too_soon_for_others(at, bank) {
@@ -182,7 +185,7 @@ impl Checker {
         if self.due.is_some() {
             return 15;
         }
-        for b in &mut self.banks[near(bank)] {
+        for b in &mut self.banks[near] {
             (b.act_5, b.prer_6) = (at + t[RC], at + t[RAS]);
         }
         let b = &mut self.banks[bank];
@@ -203,7 +206,8 @@ impl Checker {
         if rr <= rc || at >= self.act_5 {
             return at < self.act_5;
         }
-        let others = (0..32).filter(|b| !near(bank).contains(b));
+        let near = self.near(bank);
+        let others = (0..32).filter(|b| !near.contains(b));
         let mut instants = others.filter_map(|b| self.banks[b].last_act);
         instants.any(|last| at < last + rr)
     }
@@ -221,7 +225,8 @@ impl Checker {
         if at < self.banks[bank].prer_13 {
             return 13;
         }
-        let lost = |(b, _): (usize, u64)| near(bank).contains(&b);
+        let near = self.near(bank);
+        let lost = |(b, _): (usize, u64)| near.contains(&b);
         if self.older.is_some_and(lost) || self.newer.is_some_and(lost) {
             return 14;
         }
@@ -229,9 +234,10 @@ impl Checker {
             return 15;
         }
         let from = at + self.t[RP];
-        for b in near(bank) {
+        for b in near {
             if b == bank || self.banks[b].state != State::Closed {
-                self.banks[near(b)].iter_mut().for_each(|c| c.act_7 = from);
+                let beside = self.near(b);
+                self.banks[beside].iter_mut().for_each(|c| c.act_7 = from);
             }
             self.banks[b].state = State::Closed;
             self.banks[b].act_7 = from;
@@ -263,7 +269,8 @@ impl Checker {
         if masked {
             return 16;
         }
-        for b in &mut self.banks[near(bank)] {
+        let near = self.near(bank);
+        for b in &mut self.banks[near] {
             b.prer_13 = b.prer_13.max(at + t[RDP]);
         }
         self.wr_11 = at + t[CC] + t[CAC] - t[CWD];
@@ -303,7 +310,8 @@ impl Checker {
             return 16;
         }
         if let Some((bank, _)) = retired {
-            for b in &mut self.banks[near(bank)] {
+            let near = self.near(bank);
+            for b in &mut self.banks[near] {
                 b.prer_13 = b.prer_13.max(at + t[RTP]);
             }
             (self.older, self.newer) = (self.newer, None);

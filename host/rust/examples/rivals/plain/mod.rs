@@ -76,8 +76,8 @@ impl Channel {
     }
 
     /// A bank and its neighbours.
-    pub fn near(&self, bank: usize) -> &[Track] {
-        let (below, above) = beside(bank);
+    pub fn near(&self, f: &Figures, bank: usize) -> &[Track] {
+        let (below, above) = beside(f, bank);
         &self.banks[below..=above]
     }
 
@@ -97,18 +97,18 @@ impl Channel {
     }
 
     pub fn rule_5(&self, f: &Figures, bank: usize) -> u32 {
-        let (below, above) = beside(bank);
-        let near = latest(self.near(bank).iter().map(|t| t.opened), f.rc);
+        let (below, above) = beside(f, bank);
+        let near = latest(self.near(f, bank).iter().map(|t| t.opened), f.rc);
         let others = self.banks[..below].iter().chain(&self.banks[above + 1..]);
         near.max(latest(others.map(|t| t.opened), f.rr))
     }
 
     pub fn rule_6(&self, f: &Figures, bank: usize) -> u32 {
-        latest(self.near(bank).iter().map(|t| t.opened), f.ras)
+        latest(self.near(f, bank).iter().map(|t| t.opened), f.ras)
     }
 
     pub fn rule_7(&self, f: &Figures, bank: usize) -> u32 {
-        latest(self.near(bank).iter().map(|t| t.pre), f.rp)
+        latest(self.near(f, bank).iter().map(|t| t.pre), f.rp)
     }
 
     pub fn rule_8(&self, f: &Figures) -> u32 {
@@ -133,7 +133,7 @@ impl Channel {
     }
 
     pub fn rule_13(&self, f: &Figures, bank: usize) -> u32 {
-        let near = self.near(bank).iter();
+        let near = self.near(f, bank).iter();
         latest(near.clone().map(|t| t.rd), f.rdp).max(latest(near.map(|t| t.retire), f.rtp))
     }
 
@@ -150,8 +150,8 @@ impl Channel {
     }
 
     /// PRER or REFP.
-    pub fn close(&mut self, at: u32, bank: usize) {
-        let (below, above) = beside(bank);
+    pub fn close(&mut self, f: &Figures, at: u32, bank: usize) {
+        let (below, above) = beside(f, bank);
         for x in below..=above {
             let t = &mut self.banks[x];
             if x == bank || t.bank != Bank::Closed {
@@ -206,13 +206,19 @@ impl Channel {
     pub fn valid(&self, f: &Figures) -> bool {
         let closed = |t: &Track| t.bank == Bank::Closed;
         let apart = |pair: &[Track]| pair.iter().any(closed);
+        let runs_of = |n: usize| self.banks.chunks(n).all(|run| run.windows(2).all(apart));
+        let runs_apart = match f.run {
+            15 => runs_of(16),
+            31 => runs_of(32),
+            _ => true,
+        };
         is_last(self.last)
             && is_last(self.last_row)
             && is_last(self.last_col)
             && is_last(self.last_pre)
             && is_last(self.last_rd)
             && self.banks.iter().all(|t| t.valid(f))
-            && self.banks.chunks(16).all(|half| half.windows(2).all(apart))
+            && runs_apart
             && !self.buffer.any(|w| !self.write_valid(f, w))
             && !(self.due && self.buffer.older().is_none())
     }

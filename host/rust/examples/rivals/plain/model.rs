@@ -76,14 +76,14 @@ impl Model {
     fn judge_opening(&self, f: &Figures, at: u32, bank: usize) -> Result<(), u32> {
         let ch = &self.channel;
         rule(2, at >= ch.rule_2())?;
-        rule(4, ch.near(bank).iter().all(|t| t.bank == Bank::Closed))?;
+        rule(4, ch.near(f, bank).iter().all(|t| t.bank == Bank::Closed))?;
         rule(5, at >= ch.rule_5(f, bank))?;
         rule(7, at >= ch.rule_7(f, bank))?;
         rule(15, !self.due())
     }
 
     fn judge_prer(&self, f: &Figures, at: u32, bank: usize) -> Result<(), u32> {
-        let (ch, (below, above)) = (&self.channel, beside(bank));
+        let (ch, (below, above)) = (&self.channel, beside(f, bank));
         let near = |w: Write| (below..=above).contains(&w.bank);
         rule(2, at >= ch.rule_2())?;
         rule(6, at >= ch.rule_6(f, bank))?;
@@ -169,7 +169,7 @@ impl Model {
                     self.refr = (self.refr + 1) % f.rows as u16;
                 }
             }
-            Record::Prer { bank } => self.channel.close(at, bank),
+            Record::Prer { bank } => self.channel.close(f, at, bank),
             Record::Nocop { mask } => return Ok(self.retire(f, at, mask, store)),
             Record::Wr { bank, column, mask } => {
                 let event = self.retire(f, at, mask, store);

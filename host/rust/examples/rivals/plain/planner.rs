@@ -89,7 +89,7 @@ impl Planner {
             .max(ch.rule_6(f, bank))
             .max(ch.rule_8(f))
             .max(ch.rule_13(f, bank));
-        self.channel.close(at, bank);
+        self.channel.close(f, at, bank);
         self.now = at;
         out.row(f, at + BASE, bank, code);
     }
@@ -130,7 +130,7 @@ impl Planner {
     }
 
     fn close_near(&mut self, f: &Figures, out: &mut Out, bank: usize) {
-        let (below, above) = beside(bank);
+        let (below, above) = beside(f, bank);
         self.close(f, out, below..=above);
     }
 
