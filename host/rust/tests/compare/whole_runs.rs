@@ -237,7 +237,8 @@ fn short_runs() {
     let name = "whole runs, short";
     let (mut seen, mut random) = (Seen::default(), Random::new(101));
     let mut settings_seen = SettingsSeen::default();
-    for _ in 0..rounds(12_000) {
+    let all = rounds(12_000);
+    for _ in 0..all {
         let numbers = small_numbers(&mut random);
         settings_seen.add(&numbers);
         let store = any_store(&mut random, &numbers);
@@ -248,7 +249,7 @@ fn short_runs() {
     }
     seen.report(name);
     settings_seen.report(name);
-    assert_eq!(seen.runs, 12_000);
+    assert_eq!(seen.runs, all as u64);
 }
 
 #[test]
@@ -303,7 +304,8 @@ fn large_stores() {
 #[test]
 fn near_the_horizon() {
     let (mut seen, mut random) = (Seen::default(), Random::new(104));
-    for _ in 0..rounds(3_000) {
+    let all = rounds(3_000);
+    for _ in 0..all {
         let numbers = small_numbers(&mut random);
         let store = any_store(&mut random, &numbers);
         let (mut run, maker) = (Run::new(&numbers, store), Maker::new(&mut random, &numbers));
@@ -316,8 +318,8 @@ fn near_the_horizon() {
         run.finish(&mut random, &mut seen);
     }
     let runs = seen.runs;
-    println!("whole runs, near the horizon: {runs} of 3000 end with a drain");
-    assert!(seen.refused[7] > 1_000 && runs > 500 && runs < 3_000);
+    println!("whole runs, near the horizon: {runs} of {all} end with a drain");
+    assert!(seen.refused[7] > 1_000 && runs > 500 && runs < all as u64);
 }
 
 /// REFR starts again at every number of rows, also the largest.
