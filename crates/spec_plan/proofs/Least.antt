@@ -9,12 +9,14 @@ use lib.ListN.{length, length-append, take}
 use lib.Seq.{take-append-add, getD-append-add}
 use native.Mathlib.Omega.{arith}
 use Rattle.num.specs.Bytes.{Bytes}
+use Rattle.settings.specs.declared.Settings.{Settings}
 use Rattle.record.specs.declared.Record.{Record}
 use Rattle.spec_rules.specs.declared.Channel.{Channel}
-use Rattle.spec_rules.specs.Neighbour.{Context, Neighbours}
+use Rattle.spec_rules.specs.Neighbour.{Context, Neighbours, contextOf}
 use Rattle.spec_rules.specs.Packets.{instant, isPacket}
 use Rattle.spec_rules.specs.Broken.{earlier, recordIn, lowestRule}
 use Rattle.spec_rules.specs.Earliest.{placedAt, under}
+use Rattle.spec_rules.proofs.NeighbourLaws.{core-neighbours}
 use Rattle.spec_rules.proofs.TrackLaws.{Tracks}
 use Rattle.spec_rules.proofs.EarliestLaws.{slot-least}
 use Rattle.spec_plan.specs.declared.PlannerState.{PlannerState}
@@ -43,6 +45,17 @@ listed-last cx p (b ∷ calls) c =
     ap (λ (l : List Record). planRecords cx p (b .request) (b .room) ++ l) (listed-last cx (planNext cx p (b .request) (b .room)) calls c)
     ∙ sym (append-assoc (planRecords cx p (b .request) (b .room)) _ _)
 
+-- after any calls each packet of a call breaks no rule, and at each instant from now to before its own it breaks one, under any mask
+abbrev pub PlacedLeast : Context → Type 0
+PlacedLeast cx =
+    (calls : List Call) → OfBytes calls → (c : Call) → Bytes (c .request) →
+    let p : PlannerState = plannerAfter cx freshPlanner calls in
+    let l : List Record = listed cx freshPlanner calls in
+    let made : List Record = planRecords cx p (c .request) (c .room) in
+    (j : ℕ) → j < length made → isPacket (recordIn made j) ≡ true
+    → (lowestRule cx (earlier (l ++ made) (length l + j)) (recordIn made j) ≡ 0)
+    × ((t m : ℕ) → nowAt p made j ≤ t → lowestRule cx (earlier (l ++ made) (length l + j)) (placedAt t (under m (recordIn made j))) ≡ 0 → instant (recordIn made j) ≤ t)
+
 module _ (cx : Context) (ns : Neighbours cx) where
   -- after the list l that planner p made
   module _ (l : List Record) (p : PlannerState) (k : Run cx l p) (request : List ℕ) (w : Bytes request) (room : ℕ) where
@@ -68,12 +81,10 @@ module _ (cx : Context) (ns : Neighbours cx) where
           λ t m late e. rw (here .least packet) (slot-least cx ns ch (es ++ reverse l) tracks r packet (nowAt p made j) t m (rw (earlier-join l made j) at e) late),
         )
 
-  pub placed-least : (calls : List Call) → OfBytes calls → (c : Call) → Bytes (c .request) →
-      let p : PlannerState = plannerAfter cx freshPlanner calls in
-      let l : List Record = listed cx freshPlanner calls in
-      let made : List Record = planRecords cx p (c .request) (c .room) in
-      (j : ℕ) → j < length made → isPacket (recordIn made j) ≡ true
-      → (lowestRule cx (earlier (l ++ made) (length l + j)) (recordIn made j) ≡ 0)
-      × ((t m : ℕ) → nowAt p made j ≤ t → lowestRule cx (earlier (l ++ made) (length l + j)) (placedAt t (under m (recordIn made j))) ≡ 0 → instant (recordIn made j) ≤ t)
+  pub placed-least : PlacedLeast cx
   placed-least calls b c w =
       call-least (listed cx freshPlanner calls) (plannerAfter cx freshPlanner calls) (run-made cx ns calls b) (c .request) w (c .room)
+
+-- under each core form
+pub placed-least-core : (s : Settings) → PlacedLeast (contextOf s)
+placed-least-core s = placed-least (contextOf s) (core-neighbours s)
