@@ -1,7 +1,7 @@
 -- Which banks are near a bank: itself and at most two beside it, by the settings. The first laws alone know the relation. Then what
 -- all 32 banks ask is what these three ask.
 -- Assumes nothing.
-use Prim.Native.Nat.{ℕ, _+_, _-_, _/_, _%_, _≤_, _<_, max}
+use Prim.Native.Nat.{ℕ, _+_, _-_, _*_, _/_, _%_, _^_, _≤_, _<_, max}
 use mathlib.Core.Path.{_≡_, refl, sym, _∙_, ap}
 use mathlib.Core.Bool.{Bool, true, false, not, _&&_, _||_, cond, and-eq-true-iff}
 use mathlib.Core.Logic.{_⊎_, ⊎-elim, inl, inr}
@@ -17,7 +17,7 @@ use Rattle.spec_rules.specs.Neighbour.{runOf, inRuns, contextOf, near}
 use Rattle.spec_rules.specs.History.{only}
 use Rattle.spec_rules.specs.Checks.{since, asks, maxUpTo}
 use Rattle.spec_rules.proofs.Bools.{iff-eq, and-left, and-right, all-ext, leb-max, leb-maxUpTo}
-use Rattle.chan_view.specs.form.Beside.{isFirst, isLast, lowOf, highOf, firstNear, lastNear}
+use Rattle.chan_view.specs.form.Beside.{isFirst, lowOf, highOf, firstNear, lastNear}
 use Rattle.chan_view.specs.form.Bounds.{three}
 
 -- ---- tests
@@ -69,6 +69,14 @@ next-in core x =
     by-run (λ w. (((x + 1) % w ≡ 0 → ⊥) → x / w ≡ (x + 1) / w) × (x / w ≡ (x + 1) / w → (x + 1) % w ≡ 0 → ⊥))
     (λ n. omega arith, λ e z. omega arith) (λ n. omega arith, λ e z. omega arith) (λ n. omega arith, λ e z. omega arith) core
 
+-- a number whose low bits are cleared stays as it is where it is the first of a run
+pub cleared-bits : (core x : ℕ) → x < 2 ^ 64 → eqb (x / runOf core * runOf core % 2 ^ 64) x ≡ isFirst core x
+cleared-bits core x h =
+    by-run (λ w. eqb (x / w * w % 2 ^ 64) x ≡ eqb (x % w) 0) (width 16 (λ q. omega arith) (λ q. omega arith)) (width 32 (λ q. omega arith) (λ q. omega arith)) (width 1 (λ q. omega arith) (λ q. omega arith)) core
+  where
+    width : (w : ℕ) → (x / w * w % 2 ^ 64 ≡ x → x % w ≡ 0) → (x % w ≡ 0 → x / w * w % 2 ^ 64 ≡ x) → eqb (x / w * w % 2 ^ 64) x ≡ eqb (x % w) 0
+    width w f g = iff-eq _ _ (λ e. eq-eqb (x % w) 0 (f (eqb-true (x / w * w % 2 ^ 64) x e))) (λ e. eq-eqb (x / w * w % 2 ^ 64) x (g (eqb-true (x % w) 0 e)))
+
 -- bank 0 is the first of its run
 pub not-first : (core b : ℕ) → isFirst core b ≡ false → 1 ≤ b
 not-first core b =
@@ -76,7 +84,7 @@ not-first core b =
     (λ e. omega (arith, eqb-false (b % 16) 0 e)) (λ e. omega (arith, eqb-false (b % 32) 0 e)) (λ e. omega (arith, eqb-false (b % 1) 0 e)) core
 
 -- a run ends at bank 31, and at each number of which 32 is a part
-pub not-last : (core b : ℕ) → isLast core b ≡ false → b % 32 < 31
+pub not-last : (core b : ℕ) → isFirst core (b + 1) ≡ false → b % 32 < 31
 not-last core b =
     by-run (λ w. eqb ((b + 1) % w) 0 ≡ false → b % 32 < 31)
     (λ e. omega (arith, eqb-false ((b + 1) % 16) 0 e)) (λ e. omega (arith, eqb-false ((b + 1) % 32) 0 e)) (λ e. omega (arith, eqb-false ((b + 1) % 1) 0 e)) core
@@ -95,9 +103,9 @@ module _ (s : Settings) (b : ℕ) where
 
   pub above : Above s b
   unfolding highOf lastNear
-  above = go (isLast (s .core) b) refl
+  above = go (isFirst (s .core) (b + 1)) refl
     where
-      go : (t : Bool) → isLast (s .core) b ≡ t → Above s b
+      go : (t : Bool) → isFirst (s .core) (b + 1) ≡ t → Above s b
       go true e = no-high (rw e) (rw e)
       go false e = one-high (rw e) (rw e)
 
@@ -142,9 +150,9 @@ module _ (s : Settings) (b : ℕ) where
 
   pub near-high : highOf s b < 32 → near (contextOf s) b (highOf s b) ≡ true
   unfolding highOf
-  near-high h = go (isLast (s .core) b) refl h
+  near-high h = go (isFirst (s .core) (b + 1)) refl h
     where
-      go : (t : Bool) → isLast (s .core) b ≡ t → cond t 32 (b + 1) < 32 → near (contextOf s) b (cond t 32 (b + 1)) ≡ true
+      go : (t : Bool) → isFirst (s .core) (b + 1) ≡ t → cond t 32 (b + 1) < 32 → near (contextOf s) b (cond t 32 (b + 1)) ≡ true
       go true e h = absurd (omega arith)
       go false e h = near-run (b + 1) (inl refl) (next-in (s .core) b .0 (eqb-false ((b + 1) % run) 0 e))
 

@@ -1,48 +1,35 @@
 // Which banks share sense amps, by the settings: every other crate asks here. Number 32 stands for no bank.
 ghost use mathlib.Core.Path.{_≡_};
-ghost use Prim.Native.Nat.{_<_, _/_};
+ghost use Prim.Native.Nat.{_<_, _/_, _^_};
 ghost use lib.Dec.{eqb};
 ghost use Rattle.spec_rules.specs.Neighbour.{runOf, contextOf, near};
-ghost use Rattle.chan_view.specs.form.Beside.{isFirst, isLast, lowOf, highOf, firstNear, lastNear};
+ghost use Rattle.chan_view.specs.form.Beside.{isFirst, lowOf, highOf, firstNear, lastNear};
 use settings::Settings;
 
-// Whether a bank is the first of its run.
-fn is_first(core: u32, b: u32) -> bool
-    ensures { λ r. ⌜ r ≡ isFirst core b ⌝ }
+// A run has two to the power of this many banks: a shift takes less than a division by a number that is not known beforehand.
+fn run_bits(core: u32) -> u32
+    ensures { λ r. ⌜ (r < 32) × (2 ^ r ≡ runOf core) ⌝ }
 {
     if core == 0 {
-        return b % 16 == 0;
+        return 4;
     }
-    if core == 1 {
-        return b % 32 == 0;
-    }
-    true
+    if core == 1 { 5 } else { 0 }
 }
 
-// Whether a bank is the last of its run.
-fn is_last(core: u32, b: u32) -> bool
-    ensures { λ r. ⌜ r ≡ isLast core b ⌝ }
+// Whether a bank is the first of its run.
+fn is_first(core: u32, b: u64) -> bool
+    ensures { λ r. ⌜ r ≡ isFirst core b ⌝ }
 {
-    if core == 0 {
-        return b % 16 == 15;
-    }
-    if core == 1 {
-        return b % 32 == 31;
-    }
-    true
+    let bits = run_bits(core);
+    ((b >> bits) << bits) == b
 }
 
 // Whether two banks are of one run.
 fn in_run(core: u32, b: u32, x: u32) -> bool
     ensures { λ r. ⌜ r ≡ eqb (b / runOf core) (x / runOf core) ⌝ }
 {
-    if core == 0 {
-        return b / 16 == x / 16;
-    }
-    if core == 1 {
-        return b / 32 == x / 32;
-    }
-    b == x
+    let bits = run_bits(core);
+    (b >> bits) == (x >> bits)
 }
 
 // Whether bank x is bank b or a neighbour of it.
@@ -58,14 +45,22 @@ pub fn is_near(s: Settings, b: u32, x: u32) -> bool
 pub fn low_of(s: Settings, b: u32) -> u32
     ensures { λ r. ⌜ r ≡ lowOf s b ⌝ }
 {
-    if is_first(s.core, b) { 32 } else { b - 1 }
+    if is_first(s.core, b as u64) {
+        32
+    } else {
+        b - 1
+    }
 }
 
 // The neighbour above a bank.
 pub fn high_of(s: Settings, b: u32) -> u32
     ensures { λ r. ⌜ r ≡ highOf s b ⌝ }
 {
-    if is_last(s.core, b) { 32 } else { b + 1 }
+    if is_first(s.core, (b as u64) + 1) {
+        32
+    } else {
+        b + 1
+    }
 }
 
 // The neighbour below a bank, or the bank where there is none.
@@ -73,7 +68,7 @@ pub fn first_near(s: Settings, x: usize) -> usize
     requires { ⌜ x < 32 ⌝ }
     ensures { λ r. ⌜ (r ≡ firstNear s x) × (r < 32) ⌝ }
 {
-    if is_first(s.core, x as u32) { x } else { x - 1 }
+    if is_first(s.core, x as u64) { x } else { x - 1 }
 }
 
 // The neighbour above a bank, or the bank where there is none.
@@ -81,5 +76,9 @@ pub fn last_near(s: Settings, x: usize) -> usize
     requires { ⌜ x < 32 ⌝ }
     ensures { λ r. ⌜ (r ≡ lastNear s x) × (r < 32) ⌝ }
 {
-    if is_last(s.core, x as u32) { x } else { x + 1 }
+    if is_first(s.core, (x as u64) + 1) {
+        x
+    } else {
+        x + 1
+    }
 }

@@ -25,7 +25,7 @@ use Rattle.spec_rules.specs.Earliest.{earliest, leastFrom}
 use Rattle.spec_rules.proofs.TrackLaws.{row-keeps}
 use Rattle.spec_rules.proofs.ByCommand.{act-bounds, prer-bounds, refa-bounds}
 use Rattle.spec_state.specs.ChannelBytes.{instantOf, trackIn, lastsIn, channelIn}
-use Rattle.chan_view.specs.form.Beside.{isLast, lowOf, highOf, firstNear, lastNear}
+use Rattle.chan_view.specs.form.Beside.{isFirst, lowOf, highOf, firstNear, lastNear}
 use Rattle.chan_view.specs.form.Bounds.{three}
 use Rattle.chan_view.proofs.NearLaws.{Below, no-low, one-low, below, not-last}
 use Rattle.chan_view.proofs.BoundLaws.{near-bound, three-latest}
@@ -90,9 +90,9 @@ first-bank s x l = go (below s x)
 
 pub last-bank : (s : Settings) (x : ℕ) → x < 32 → lastNear s x < 32
 unfolding lastNear
-last-bank s x l = go (isLast (s .core) x) refl
+last-bank s x l = go (isFirst (s .core) (x + 1)) refl
   where
-    go : (q : Bool) → isLast (s .core) x ≡ q → cond q x (x + 1) < 32
+    go : (q : Bool) → isFirst (s .core) (x + 1) ≡ q → cond q x (x + 1) < 32
     go true e = l
     go false e = omega (arith, not-last (s .core) x e)
 

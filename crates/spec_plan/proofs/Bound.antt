@@ -131,7 +131,7 @@ open-most s state k = go (ltb (s .core) 2) refl
         omega (
           arith,
           count-pairs (λ x. not (isClosed (state x))) 16
-          (λ j m. one-of (isClosed (state (2 * j))) (isClosed (state (2 * j + 1))) (k .one-closed (2 * j) (2 * j + 1) (omega arith) (omega arith) (twins (s .core) j e))),
+              (λ j m. one-of (isClosed (state (2 * j))) (isClosed (state (2 * j + 1))) (k .one-closed (2 * j) (2 * j + 1) (omega arith) (omega arith) (twins (s .core) j e))),
         )
     go false e = omega (arith, count-all (λ x. not (isClosed (state x))) 32)
 

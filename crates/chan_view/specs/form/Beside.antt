@@ -14,25 +14,22 @@ use Rattle.chan_view.specs.declared.Tracks.{Tracks}
 
 -- ---- neighbours, by a bank's place in its run
 
--- whether a bank is the first or the last of its run, by the core form
+-- whether a bank is the first of its run, by the core form; the last is before a first
 abbrev pub isFirst : ℕ → ℕ → Bool
 isFirst core b = eqb (b % runOf core) 0
-
-abbrev pub isLast : ℕ → ℕ → Bool
-isLast core b = eqb ((b + 1) % runOf core) 0
 
 unfoldable pub lowOf : Settings → ℕ → ℕ
 lowOf s b = cond (isFirst (s .core) b) 32 (b - 1)
 
 unfoldable pub highOf : Settings → ℕ → ℕ
-highOf s b = cond (isLast (s .core) b) 32 (b + 1)
+highOf s b = cond (isFirst (s .core) (b + 1)) 32 (b + 1)
 
 -- the first and the last of a bank and its neighbours
 unfoldable pub firstNear : Settings → ℕ → ℕ
 firstNear s x = cond (isFirst (s .core) x) x (x - 1)
 
 unfoldable pub lastNear : Settings → ℕ → ℕ
-lastNear s x = cond (isLast (s .core) x) x (x + 1)
+lastNear s x = cond (isFirst (s .core) (x + 1)) x (x + 1)
 
 -- ---- places
 

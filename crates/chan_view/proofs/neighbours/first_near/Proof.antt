@@ -16,4 +16,4 @@ unfolding firstNear
 returns-2 c = rw (sym (c .before .is-first .ensures) ∙ c .if1 .left) (search needs)
 
 pub first-near-spec : {M : Type 1} → statement M
-first-near-spec = tie.close (tie.spec (λ c. search needs) (λ c κs. search needs) (λ c. omega (arith, not-first _ _ (sym (c .before .is-first .ensures) ∙ c .if1 .left))) returns returns-2)
+first-near-spec = tie.close (tie.spec (λ c κs. search needs) (λ c. omega (arith, not-first _ _ (sym (c .before .is-first .ensures) ∙ c .if1 .left))) returns returns-2)
