@@ -1,6 +1,6 @@
 // Which banks share sense amps, by the settings: every other crate asks here. Number 32 stands for no bank.
 ghost use mathlib.Core.Path.{_≡_};
-ghost use Prim.Native.Nat.{_<_, _/_, _^_};
+ghost use Prim.Native.Nat.{_+_, _<_, _/_, _^_};
 ghost use lib.Dec.{eqb};
 ghost use Rattle.spec_rules.specs.Neighbour.{runOf, contextOf, near};
 ghost use Rattle.chan_view.specs.form.Beside.{isFirst, lowOf, highOf, firstNear, lastNear};
@@ -16,12 +16,38 @@ fn run_bits(core: u32) -> u32
     if core == 1 { 5 } else { 0 }
 }
 
-// Whether a bank is the first of its run.
-fn is_first(core: u32, b: u64) -> bool
+// Whether a bank is the first of its run, by a shift: for one bank.
+fn starts_run(core: u32, b: u64) -> bool
     ensures { λ r. ⌜ r ≡ isFirst core b ⌝ }
 {
     let bits = run_bits(core);
     ((b >> bits) << bits) == b
+}
+
+// The same by cases: a loop over all banks is then made once for each form, with numbers that are known beforehand.
+fn is_first(core: u32, b: u32) -> bool
+    ensures { λ r. ⌜ r ≡ isFirst core b ⌝ }
+{
+    if core == 0 {
+        return b % 16 == 0;
+    }
+    if core == 1 {
+        return b % 32 == 0;
+    }
+    true
+}
+
+// Whether the bank after a bank is the first of its run.
+fn is_last(core: u32, b: u32) -> bool
+    ensures { λ r. ⌜ r ≡ isFirst core (b + 1) ⌝ }
+{
+    if core == 0 {
+        return b % 16 == 15;
+    }
+    if core == 1 {
+        return b % 32 == 31;
+    }
+    true
 }
 
 // Whether two banks are of one run.
@@ -45,7 +71,7 @@ pub fn is_near(s: Settings, b: u32, x: u32) -> bool
 pub fn low_of(s: Settings, b: u32) -> u32
     ensures { λ r. ⌜ r ≡ lowOf s b ⌝ }
 {
-    if is_first(s.core, b as u64) {
+    if is_first(s.core, b) {
         32
     } else {
         b - 1
@@ -56,7 +82,7 @@ pub fn low_of(s: Settings, b: u32) -> u32
 pub fn high_of(s: Settings, b: u32) -> u32
     ensures { λ r. ⌜ r ≡ highOf s b ⌝ }
 {
-    if is_first(s.core, (b as u64) + 1) {
+    if is_last(s.core, b) {
         32
     } else {
         b + 1
@@ -68,7 +94,7 @@ pub fn first_near(s: Settings, x: usize) -> usize
     requires { ⌜ x < 32 ⌝ }
     ensures { λ r. ⌜ (r ≡ firstNear s x) × (r < 32) ⌝ }
 {
-    if is_first(s.core, x as u64) { x } else { x - 1 }
+    if starts_run(s.core, x as u64) { x } else { x - 1 }
 }
 
 // The neighbour above a bank, or the bank where there is none.
@@ -76,7 +102,7 @@ pub fn last_near(s: Settings, x: usize) -> usize
     requires { ⌜ x < 32 ⌝ }
     ensures { λ r. ⌜ (r ≡ lastNear s x) × (r < 32) ⌝ }
 {
-    if is_first(s.core, (x as u64) + 1) {
+    if starts_run(s.core, (x as u64) + 1) {
         x
     } else {
         x + 1

@@ -9,11 +9,11 @@ use Rattle.chan_view.proofs.neighbours.first_near.Tie as tie
 
 returns : tie.Need-returns
 unfolding firstNear
-returns c = rw (sym (c .before .is-first .ensures) ∙ c .if1 .taken) (search needs)
+returns c = rw (sym (c .before .starts-run .ensures) ∙ c .if1 .taken) (search needs)
 
 returns-2 : tie.Need-returns-2
 unfolding firstNear
-returns-2 c = rw (sym (c .before .is-first .ensures) ∙ c .if1 .left) (search needs)
+returns-2 c = rw (sym (c .before .starts-run .ensures) ∙ c .if1 .left) (search needs)
 
 pub first-near-spec : {M : Type 1} → statement M
-first-near-spec = tie.close (tie.spec (λ c κs. search needs) (λ c. omega (arith, not-first _ _ (sym (c .before .is-first .ensures) ∙ c .if1 .left))) returns returns-2)
+first-near-spec = tie.close (tie.spec (λ c κs. search needs) (λ c. omega (arith, not-first _ _ (sym (c .before .starts-run .ensures) ∙ c .if1 .left))) returns returns-2)

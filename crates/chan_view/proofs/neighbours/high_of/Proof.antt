@@ -9,11 +9,11 @@ use Rattle.chan_view.proofs.neighbours.high_of.Tie as tie
 
 returns : tie.Need-returns
 unfolding highOf
-returns c = rw (sym (c .before .is-first .ensures) ∙ c .if1 .taken)
+returns c = rw (sym (c .before .is-last .ensures) ∙ c .if1 .taken)
 
 returns-2 : tie.Need-returns-2
 unfolding highOf
-returns-2 c = rw (sym (c .before .is-first .ensures) ∙ c .if1 .left)
+returns-2 c = rw (sym (c .before .is-last .ensures) ∙ c .if1 .left)
 
 pub high-of-spec : {M : Type 1} → statement M
-high-of-spec = tie.close (tie.spec (λ c. search needs) (λ c κs. search needs) (λ c. omega (arith, not-last _ _ (sym (c .before .is-first .ensures) ∙ c .if1 .left))) returns returns-2)
+high-of-spec = tie.close (tie.spec (λ c κs. search needs) (λ c. omega (arith, not-last _ _ (sym (c .before .is-last .ensures) ∙ c .if1 .left))) returns returns-2)

@@ -1,11 +1,25 @@
--- `chan_view::neighbours::is_first` meets its contract: the bits of a place in the run are cleared.
-use Rattle.chan_view.proofs.NearLaws.{cleared-bits}
-use borrow.Author.Needs.{needs}
+-- `chan_view::neighbours::is_first` meets its contract: by the core form.
+use Prim.Native.Nat.{_%_}
+use mathlib.Core.Path.{_≡_}
+use native.Mathlib.Omega.{arith}
+use borrow.Author.Tests.{eq-eqb, ne-eqb}
+use Rattle.spec_rules.specs.Neighbour.{runOf}
 use Rattle.chan_view.proofs.neighbours.is_first.Statement.{statement}
 use Rattle.chan_view.proofs.neighbours.is_first.Tie as tie
 
 returns : tie.Need-returns
-returns c = rw (c .run-bits .ensures .1) (cleared-bits (c .before .args .core) (c .before .args .b) (search needs))
+unfolding runOf
+returns c = rw (eq-eqb _ 0 (c .if1 .taken))
+
+returns-2 : tie.Need-returns-2
+unfolding runOf
+returns-2 c = rw (ne-eqb _ 0 (c .before .if1 .left), eq-eqb _ 1 (c .if2 .taken))
+
+returns-3 : tie.Need-returns-3
+unfolding runOf
+returns-3 c =
+    let single : c .before .before .args .b % 1 ≡ 0 = omega arith in
+    rw (ne-eqb _ 0 (c .before .if1 .left), ne-eqb _ 1 (c .if2 .left), single)
 
 pub is-first-spec : {M : Type 1} → statement M
-is-first-spec = tie.close (tie.spec (λ c κs. search needs) (λ c. search needs) (λ c. search needs) (λ c. search needs) (λ c. search needs) returns)
+is-first-spec = tie.close (tie.spec returns returns-2 returns-3)
