@@ -75,7 +75,10 @@ fn request_of(s: Settings, b: &[u8]) -> RequestRead
     if kind == 3 {
         return RequestRead::Accepted(Request::Wait(num::u32_at(b, 8)));
     }
-    RequestRead::Accepted(Request::Drain)
+    if kind == 4 {
+        return RequestRead::Accepted(Request::Flush);
+    }
+    RequestRead::Accepted(Request::Close)
 }
 
 // The request that bytes say under the settings, or its refusal.
@@ -85,7 +88,7 @@ pub fn read_request(s: Settings, b: &[u8]) -> RequestRead
     if b.len() != 24 {
         return RequestRead::Refused(Refusal::Length);
     }
-    if 4 < b[0] {
+    if 5 < b[0] {
         return RequestRead::Refused(Refusal::Kind);
     }
     if spare_right(b) {

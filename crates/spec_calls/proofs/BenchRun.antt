@@ -30,7 +30,7 @@ use Rattle.spec_plan.specs.declared.Outcome.the-variants.{Refused, Made}
 use Rattle.spec_plan.specs.Planner.{freshPlanner, plannerValid}
 use Rattle.spec_plan.specs.PlannerBytes.{plannerBytes}
 use Rattle.spec_plan.specs.Plan.{Draft, planned}
-use Rattle.spec_plan.specs.Call.{listBytes, timely, outcomeOf, outcomeBy, planOutcome, isMade, accepted, draftBy, planNext, planRecords, planRoom}
+use Rattle.spec_plan.specs.Call.{listBytes, timely, outcomeOf, unretired, outcomeBy, planOutcome, isMade, accepted, draftBy, planNext, planRecords, planRoom}
 use Rattle.spec_plan.specs.Runs.{Call, OfBytes, plannerAfter, listed}
 use Rattle.spec_plan.proofs.Valid.{fresh-valid, next-valid}
 use Rattle.spec_plan.proofs.Refused.{refused-state, refused-room}
@@ -88,7 +88,13 @@ by-records : (cx : Context) (p : PlannerState) (q : RequestRead) (room : ℕ)
     → planAnswer (outcomeBy cx p q room) .records ≡ length (cond (isMade (outcomeBy cx p q room)) (draftBy cx p q .records) [])
 unfolding outcomeBy draftBy planAnswer isMade
 by-records cx p (request.Refused why) room = refl
-by-records cx p (request.Accepted q) room = of-records cx (planned cx q p) room
+by-records cx p (request.Accepted q) room = go (unretired q p)
+  where
+    go : (u : Bool)
+        → planAnswer (cond u (Refused refusal.Unretired) (outcomeOf cx (planned cx q p) room)) .records
+        ≡ length (cond (isMade (cond u (Refused refusal.Unretired) (outcomeOf cx (planned cx q p) room))) (planned cx q p .records) [])
+    go true = refl
+    go false = of-records cx (planned cx q p) room
 
 answer-records : (cx : Context) (p : PlannerState) (bytes : List ℕ) (room : ℕ) → planAnswer (planOutcome cx p bytes room) .records ≡ length (planRecords cx p bytes room)
 unfolding planOutcome planRecords

@@ -1,6 +1,6 @@
 -- Demand 3 of the C calls (document 01, "Flat memory and whole runs"): every list of rdram_plan calls from a fresh planner makes a
 -- list that rdram_check passes and that rdram_model_step takes from a fresh model, with flat memory's answers in order, and after
--- an accepted drain with flat memory as store; the numbers of bytes written sum to the ones in the masks.
+-- an accepted flush with flat memory as store; the numbers of bytes written sum to the ones in the masks.
 -- Assumes nothing.
 use Prim.Native.Nat.{ℕ, _+_, _-_, _/_, _<_, _≤_}
 use mathlib.Core.Path.{_≡_, refl, sym, ap, _∙_}
@@ -24,11 +24,11 @@ use Rattle.spec_model.specs.Store.{storeLength}
 use Rattle.spec_model.specs.Model.{freshModel}
 use Rattle.spec_model.proofs.NextValid.{fresh-model-valid}
 use Rattle.spec_runs.specs.Drive.{Drive, started, called, driven, wideCalls}
-use Rattle.spec_runs.specs.WholeRun.{EndsInDrain, WholeRun}
+use Rattle.spec_runs.specs.WholeRun.{EndsInFlush, WholeRun}
 use Rattle.spec_runs.proofs.DriveLaws.{Ready, driven-within, driven-none-left}
 use Rattle.spec_runs.proofs.Demand.{run-fits, run-data, run-ready, whole-run-core}
 use Rattle.spec_check.specs.Check.{recordsUpTo}
-use Rattle.spec_calls.specs.Runs.{PlanCall, Device, freshBench, benchAfter, freshDevice, deviceNext, deviceAfter, wideBuffers, BytesIn, DrainsLast, CallsRun}
+use Rattle.spec_calls.specs.Runs.{PlanCall, Device, freshBench, benchAfter, freshDevice, deviceNext, deviceAfter, wideBuffers, BytesIn, FlushesLast, CallsRun}
 use Rattle.spec_calls.proofs.ListOf.{length-list, list-count, records-up-to, list-checked}
 use Rattle.spec_calls.proofs.BenchRun.{callOf, callsOf, calls-bytes, calls-append, bench-list, bench-fed, answers-accepted}
 use Rattle.spec_calls.proofs.DeviceRun.{lengths, like, Stands, device-is}
@@ -123,15 +123,15 @@ module _ (settings : List ℕ) (s : Settings) (a : settingsRead settings ≡ Acc
       let next : length l - length (end rooms .pending) ≡ length l = sym (ap (λ (x : Device). x .next) (device-end rooms)) ∙ e ∙ count in
       driven-none-left (contextOf s) (lengths rooms) freshModel store l ready (omega (arith, within rooms, next))
 
-  drains : DrainsLast settings s calls → EndsInDrain (contextOf s) (callsOf calls)
+  flushes : FlushesLast settings s calls → EndsInFlush (contextOf s) (callsOf calls)
   unfolding callsOf contextOf
-  drains d =
+  flushes d =
       let first-bytes : BytesIn (d .first) = bytes-first (d .first) (d .last ∷ []) (rw (d .ends) at b) in
       record {
         first = callsOf (d .first);
         last = callOf (d .last);
         ends = ap callsOf (d .ends) ∙ calls-append (d .first) (d .last ∷ []);
-        drain = d .drain;
+        flush = d .flush;
         taken = answers-accepted settings s a (d .first) first-bytes (d .last .request) (d .last .room) (d .taken);
       }
 
@@ -152,9 +152,9 @@ module _ (settings : List ℕ) (s : Settings) (a : settingsRead settings ≡ Acc
           takes-all = λ wide. ap (λ (x : Device). x .next) (device-end rooms) ∙ all-taken wide ∙ sym count;
           so-far = ap (λ (x : Device). x .answers) (device-end rooms) ∙ rw (fed-is, done-is) (whole .so-far);
           reads = λ e. ap (λ (x : Device). x .answers) (device-end rooms) ∙ rw fed-is (whole .reads (none-waits rooms e));
-          drained = λ e d. ap (λ (x : Device). x .store) (device-end rooms) ∙ rw fed-is (whole .drained (none-waits rooms e) (drains d));
+          flushed = λ e d. ap (λ (x : Device). x .store) (device-end rooms) ∙ rw fed-is (whole .flushed (none-waits rooms e) (flushes d));
           counted = ap (λ (x : Device). x .written) (device-end rooms) ∙ rw done-is (whole .counted);
-          drained-count = λ e d. ap (λ (x : Device). x .written) (device-end rooms) ∙ rw fed-is (whole .drained-count (none-waits rooms e) (drains d));
+          flushed-count = λ e d. ap (λ (x : Device). x .written) (device-end rooms) ∙ rw fed-is (whole .flushed-count (none-waits rooms e) (flushes d));
         }
       where
         all-taken : length list / 32 ≤ wideBuffers rooms → length l - length (end rooms .pending) ≡ length l

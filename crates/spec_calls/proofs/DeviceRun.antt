@@ -22,7 +22,6 @@ use Rattle.packet.specs.Col.{colFits}
 use Rattle.record.specs.declared.Record.{Record}
 use Rattle.record.specs.declared.Record.the-variants.{RowAt, ColAt, DataOf}
 use Rattle.record.specs.declared.Refusal.{Refusal}
-use Rattle.record.specs.declared.Refusal.the-variants as refusal
 use Rattle.record.specs.declared.RecordRead.the-variants.{Known}
 use Rattle.record.specs.Refusal.{answerOf}
 use Rattle.record.specs.Record.{recordBytes, recordFits, recordRead}
@@ -50,7 +49,7 @@ use Rattle.spec_model.proofs.StoreLaws.{dualoct-in}
 use Rattle.spec_model.proofs.ModelRoundTrip.{DataFits, HeldFits, model-decode-encode, model-right}
 use Rattle.spec_model.proofs.NextValid.{next-model-valid}
 use Rattle.spec_runs.specs.Count.{writtenBy}
-use Rattle.spec_runs.specs.Drive.{Drive, returned, leftBy, isFull, fails, calledOn, driven}
+use Rattle.spec_runs.specs.Drive.{Drive, returned, leftBy, fails, calledOn, driven}
 use Rattle.spec_runs.proofs.DriveLaws.{Every, length-record, roomy, kept, gone, Ready, ready-next, call-is, driven-none, next-none, next-one}
 use Rattle.spec_runs.proofs.Sim.{DataIn}
 use Rattle.spec_calls.specs.Settings.{underSettings}
@@ -78,26 +77,10 @@ kept-next Read r l k h = omega arith
 kept-next (Retired n) r l k h = omega arith
 kept-next Neither r l k h = omega arith
 
-full-number : (r : Refusal) → eqb (answerOf r .number) 8 ≡ isFull r
-unfolding answerOf isFull
-full-number refusal.Settings = refl
-full-number refusal.Kind = refl
-full-number refusal.Spare = refl
-full-number refusal.Bank = refl
-full-number refusal.Row = refl
-full-number refusal.Column = refl
-full-number refusal.Horizon = refl
-full-number refusal.Full = refl
-full-number refusal.Store = refl
-full-number (refusal.Word place) = refl
-full-number (refusal.Rule rule place) = refl
-full-number (refusal.Block place) = refl
-full-number refusal.Length = refl
-
 -- a refusal other than 8
 kept-failed : (a : Stepped) → not (eqb (steppedAnswer a .number) 0 || eqb (steppedAnswer a .number) 8) ≡ fails a
 unfolding steppedAnswer fails
-kept-failed (Refused why) = rw (refusal-number why, full-number why)
+kept-failed (Refused why) = rw (refusal-number why)
 kept-failed Read = refl
 kept-failed (Retired n) = refl
 kept-failed Neither = refl

@@ -9,7 +9,7 @@ use lib.ListN.{length, take}
 use Rattle.num.specs.Bytes.{Bytes, part}
 use Rattle.settings.specs.declared.Settings.{Settings}
 use Rattle.record.specs.declared.Record.{Record}
-use Rattle.record.specs.declared.Request.the-variants.{Drain}
+use Rattle.record.specs.declared.Request.the-variants.{Flush}
 use Rattle.record.specs.declared.RequestRead.the-variants.{Accepted}
 use Rattle.record.specs.Request.{requestRead}
 use Rattle.spec_rules.specs.Neighbour.{contextOf}
@@ -107,12 +107,12 @@ unfoldable pub BytesIn : List PlanCall → Type 0
 BytesIn [] = Unit {0}
 BytesIn (c ∷ l) = Bytes (c .request) × BytesIn l
 
--- "an accepted drain" as the last call
-pub record DrainsLast (settings : List ℕ) (s : Settings) (calls : List PlanCall) : Type 0 where
+-- "any accepted flush" as the last call
+pub record FlushesLast (settings : List ℕ) (s : Settings) (calls : List PlanCall) : Type 0 where
   pub first : List PlanCall
   pub last : PlanCall
   pub ends : calls ≡ first ++ (last ∷ [])
-  pub drain : requestRead s (last .request) ≡ Accepted Drain
+  pub flush : requestRead s (last .request) ≡ Accepted Flush
   pub taken : planCall settings (benchAfter settings first freshBench .planner) (last .request) (last .room) .answer .number ≡ 0
 
 -- demand 3 of the C calls: of settings bytes that say s, plan calls, the bytes of a store, and the answer buffers of the model calls
@@ -149,9 +149,9 @@ module _ (settings : List ℕ) (s : Settings) (calls : List PlanCall) (store : L
     pub so-far : deviceAtEnd .answers ≡ take (readsIn takenRecords) (flatAnswers (contextOf s) callsFed store)
     -- and all of them where every record is taken
     pub reads : deviceAtEnd .next ≡ records → deviceAtEnd .answers ≡ flatAnswers (contextOf s) callsFed store
-    -- and after an accepted drain the store is flat memory
-    pub drained : deviceAtEnd .next ≡ records → DrainsLast settings s calls → deviceAtEnd .store ≡ flatAfter (contextOf s) callsFed store
+    -- "The store must equal flat memory after any accepted flush."
+    pub flushed : deviceAtEnd .next ≡ records → FlushesLast settings s calls → deviceAtEnd .store ≡ flatAfter (contextOf s) callsFed store
     -- "the number of bytes a retire wrote [..]; their sum over a run is the ones in all retired masks", of the records taken
     pub counted : deviceAtEnd .written ≡ onesOf (retiredMasks (contextOf s) takenRecords)
-    -- and after an accepted drain the ones in the masks of all accepted writes
-    pub drained-count : deviceAtEnd .next ≡ records → DrainsLast settings s calls → deviceAtEnd .written ≡ onesOf (flatMasks (contextOf s) callsFed)
+    -- and after an accepted flush the ones in the masks of all accepted writes
+    pub flushed-count : deviceAtEnd .next ≡ records → FlushesLast settings s calls → deviceAtEnd .written ≡ onesOf (flatMasks (contextOf s) callsFed)

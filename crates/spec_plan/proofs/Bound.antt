@@ -1,9 +1,9 @@
--- No request makes more records than its core form allows (`spec_plan/specs/Most.antt`), and for each form a drain that makes so many.
+-- No request makes more records than its core form allows (`spec_plan/specs/Most.antt`), and for each form a close that makes so many.
 -- Assumes nothing.
 use Prim.Native.Nat.{ℕ, zero, suc, _+_, _*_, _-_, _/_, _≤_, _<_}
 use mathlib.Core.Path.{_≡_, refl, sym, _∙_}
 use mathlib.Core.Bool.{Bool, true, false, not, _&&_, _||_, cond}
-use mathlib.Core.List.{List, [], _∷_, map}
+use mathlib.Core.List.{List, [], _∷_}
 use mathlib.Core.Option.{Option, none, some}
 use lib.Dec.{eqb, ltb}
 use lib.ListN.{length, length-append}
@@ -20,7 +20,7 @@ use Rattle.record.specs.declared.Dualoct.{Dualoct}
 use Rattle.record.specs.declared.Record.{Record}
 use Rattle.record.specs.declared.Place.{Place}
 use Rattle.record.specs.declared.Request.{Request}
-use Rattle.record.specs.declared.Request.the-variants.{Read, Write as WriteTo, Refresh as RefreshBank, Wait, Drain}
+use Rattle.record.specs.declared.Request.the-variants.{Read, Write as WriteTo, Refresh as RefreshBank, Wait, Flush, Close}
 use Rattle.record.specs.Request.{usesByte, spareRight, placed, requestOf, requestRead, requestFields, requestBytes}
 use Rattle.spec_rules.specs.declared.Bank.{Bank}
 use Rattle.spec_rules.specs.declared.Write.{Write}
@@ -37,10 +37,10 @@ use Rattle.spec_rules.specs.Earliest.{placedAt, under, earliest, leastFrom}
 use Rattle.spec_rules.proofs.Bools.{not-both, and-left}
 use Rattle.spec_plan.specs.declared.PlannerState.{PlannerState}
 use Rattle.spec_plan.specs.Planner.{freshPlanner, plannerValid}
-use Rattle.spec_plan.specs.Call.{inTime, timely, outcomeOf, outcomeBy, planOutcome, isMade, draftBy, planNext, planRecords}
+use Rattle.spec_plan.specs.Call.{inTime, timely, outcomeOf, unretired, outcomeBy, planOutcome, isMade, draftBy, planNext, planRecords}
 use Rattle.spec_plan.specs.Most.{requestMost, AtMost}
 use Rattle.spec_plan.specs.Runs.{Call, plannerAfter}
-use Rattle.spec_plan.specs.Plan.{Draft, rowPacket, colPacket, when, waiting, stateIn, openOn, hits, anyWaits, slot, sent, flushed, flushedWhile, closed, loses, closedUpTo, cleared, delays, reached, plannedRead, loaded, written, plannedWrite, turned, plannedRefresh, plannedWait, plannedDrain, stepsOf, planned}
+use Rattle.spec_plan.specs.Plan.{Draft, rowPacket, colPacket, when, waiting, stateIn, openOn, hits, anyWaits, slot, sent, flushed, flushedWhile, closed, loses, closedUpTo, cleared, delays, reached, plannedRead, loaded, written, plannedWrite, turned, plannedRefresh, plannedWait, plannedFlush, plannedClose, stepsOf, planned}
 use Rattle.spec_plan.proofs.SentLaws.{when-either, Sized, sent-records, flushed-waiting, row-waiting, read-waiting, while-keeps, while-size, while-state, saved, up-to-shut}
 use Rattle.spec_plan.proofs.Invariant.{Inv, Banked, valid-inv}
 
@@ -117,7 +117,7 @@ twins core j l = go (eqb core 0) (eqb core 1) refl refl
     go false false e f = absurd (omega (arith, ltb-true core 2 l, eqb-false core 0 e, eqb-false core 1 f))
 
 -- of two neighbours one is closed: at most 16 of the 32 banks are open, or all where none are neighbours
-open-most : (s : Settings) (state : ℕ → Bank) → Banked (contextOf s) state → count (λ x. not (isClosed (state x))) bankCount + 2 ≤ requestMost (s .core)
+open-most : (s : Settings) (state : ℕ → Bank) → Banked (contextOf s) state → count (λ x. not (isClosed (state x))) bankCount ≤ requestMost (s .core)
 unfolding bankCount contextOf requestMost
 open-most s state k = go (ltb (s .core) 2) refl
   where
@@ -126,7 +126,7 @@ open-most s state k = go (ltb (s .core) 2) refl
     one-of false true h = refl
     one-of false false h = sym h
 
-    go : (q : Bool) → ltb (s .core) 2 ≡ q → count (λ x. not (isClosed (state x))) 32 + 2 ≤ cond q 18 34
+    go : (q : Bool) → ltb (s .core) 2 ≡ q → count (λ x. not (isClosed (state x))) 32 ≤ cond q 16 32
     go true e =
         omega (
           arith,
@@ -153,6 +153,14 @@ records-cost d = omega arith
 start-cost : (p : PlannerState) → cost (record { planner = p; records = [] }) ≤ 2
 unfolding cost
 start-cost p = omega (arith, at-most-two (p .channel .buffer))
+
+none-cost : (p : PlannerState) → anyWaits (waitingOf (p .channel .buffer)) ≡ false → cost (record { planner = p; records = [] }) ≤ 0
+unfolding cost
+none-cost p e = go (waitingOf (p .channel .buffer)) e
+  where
+    go : (ws : List Write) → anyWaits ws ≡ false → 0 + length ws ≤ 0
+    go [] e = omega arith
+    go (w ∷ ws) e = not-both true refl e
 
 module _ (cx : Context) where
   sent-length : (r : Record) (d : Draft) → length (sent cx r d .records) ≡ length (d .records) + 1
@@ -235,37 +243,27 @@ module _ (s : Settings) where
   unfolding written loaded sent
   written-length at mask bytes d = simp length-append (omega arith)
 
-  drained-cost : (d : Draft) → Sized d → Banked (contextOf s) (stateIn d) → cost (plannedDrain (contextOf s) d) + 2 ≤ cost d + requestMost (s .core)
-  unfolding plannedDrain
-  drained-cost d k b =
-      let z : Draft = flushedWhile (contextOf s) anyWaits d in
-      let n : Sized z = while-size (contextOf s) anyWaits refl d k in
-      let same : (x : ℕ) → x < bankCount → stateIn z x ≡ stateIn d x = λ x m. while-state (contextOf s) anyWaits refl d k x m in
-      omega (
-        arith,
-        up-to-cost (contextOf s) (λ x. true) z n bankCount (omega arith),
-        while-cost (contextOf s) anyWaits refl d,
-        count-le (λ x. true && not (isClosed (stateIn z x))) (λ x. not (isClosed (stateIn d x))) bankCount (λ x m e. rw (same x m) at e),
-        open-most s (stateIn d) b,
-      )
+  closed-all : (d : Draft) → Sized d → Banked (contextOf s) (stateIn d) → cost (plannedClose (contextOf s) d) ≤ cost d + requestMost (s .core)
+  unfolding plannedClose
+  closed-all d k b = omega (arith, up-to-cost (contextOf s) (λ x. true) d k bankCount (omega arith), open-most s (stateIn d) b)
 
-  least-most : 18 ≤ requestMost (s .core)
+  least-most : 16 ≤ requestMost (s .core)
   unfolding requestMost
   least-most = go (ltb (s .core) 2)
     where
-      go : (q : Bool) → 18 ≤ cond q 18 34
+      go : (q : Bool) → 16 ≤ cond q 16 32
       go true = omega arith
       go false = omega arith
 
-  most-by : (p : PlannerState) → Inv (contextOf s) p → (q : Request) → length (planned (contextOf s) q p .records) ≤ requestMost (s .core)
-  unfolding planned stepsOf plannedRead plannedWrite plannedRefresh turned plannedWait
-  most-by p v q = go q v
+  most-by : (p : PlannerState) → Inv (contextOf s) p → (q : Request) → unretired q p ≡ false → length (planned (contextOf s) q p .records) ≤ requestMost (s .core)
+  unfolding planned stepsOf plannedRead plannedWrite plannedRefresh turned plannedWait plannedFlush unretired
+  most-by p v q u = go q u v
     where
       d : Draft
       d = record { planner = p; records = [] }
 
-      go : (q : Request) → Inv (contextOf s) p → length (stepsOf (contextOf s) q d .records) ≤ requestMost (s .core)
-      go (Read at) k =
+      go : (q : Request) → unretired q p ≡ false → Inv (contextOf s) p → length (stepsOf (contextOf s) q d .records) ≤ requestMost (s .core)
+      go (Read at) u k =
           let z : Draft = reached (contextOf s) (at .bank) (at .row) d in
           let test : List Write → Bool = delays at in
           let y : Draft = flushedWhile (contextOf s) test z in
@@ -279,10 +277,10 @@ module _ (s : Settings) where
             start-cost p,
             least-most,
           )
-      go (WriteTo at mask bytes) k =
+      go (WriteTo at mask bytes) u k =
           let z : Draft = reached (contextOf s) (at .bank) (at .row) d in
           omega (arith, written-length at mask bytes z, records-cost z, reached-cost (at .bank) (at .row) d (k .size), start-cost p, least-most)
-      go RefreshBank k =
+      go RefreshBank u k =
           let b : ℕ = p .refresh in
           let z : Draft = cleared (contextOf s) b d in
           let y : Draft = sent (contextOf s) (rowPacket (Refa b)) z in
@@ -295,46 +293,41 @@ module _ (s : Settings) where
             start-cost p,
             least-most,
           )
-      go (Wait cycles) k = omega arith
-      go Drain k = omega (arith, records-cost (plannedDrain (contextOf s) d), drained-cost d (k .size) (k .banked), start-cost p)
+      go (Wait cycles) u k = omega arith
+      go Flush u k = omega (arith, records-cost (flushedWhile (contextOf s) anyWaits d), while-cost (contextOf s) anyWaits refl d, start-cost p, least-most)
+      go Close u k = omega (arith, records-cost (plannedClose (contextOf s) d), closed-all d (k .size) (k .banked), none-cost p u)
 
   -- from a state that is not refused
   pub most : AtMost s
-  most p v q = most-by p (valid-inv (contextOf s) p v) q
+  most p v q u = most-by p (valid-inv (contextOf s) p v) q u
 
   -- under any core form
-  pub most-made : (p : PlannerState) → Inv (contextOf s) p → (q : Request) → length (planned (contextOf s) q p .records) ≤ 34
+  pub most-made : (p : PlannerState) → Inv (contextOf s) p → (q : Request) → unretired q p ≡ false → length (planned (contextOf s) q p .records) ≤ 32
   unfolding requestMost
-  most-made p v q = omega (arith, most-by p v q, any (ltb (s .core) 2))
+  most-made p v q u = omega (arith, most-by p v q u, any (ltb (s .core) 2))
     where
-      any : (b : Bool) → cond b 18 34 ≤ 34
+      any : (b : Bool) → cond b 16 32 ≤ 32
       any true = omega arith
       any false = omega arith
 
-  pub most-any : (p : PlannerState) → plannerValid (contextOf s) p ≡ true → (q : Request) → length (planned (contextOf s) q p .records) ≤ 34
-  most-any p v q = most-made p (valid-inv (contextOf s) p v) q
+  pub most-any : (p : PlannerState) → plannerValid (contextOf s) p ≡ true → (q : Request) → unretired q p ≡ false → length (planned (contextOf s) q p .records) ≤ 32
+  most-any p v q u = most-made p (valid-inv (contextOf s) p v) q u
 
--- ---- drains that make so many: two writes wait, and sixteen banks are open, or all
+-- ---- a close that makes so many: sixteen banks are open, or all
 
 place : ℕ → Place
 place bank = record { bank = bank; row = 0; column = 0 }
 
--- reads of n banks from 0 on, each so many after the one before, and two writes to the next
-requests : ℕ → ℕ → List Request
-requests step n = reads n (WriteTo (place (step * n)) 0xFFFF (record { dqa = 0; dqb = 0 }) ∷ WriteTo (place (step * n)) 0xFFFF (record { dqa = 0; dqb = 0 }) ∷ [])
-  where
-    reads : ℕ → List Request → List Request
-    reads zero l = l
-    reads (suc n) l = reads n (Read (place (step * n)) ∷ l)
+-- reads of n banks from 0 on, each so many after the one before
+reads : ℕ → ℕ → List Call → List Call
+reads step zero l = l
+reads step (suc n) l = reads step n (record { request = requestBytes (Read (place (step * n))); room = 1024 } ∷ l)
 
-calls : ℕ → ℕ → List Call
-calls step n = map (λ (q : Request). record { request = requestBytes q; room = 1088 }) (requests step n)
+-- how many records a close makes after them under set H with a core form
+pub closes : ℕ → ℕ → ℕ → ℕ
+closes core step n =
+    length (planRecords (contextOf (setOf 2 4 core)) (plannerAfter (contextOf (setOf 2 4 core)) freshPlanner (reads step n [])) (requestBytes Close) 1024)
 
--- how many records a drain makes after them under set H with a core form
-pub drained : ℕ → ℕ → ℕ → ℕ
-drained core step n =
-    length (planRecords (contextOf (setOf 2 4 core)) (plannerAfter (contextOf (setOf 2 4 core)) freshPlanner (calls step n)) (requestBytes Drain) 1088)
-
-pub most-reached : (drained 0 2 15 ≡ requestMost 0) × ((drained 1 2 15 ≡ requestMost 1) × (drained 2 1 31 ≡ requestMost 2))
-unfolding drained requestMost setOf place requests calls bytes number allUpTo usesByte spareRight placed requestOf requestRead requestFields requestBytes runOf inRuns contextOf rowTraits colTraits traits instant isPacket bankBy isClosed isOpen bankCount dataDelay leaving loads fresh waitingOf bufferOf bankNext trackNext afterPacket trackRetired afterRetire afterData after maxUpTo bounds distances retireTraits placedAt under earliest leastFrom freshPlanner slot sent flushed flushedWhile closed closedUpTo reached plannedRead loaded written plannedWrite turned plannedRefresh plannedWait plannedDrain stepsOf planned inTime timely outcomeOf outcomeBy planOutcome isMade draftBy planNext planRecords plannerAfter
+pub most-reached : (closes 0 2 16 ≡ requestMost 0) × ((closes 1 2 16 ≡ requestMost 1) × (closes 2 1 32 ≡ requestMost 2))
+unfolding closes requestMost setOf place reads bytes number allUpTo usesByte spareRight placed requestOf requestRead requestFields requestBytes runOf inRuns contextOf rowTraits colTraits traits instant isPacket bankBy isClosed isOpen bankCount dataDelay leaving loads fresh waitingOf bufferOf bankNext trackNext afterPacket trackRetired afterRetire afterData after maxUpTo bounds distances retireTraits placedAt under earliest leastFrom freshPlanner slot sent flushed flushedWhile closed closedUpTo reached plannedRead loaded written plannedWrite turned plannedRefresh plannedWait plannedFlush plannedClose stepsOf planned inTime timely outcomeOf unretired outcomeBy planOutcome isMade draftBy planNext planRecords plannerAfter
 most-reached = (refl, (refl, refl))

@@ -12,8 +12,8 @@ use Rattle.num.specs.Bytes.{Bytes}
 use Rattle.settings.specs.Instants.{horizon}
 use Rattle.record.specs.declared.Record.{Record}
 use Rattle.record.specs.declared.Request.{Request}
-use Rattle.record.specs.declared.Request.the-variants.{Read, Write as WriteTo, Refresh as RefreshBank, Wait, Drain}
-use Rattle.record.specs.declared.Refusal.the-variants.{Horizon, Full}
+use Rattle.record.specs.declared.Request.the-variants.{Read, Write as WriteTo, Refresh as RefreshBank, Wait, Flush, Close}
+use Rattle.record.specs.declared.Refusal.the-variants.{Horizon, Full, Unretired}
 use Rattle.record.specs.declared.RequestRead.{RequestRead}
 use Rattle.record.specs.declared.RequestRead.the-variants.{Refused as RefusedRequest, Accepted}
 use Rattle.record.specs.Request.{requestRead}
@@ -21,14 +21,14 @@ use Rattle.record.proofs.RequestLaws.{InRange, accepted-range}
 use Rattle.spec_rules.specs.Neighbour.{Context, Neighbours}
 use Rattle.spec_rules.specs.Packets.{instant}
 use Rattle.spec_rules.specs.Rules.{dataDelay}
-use Rattle.spec_rules.proofs.Bools.{and-left, and-right}
+use Rattle.spec_rules.proofs.Bools.{not-both, and-left, and-right}
 use Rattle.spec_plan.specs.declared.PlannerState.{PlannerState}
 use Rattle.spec_plan.specs.declared.Outcome.the-variants.{Refused, Made as MadeSome}
 use Rattle.spec_plan.specs.Plan.{Draft, plannedWait, stepsOf, planned}
-use Rattle.spec_plan.specs.Call.{inTime, timely, outcomeOf, outcomeBy, planOutcome, isMade, accepted, draftBy, draftOf, planNext, planRecords}
+use Rattle.spec_plan.specs.Call.{inTime, timely, outcomeOf, unretired, outcomeBy, planOutcome, isMade, accepted, draftBy, draftOf, planNext, planRecords}
 use Rattle.spec_plan.proofs.Invariant.{Inv}
 use Rattle.spec_plan.proofs.Trace.{Each, channelBy, Placed, trace-start}
-use Rattle.spec_plan.proofs.PlanLaws.{Good, good-read, good-write, good-refresh, good-drain}
+use Rattle.spec_plan.proofs.PlanLaws.{Good, good-read, good-write, good-refresh, good-flush, good-close}
 
 -- what a call makes of planner p: the state after its records, each in its place
 pub record Made (cx : Context) (p : PlannerState) (d : Draft) : Type 0 where
@@ -76,7 +76,8 @@ module _ (cx : Context) where
             each = tt;
             inv = record { size = v .size; banked = v .banked; held = v .held; refresh-in = v .refresh-in; mask-in = v .mask-in; second-in = v .second-in; low = omega (arith, v .low) };
           }
-      go Drain i = made-good p _ (good-drain cx ns p d k)
+      go Flush i = made-good p _ (good-flush cx ns p d k)
+      go Close i = made-good p _ (good-close cx ns p d k)
 
   -- ---- a call
 
@@ -84,11 +85,12 @@ module _ (cx : Context) where
   accepted-timely : (p : PlannerState) (x : RequestRead) (room : ℕ) → isMade (outcomeBy cx p x room) ≡ true → timely cx (draftBy cx p x) ≡ true
   unfolding outcomeBy outcomeOf draftBy isMade
   accepted-timely p (RefusedRequest why) room e = cc
-  accepted-timely p (Accepted q) room e = go (timely cx (planned cx q p)) (leb (length (planned cx q p .records)) (room / 32)) e
+  accepted-timely p (Accepted q) room e = go (unretired q p) (timely cx (planned cx q p)) (leb (length (planned cx q p .records)) (room / 32)) e
     where
-      go : (a b : Bool) → isMade (cond a (cond b (MadeSome (length (planned cx q p .records))) (Refused Full)) (Refused Horizon)) ≡ true → a ≡ true
-      go true b h = refl
-      go false b h = h
+      go : (u a b : Bool) → isMade (cond u (Refused Unretired) (cond a (cond b (MadeSome (length (planned cx q p .records))) (Refused Full)) (Refused Horizon))) ≡ true → a ≡ true
+      go true a b h = not-both false h refl
+      go false true b h = refl
+      go false false b h = h
 
   module _ (p : PlannerState) (request : List ℕ) (room : ℕ) where
     -- the planner and the records that the call makes

@@ -19,7 +19,7 @@ use Rattle.record.specs.declared.Record.the-variants.{RowAt, ColAt, DataOf}
 use Rattle.record.specs.declared.Place.{Place}
 use Rattle.record.specs.declared.Refusal.the-variants.{Kind, Spare, Bank, Row, Column, Length}
 use Rattle.record.specs.declared.Request.{Request}
-use Rattle.record.specs.declared.Request.the-variants.{Read, Write as WriteTo, Refresh as RefreshBank, Wait, Drain}
+use Rattle.record.specs.declared.Request.the-variants.{Read, Write as WriteTo, Refresh as RefreshBank, Wait, Flush, Close}
 use Rattle.record.specs.declared.RequestRead.{RequestRead}
 use Rattle.record.specs.declared.RequestRead.the-variants.{Refused, Accepted}
 use Rattle.record.specs.Request.{kindOf, usesByte, spareRight, placeOf, placed, requestOf, requestRead}
@@ -30,7 +30,7 @@ use Rattle.spec_rules.specs.Channel.{after}
 use Rattle.spec_rules.proofs.Bools.{all-ext}
 use Rattle.spec_plan.specs.declared.PlannerState.{PlannerState}
 use Rattle.spec_plan.specs.Plan.{Draft, loaded, written, plannedWrite, stepsOf, planned}
-use Rattle.spec_plan.specs.Call.{inTime, timely, outcomeOf, outcomeBy, planOutcome, isMade, draftBy, planNext, planRecords}
+use Rattle.spec_plan.specs.Call.{inTime, timely, outcomeOf, unretired, outcomeBy, planOutcome, isMade, draftBy, planNext, planRecords}
 use Rattle.spec_plan.specs.Runs.{Call, plannerAfter, listed}
 
 -- ---- without data
@@ -49,7 +49,8 @@ requestWithout (Read at) = Read at
 requestWithout (WriteTo at mask d) = WriteTo at mask blank
 requestWithout RefreshBank = RefreshBank
 requestWithout (Wait n) = Wait n
-requestWithout Drain = Drain
+requestWithout Flush = Flush
+requestWithout Close = Close
 
 readWithout : RequestRead → RequestRead
 readWithout (Refused why) = Refused why
@@ -153,12 +154,22 @@ module _ (cx : Context) (p : PlannerState) where
   drafts-alike (Accepted (WriteTo at mask d)) = (refl, simp map-append)
   drafts-alike (Accepted RefreshBank) = (refl, refl)
   drafts-alike (Accepted (Wait n)) = (refl, refl)
-  drafts-alike (Accepted Drain) = (refl, refl)
+  drafts-alike (Accepted Flush) = (refl, refl)
+  drafts-alike (Accepted Close) = (refl, refl)
+
+  unretired-alike : (q : Request) → unretired q p ≡ unretired (requestWithout q) p
+  unfolding unretired requestWithout
+  unretired-alike (Read at) = refl
+  unretired-alike (WriteTo at mask d) = refl
+  unretired-alike RefreshBank = refl
+  unretired-alike (Wait n) = refl
+  unretired-alike Flush = refl
+  unretired-alike Close = refl
 
   outcomes-alike : (x : RequestRead) (room : ℕ) → outcomeBy cx p x room ≡ outcomeBy cx p (readWithout x) room
   unfolding outcomeBy readWithout draftBy
   outcomes-alike (Refused why) room = refl
-  outcomes-alike (Accepted q) room = outcome-alike cx (planned cx q p) (planned cx (requestWithout q) p) room (drafts-alike (Accepted q))
+  outcomes-alike (Accepted q) room = rw (unretired-alike q, outcome-alike cx (planned cx q p) (planned cx (requestWithout q) p) room (drafts-alike (Accepted q)))
 
   -- what a call makes whose request says this
   madeBy : RequestRead → ℕ → Draft

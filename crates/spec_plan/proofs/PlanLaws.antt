@@ -33,7 +33,7 @@ use Rattle.spec_rules.proofs.Bools.{not-both, and-right, neither}
 use Rattle.spec_rules.proofs.EarliestLaws.{able, picked-late}
 use Rattle.spec_state.proofs.RoundTrip.{WritesIn}
 use Rattle.spec_plan.specs.declared.PlannerState.{PlannerState}
-use Rattle.spec_plan.specs.Plan.{Draft, rowPacket, colPacket, waiting, stateIn, openOn, anyWaits, slot, leaver, sent, flushed, flushedWhile, loses, closed, closedUpTo, cleared, delays, reached, plannedRead, loaded, written, plannedWrite, turned, plannedRefresh, plannedDrain}
+use Rattle.spec_plan.specs.Plan.{Draft, rowPacket, colPacket, waiting, stateIn, openOn, anyWaits, slot, leaver, sent, flushed, flushedWhile, loses, closed, closedUpTo, cleared, delays, reached, plannedRead, loaded, written, plannedWrite, turned, plannedRefresh, plannedFlush, plannedClose}
 use Rattle.spec_plan.proofs.SentLaws.{when-either, sent-now, sent-mask, sent-second, sent-refresh, sent-size, sent-state, sent-due, sent-waiting, row-waiting, read-waiting, flushed-waiting, while-keeps, while-ends, while-state, saved, saved-far, up-to-picked}
 use Rattle.spec_plan.proofs.Invariant.{Banked, allOpen, inBanks, none-picked, Held, Inv, NearClosed, Changed, banked-shut, banked-open, held-far, far-other, held-stays, left-in, left-open, queued-in, queued-open, first-open, fits-by, free-near, shifted-in}
 use Rattle.spec_plan.proofs.Trace.{Trace, trace-sent, trace-loaded}
@@ -364,6 +364,10 @@ module _ (cx : Context) (ns : Neighbours cx) (p : PlannerState) where
       let c = good-cleared d k b in
       good-turned _ (good-refreshed (cleared cx b d) (c .0) b (k .inv .refresh-in) (c .1))
 
-  pub good-drain : (d : Draft) → G d → G (plannedDrain cx d)
-  unfolding plannedDrain
-  good-drain d k = good-up-to (flushedWhile cx anyWaits d) (good-while d k anyWaits refl) (λ x. true) bankCount (omega arith)
+  pub good-flush : (d : Draft) → G d → G (plannedFlush cx d)
+  unfolding plannedFlush
+  good-flush d k = good-while d k anyWaits refl
+
+  pub good-close : (d : Draft) → G d → G (plannedClose cx d)
+  unfolding plannedClose
+  good-close d k = good-up-to d k (λ x. true) bankCount (omega arith)

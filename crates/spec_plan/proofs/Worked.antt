@@ -16,7 +16,7 @@ use Rattle.record.specs.declared.Dualoct.{Dualoct}
 use Rattle.record.specs.declared.Record.{Record}
 use Rattle.record.specs.declared.Record.the-variants.{RowAt, ColAt, DataOf}
 use Rattle.record.specs.declared.Request.{Request}
-use Rattle.record.specs.declared.Request.the-variants.{Read, Write, Refresh, Wait, Drain}
+use Rattle.record.specs.declared.Request.the-variants.{Read, Write, Refresh, Wait, Flush, Close}
 use Rattle.record.specs.Request.{usesByte, spareRight, placed, requestOf, requestRead, requestFields, requestBytes}
 use Rattle.spec_rules.specs.Neighbour.{bankCount, runOf, inRuns, contextOf}
 use Rattle.spec_rules.specs.Packets.{rowTraits, colTraits, traits, retireTraits, instant, isPacket}
@@ -27,8 +27,8 @@ use Rattle.spec_rules.specs.Distances.{distances}
 use Rattle.spec_rules.specs.Checks.{maxUpTo, bounds}
 use Rattle.spec_rules.specs.Earliest.{placedAt, under, earliest, leastFrom}
 use Rattle.spec_plan.specs.Planner.{freshPlanner}
-use Rattle.spec_plan.specs.Plan.{slot, sent, flushed, flushedWhile, closed, closedUpTo, reached, plannedRead, loaded, written, plannedWrite, turned, plannedRefresh, plannedWait, plannedDrain, stepsOf, planned}
-use Rattle.spec_plan.specs.Call.{inTime, timely, outcomeOf, outcomeBy, planOutcome, isMade, draftBy, planNext, planRecords}
+use Rattle.spec_plan.specs.Plan.{slot, sent, flushed, flushedWhile, closed, closedUpTo, reached, plannedRead, loaded, written, plannedWrite, turned, plannedRefresh, plannedWait, plannedFlush, plannedClose, stepsOf, planned}
+use Rattle.spec_plan.specs.Call.{inTime, timely, outcomeOf, unretired, outcomeBy, planOutcome, isMade, draftBy, planNext, planRecords}
 use Rattle.spec_plan.specs.Runs.{Call, listed}
 
 -- ---- the runs in short
@@ -49,7 +49,7 @@ write bank row column mask d = Write (record { bank = bank; row = row; column = 
 -- each request with room for the most records that one makes
 calls : List Request → List Call
 calls [] = []
-calls (q ∷ l) = record { request = requestBytes q; room = 1088 } ∷ calls l
+calls (q ∷ l) = record { request = requestBytes q; room = 1024 } ∷ calls l
 
 row : ℕ → RowPacket → Record
 row t p = RowAt (record { 0 = t }) p
@@ -66,14 +66,14 @@ full = 0xFFFF
 -- the starred runs of the planner, in document 01's order
 pub runs : List (List Request)
 runs =
-    (read 0 0 1 ∷ write 0 0 1 0x0003 ones ∷ read 0 0 1 ∷ read 1 0 0 ∷ Drain ∷ [])
+    (read 0 0 1 ∷ write 0 0 1 0x0003 ones ∷ read 0 0 1 ∷ read 1 0 0 ∷ Flush ∷ Close ∷ [])
     ∷ (read 15 0 0 ∷ read 16 0 0 ∷ [])
     ∷ (read 14 0 0 ∷ read 15 0 0 ∷ [])
     ∷ (write 0 0 0 full ones ∷ read 0 1 0 ∷ [])
     ∷ (Refresh ∷ Refresh ∷ [])
     ∷ (write 0 0 0 0x0003 ones ∷ write 0 0 0 0x0006 twos ∷ [])
-    -- read 0, two writes to 4, drain
-    ∷ (read 0 0 0 ∷ write 4 0 0 0x0003 ones ∷ write 4 0 1 0x0006 twos ∷ Drain ∷ [])
+    -- read 0, two writes to 4, flush, close
+    ∷ (read 0 0 0 ∷ write 4 0 0 0x0003 ones ∷ write 4 0 1 0x0006 twos ∷ Flush ∷ Close ∷ [])
     -- two writes, a read of another bank; of the older's column; of the newer's column; a third and a fourth write
     ∷ (write 0 0 0 0x0003 ones ∷ write 0 0 1 0x0006 twos ∷ read 5 0 0 ∷ [])
     ∷ (write 0 0 0 0x0003 ones ∷ write 0 0 1 0x0006 twos ∷ read 0 0 0 ∷ [])
@@ -139,9 +139,9 @@ pub listUnder : ℕ → List Request → List Record
 listUnder core l = listed (contextOf (setOf 2 4 core)) freshPlanner (calls l)
 
 pub worked : map listOf runs ≡ lists
-unfolding setOf setH read ones twos write calls row col dat full runs lists listOf bytes number allUpTo usesByte spareRight placed requestOf requestRead requestFields requestBytes runOf inRuns contextOf rowTraits colTraits traits instant isPacket bankBy isClosed isOpen bankCount dataDelay leaving loads fresh waitingOf bufferOf bankNext trackNext afterPacket trackRetired afterRetire afterData after maxUpTo bounds distances retireTraits placedAt under earliest leastFrom freshPlanner slot sent flushed flushedWhile closed closedUpTo reached plannedRead loaded written plannedWrite turned plannedRefresh plannedWait plannedDrain stepsOf planned inTime timely outcomeOf outcomeBy planOutcome isMade draftBy planNext planRecords listed
+unfolding setOf setH read ones twos write calls row col dat full runs lists listOf bytes number allUpTo usesByte spareRight placed requestOf requestRead requestFields requestBytes runOf inRuns contextOf rowTraits colTraits traits instant isPacket bankBy isClosed isOpen bankCount dataDelay leaving loads fresh waitingOf bufferOf bankNext trackNext afterPacket trackRetired afterRetire afterData after maxUpTo bounds distances retireTraits placedAt under earliest leastFrom freshPlanner slot sent flushed flushedWhile closed closedUpTo reached plannedRead loaded written plannedWrite turned plannedRefresh plannedWait plannedFlush plannedClose stepsOf planned inTime timely outcomeOf unretired outcomeBy planOutcome isMade draftBy planNext planRecords listed
 worked = refl
 
 pub core-worked : map (λ (core : ℕ). map (listUnder core) coreRuns) (0 ∷ 1 ∷ 2 ∷ []) ≡ coreLists
-unfolding setOf read calls row col full coreRuns coreLists listUnder bytes number allUpTo usesByte spareRight placed requestOf requestRead requestFields requestBytes runOf inRuns contextOf rowTraits colTraits traits instant isPacket bankBy isClosed isOpen bankCount dataDelay leaving loads fresh waitingOf bufferOf bankNext trackNext afterPacket trackRetired afterRetire afterData after maxUpTo bounds distances retireTraits placedAt under earliest leastFrom freshPlanner slot sent flushed flushedWhile closed closedUpTo reached plannedRead loaded written plannedWrite turned plannedRefresh plannedWait plannedDrain stepsOf planned inTime timely outcomeOf outcomeBy planOutcome isMade draftBy planNext planRecords listed
+unfolding setOf read calls row col full coreRuns coreLists listUnder bytes number allUpTo usesByte spareRight placed requestOf requestRead requestFields requestBytes runOf inRuns contextOf rowTraits colTraits traits instant isPacket bankBy isClosed isOpen bankCount dataDelay leaving loads fresh waitingOf bufferOf bankNext trackNext afterPacket trackRetired afterRetire afterData after maxUpTo bounds distances retireTraits placedAt under earliest leastFrom freshPlanner slot sent flushed flushedWhile closed closedUpTo reached plannedRead loaded written plannedWrite turned plannedRefresh plannedWait plannedFlush plannedClose stepsOf planned inTime timely outcomeOf unretired outcomeBy planOutcome isMade draftBy planNext planRecords listed
 core-worked = refl

@@ -10,7 +10,8 @@ use Rattle.settings.specs.declared.Settings.{Settings}
 use Rattle.settings.specs.Instants.{horizon}
 use Rattle.record.specs.declared.Record.{Record}
 use Rattle.record.specs.declared.Request.{Request}
-use Rattle.record.specs.declared.Refusal.the-variants.{Horizon, Full}
+use Rattle.record.specs.declared.Request.the-variants.{Read, Write, Refresh, Wait, Flush, Close}
+use Rattle.record.specs.declared.Refusal.the-variants.{Horizon, Full, Unretired}
 use Rattle.record.specs.declared.RequestRead.{RequestRead}
 use Rattle.record.specs.declared.RequestRead.the-variants.{Refused as RefusedRequest, Accepted}
 use Rattle.record.specs.Record.{recordBytes}
@@ -18,10 +19,11 @@ use Rattle.record.specs.Request.{requestRead}
 use Rattle.spec_rules.specs.Neighbour.{Context}
 use Rattle.spec_rules.specs.Packets.{instant}
 use Rattle.spec_rules.specs.Rules.{dataDelay}
+use Rattle.spec_rules.specs.Channel.{waitingOf}
 use Rattle.spec_plan.specs.declared.PlannerState.{PlannerState}
 use Rattle.spec_plan.specs.declared.Outcome.{Outcome}
 use Rattle.spec_plan.specs.declared.Outcome.the-variants.{Refused, Made}
-use Rattle.spec_plan.specs.Plan.{Draft, planned}
+use Rattle.spec_plan.specs.Plan.{Draft, anyWaits, planned}
 
 -- the bytes of records, one after the other
 unfoldable pub listBytes : Settings → List Record → List ℕ
@@ -42,10 +44,19 @@ unfoldable pub outcomeOf : Context → Draft → ℕ → Outcome
 outcomeOf cx d room =
     cond (timely cx d) (cond (leb (length (d .records)) (room / 32)) (Made (length (d .records))) (Refused Full)) (Refused Horizon)
 
--- what a call answers whose request says this: the request's own refusals first
+-- "for close while a write waits"
+unfoldable pub unretired : Request → PlannerState → Bool
+unretired (Read at) p = false
+unretired (Write at mask d) p = false
+unretired Refresh p = false
+unretired (Wait n) p = false
+unretired Flush p = false
+unretired Close p = anyWaits (waitingOf (p .channel .buffer))
+
+-- what a call answers whose request says this: the request's own refusals first, then "15 unretired [..] after 6 and before 7"
 unfoldable pub outcomeBy : Context → PlannerState → RequestRead → ℕ → Outcome
 outcomeBy cx p (RefusedRequest why) room = Refused why
-outcomeBy cx p (Accepted q) room = outcomeOf cx (planned cx q p) room
+outcomeBy cx p (Accepted q) room = cond (unretired q p) (Refused Unretired) (outcomeOf cx (planned cx q p) room)
 
 -- the answer to a request of these bytes, with a lent buffer of so many
 unfoldable pub planOutcome : Context → PlannerState → List ℕ → ℕ → Outcome

@@ -1,8 +1,8 @@
--- How many records a request makes, by the core form (document 02 a, c).
+-- How many records a request makes, by the core form (document 02 d).
 -- Assumes nothing.
 use Prim.Native.Nat.{ℕ, _≤_}
 use mathlib.Core.Path.{_≡_}
-use mathlib.Core.Bool.{true, cond}
+use mathlib.Core.Bool.{true, false, cond}
 use lib.Dec.{ltb}
 use lib.ListN.{length}
 use Rattle.settings.specs.declared.Settings.{Settings}
@@ -11,12 +11,14 @@ use Rattle.spec_rules.specs.Neighbour.{contextOf}
 use Rattle.spec_plan.specs.declared.PlannerState.{PlannerState}
 use Rattle.spec_plan.specs.Planner.{plannerValid}
 use Rattle.spec_plan.specs.Plan.{planned}
+use Rattle.spec_plan.specs.Call.{unretired}
 
--- "a request may make 18 records"; "form 2 has no neighbours and a drain may close 32 banks, making 34 records"
+-- "No request now makes more than 16 records, 32 in form 2."
 unfoldable pub requestMost : ℕ → ℕ
-requestMost core = cond (ltb core 2) 18 34
+requestMost core = cond (ltb core 2) 16 32
 
--- no request makes more, from any state that is not refused
+-- from any state that is not refused
 abbrev pub AtMost : Settings → Type 0
 AtMost s =
-    (p : PlannerState) → plannerValid (contextOf s) p ≡ true → (q : Request) → length (planned (contextOf s) q p .records) ≤ requestMost (s .core)
+    (p : PlannerState) → plannerValid (contextOf s) p ≡ true → (q : Request) → unretired q p ≡ false
+    → length (planned (contextOf s) q p .records) ≤ requestMost (s .core)

@@ -14,7 +14,7 @@ use Rattle.record.specs.declared.Record.{Record}
 use Rattle.record.specs.declared.Record.the-variants.{RowAt, ColAt, DataOf}
 use Rattle.record.specs.declared.Place.{Place}
 use Rattle.record.specs.declared.Request.{Request}
-use Rattle.record.specs.declared.Request.the-variants.{Read, Write as WriteTo, Refresh as RefreshBank, Wait, Drain}
+use Rattle.record.specs.declared.Request.the-variants.{Read, Write as WriteTo, Refresh as RefreshBank, Wait, Flush, Close}
 use Rattle.spec_rules.specs.declared.Bank.{Bank}
 use Rattle.spec_rules.specs.declared.Bank.the-variants.{Closed, Open, Refresh}
 use Rattle.spec_rules.specs.declared.Write.{Write}
@@ -181,16 +181,21 @@ module _ (cx : Context) where
       let p : PlannerState = d .planner in
       record { planner = record { channel = p .channel; now = record { 0 = p .now .0 + cycles }; refresh = p .refresh; mask = p .mask; second = p .second }; records = d .records }
 
-  -- "A drain first retires both", "then PRER to each open bank in rising order."
-  unfoldable pub plannedDrain : Draft → Draft
-  plannedDrain d = closedUpTo (λ x. true) bankCount (flushedWhile anyWaits d)
+  -- "Kind 4 is now flush: NOCOPs until no write waits."
+  unfoldable pub plannedFlush : Draft → Draft
+  plannedFlush d = flushedWhile anyWaits d
+
+  -- "Kind 5 is close: PRER to each open bank in rising order."
+  unfoldable pub plannedClose : Draft → Draft
+  plannedClose d = closedUpTo (λ x. true) bankCount d
 
   unfoldable pub stepsOf : Request → Draft → Draft
   stepsOf (Read at) d = plannedRead at d
   stepsOf (WriteTo at mask bytes) d = plannedWrite at mask bytes d
   stepsOf RefreshBank d = plannedRefresh d
   stepsOf (Wait cycles) d = plannedWait cycles d
-  stepsOf Drain d = plannedDrain d
+  stepsOf Flush d = plannedFlush d
+  stepsOf Close d = plannedClose d
 
   -- what a request makes of a planner, with its records
   unfoldable pub planned : Request → PlannerState → Draft

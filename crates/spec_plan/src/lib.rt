@@ -4,9 +4,9 @@ use settings::PacketAt;
 use spec_rules::Channel;
 
 // The most records that a request makes under any core form, and the bytes that they take; the bytes of a planner.
-pub const MOST_RECORDS: usize = 34;
+pub const MOST_RECORDS: usize = 32;
 
-pub const MOST_BYTES: usize = 1088;
+pub const MOST_BYTES: usize = 1024;
 
 pub const PLANNER_BYTES: usize = 768;
 

@@ -1,5 +1,5 @@
 -- Demand 3 (document 01, "Flat memory and whole runs"): every list of plan calls, from a fresh planner, makes a list that breaks no
--- rule, that a fresh model passes, with flat memory's answers in order, and after an accepted drain with flat memory as store; the
+-- rule, that a fresh model passes, with flat memory's answers in order, and after an accepted flush with flat memory as store; the
 -- numbers of bytes written sum to the ones in the masks.
 -- Assumes nothing.
 use Prim.Native.Nat.{ℕ, _+_, _<_, _≤_}
@@ -41,12 +41,12 @@ use Rattle.spec_model.specs.Model.{freshModel}
 use Rattle.spec_runs.specs.Flat.{flatAfter, flatAnswers, flatMasks}
 use Rattle.spec_runs.specs.Count.{retiredMasks, onesOf}
 use Rattle.spec_runs.specs.Drive.{started}
-use Rattle.spec_runs.specs.WholeRun.{fed, EndsInDrain, WholeRun}
+use Rattle.spec_runs.specs.WholeRun.{fed, EndsInFlush, WholeRun}
 use Rattle.spec_runs.proofs.PlainRun.{storeAll, answersAll, masksAll, Passing, passing-all}
 use Rattle.spec_runs.proofs.Count.{masks-are}
 use Rattle.spec_runs.proofs.DriveLaws.{Every, every-at, Coded, Ready, driven-passes, driven-takes, driven-takes-all, driven-store, driven-written, driven-written-all, driven-answers, driven-so-far}
 use Rattle.spec_runs.proofs.Sim.{DataIn, doneAll, waitMasks}
-use Rattle.spec_runs.proofs.SimCalls.{sim-run, drain-empties}
+use Rattle.spec_runs.proofs.SimCalls.{sim-run, flush-empties}
 
 -- ---- lists of calls
 
@@ -127,21 +127,21 @@ module _ (cx : Context) (v : valid (cx .settings) ≡ true) (ns : Neighbours cx)
   unfolding freshModel fresh waitingOf waitingAfter
   fresh-masks l = masks-are cx freshModel [] refl l
 
-  -- after an accepted drain no write waits
-  pub drained-empty : EndsInDrain cx calls → waitingOf (last .channel .buffer) ≡ []
-  drained-empty e =
+  -- after an accepted flush no write waits
+  pub flushed-empty : EndsInFlush cx calls → waitingOf (last .channel .buffer) ≡ []
+  flushed-empty e =
       let first : List Call = e .first in
       let c : OfBytes first = first-bytes first (e .last ∷ []) (rw (e .ends) at b) in
       rw (e .ends, planner-last cx freshPlanner first (e .last))
-      (drain-empties cx ns [] (listed cx freshPlanner first) (plannerAfter cx freshPlanner first) (run-made cx ns first c .inv) _ _ _
-      (sim-run cx ns [] first c) (e .last .request) (e .last .room) (e .drain) (e .taken))
+      (flush-empties cx ns [] (listed cx freshPlanner first) (plannerAfter cx freshPlanner first) (run-made cx ns first c .inv) _ _ _
+      (sim-run cx ns [] first c) (e .last .request) (e .last .room) (e .flush) (e .taken))
 
   -- and the masks that were retired under are those of the accepted writes, in order
-  drained-masks : EndsInDrain cx calls → masksAll cx freshModel list ≡ flatMasks cx (fed cx freshPlanner calls)
-  drained-masks e =
+  flushed-masks : EndsInFlush cx calls → masksAll cx freshModel list ≡ flatMasks cx (fed cx freshPlanner calls)
+  flushed-masks e =
       let k : masksAll cx freshModel list ++ waitMasks (waitingOf (last .channel .buffer)) (last .mask) (last .second) ≡ flatMasks cx (fed cx freshPlanner calls) =
       rw append-nil at (sim-run cx ns [] calls b .at .written-under) in
-      rw (drained-empty e, append-nil) at k
+      rw (flushed-empty e, append-nil) at k
 
   run-whole : (store : List ℕ) → length store ≡ storeLength cx → Bytes store → (rooms : List ℕ) → WholeRun cx calls store rooms
   unfolding started
@@ -159,9 +159,9 @@ module _ (cx : Context) (v : valid (cx .settings) ≡ true) (ns : Neighbours cx)
         takes-all = driven-takes-all cx rooms freshModel store list r;
         so-far = driven-so-far cx rooms freshModel store list r ∙ rw answered;
         reads = λ e. driven-answers cx rooms freshModel store list r e ∙ answered;
-        drained = λ e d. driven-store cx rooms freshModel store list r e ∙ sym (rw (drained-empty d) at flat);
+        flushed = λ e d. driven-store cx rooms freshModel store list r e ∙ sym (rw (flushed-empty d) at flat);
         counted = written ∙ ap onesOf (fresh-masks _);
-        drained-count = λ e d. driven-written-all cx rooms freshModel store list r e ∙ ap onesOf (drained-masks d);
+        flushed-count = λ e d. driven-written-all cx rooms freshModel store list r e ∙ ap onesOf (flushed-masks d);
       }
 
 pub whole-run : (cx : Context) → valid (cx .settings) ≡ true → Neighbours cx → (calls : List Call) → OfBytes calls

@@ -19,6 +19,7 @@ use Rattle.record.specs.declared.Record.{Record}
 use Rattle.record.specs.declared.Record.the-variants.{RowAt, ColAt, DataOf}
 use Rattle.record.specs.declared.RecordRead.the-variants.{Known}
 use Rattle.record.specs.declared.Refusal.the-variants.{Full}
+use Rattle.record.specs.Refusal.{answerOf as answerTo}
 use Rattle.record.specs.Record.{recordFields, recordBytes, recordRead}
 use Rattle.spec_rules.specs.declared.Write.{Write}
 use Rattle.spec_rules.specs.Neighbour.{Context}
@@ -32,7 +33,7 @@ use Rattle.spec_model.specs.declared.Stepped.the-variants.{Refused, Read}
 use Rattle.spec_model.specs.Store.{storeLength}
 use Rattle.spec_model.specs.Model.{retireMask, retiredWrite, storeNext, modelNext, readOf}
 use Rattle.spec_model.specs.Step.{retireAnswer, passedAnswer, recordAnswer, readAnswer, stepAnswer, isTaken, modelBy, stepModel, storeBy, stepStore, bytesRead, bytesBy}
-use Rattle.spec_runs.specs.Drive.{Drive, returned, leftBy, isFull, fails, calledOn, called, driven, wideCalls, readsIn}
+use Rattle.spec_runs.specs.Drive.{Drive, returned, leftBy, fails, calledOn, called, driven, wideCalls, readsIn}
 use Rattle.spec_runs.specs.Count.{onesOf}
 use Rattle.spec_runs.proofs.PlainRun.{answerOf, maskBy, modelAll, storeAll, answersAll, masksAll, answers-append, Passing, length-next}
 use Rattle.spec_runs.proofs.Count.{ones-append, passed-count}
@@ -113,7 +114,7 @@ module _ (room mask : ℕ) (w : Option Write) (store : List ℕ) (r : Record) (l
       go false = refl
 
   passed-fails : (o : Option ℕ) → fails (passed o) ≡ false
-  unfolding passedAnswer retireAnswer fails isFull
+  unfolding passedAnswer retireAnswer fails answerTo
   passed-fails none = go w
     where
       go : (w : Option Write) → fails (retireAnswer w mask) ≡ false

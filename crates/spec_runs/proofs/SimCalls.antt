@@ -8,7 +8,7 @@ use Rattle.num.specs.Bytes.{Bytes}
 use Rattle.record.specs.declared.Dualoct.{Dualoct}
 use Rattle.record.specs.declared.Record.{Record}
 use Rattle.record.specs.declared.Request.{Request}
-use Rattle.record.specs.declared.Request.the-variants.{Read, Write, Refresh, Wait, Drain}
+use Rattle.record.specs.declared.Request.the-variants.{Read, Write, Refresh, Wait, Flush, Close}
 use Rattle.record.specs.declared.RequestRead.{RequestRead}
 use Rattle.record.specs.declared.RequestRead.the-variants.{Refused, Accepted}
 use Rattle.record.specs.Request.{requestRead}
@@ -29,7 +29,7 @@ use Rattle.spec_runs.specs.Flat.{Fed, memoryBy, answersBy, memoryOf, ans
 use Rattle.spec_runs.specs.WholeRun.{fed}
 use Rattle.spec_runs.proofs.PlainRun.{modelAll, storeAll, answersAll, masksAll}
 use Rattle.spec_runs.proofs.Sim.{Sim}
-use Rattle.spec_runs.proofs.SimPlan.{Both, sim-read, sim-write, sim-refresh, sim-wait, sim-drain}
+use Rattle.spec_runs.proofs.SimPlan.{Both, sim-read, sim-write, sim-refresh, sim-wait, sim-flush, sim-close}
 
 -- a planner between calls
 abbrev pub rested : PlannerState → Draft
@@ -52,13 +52,14 @@ module _ (cx : Context) (ns : Neighbours cx) (st : List ℕ) where
     sim-planned (Write at mask bytes) i = rw append-nil (sim-write cx ns p st before memory answers masks (rested p) both at mask bytes (i .0) (i .2, i .3))
     sim-planned Refresh i = rw (append-nil answers, append-nil masks) (sim-refresh cx ns p st before memory answers masks (rested p) both)
     sim-planned (Wait n) i = rw (append-nil answers, append-nil masks) (sim-wait cx ns p st before memory answers masks (rested p) both n)
-    sim-planned Drain i = rw (append-nil answers, append-nil masks) (sim-drain cx ns p st before memory answers masks (rested p) both .0)
+    sim-planned Flush i = rw (append-nil answers, append-nil masks) (sim-flush cx ns p st before memory answers masks (rested p) both .0)
+    sim-planned Close i = rw (append-nil answers, append-nil masks) (sim-close cx ns p st before memory answers masks (rested p) both)
 
-    -- an accepted drain leaves no write
-    pub drain-empties : (request : List ℕ) (room : ℕ) → requestRead (cx .settings) request ≡ Accepted Drain → accepted cx p request room ≡ true
+    -- an accepted flush leaves no write
+    pub flush-empties : (request : List ℕ) (room : ℕ) → requestRead (cx .settings) request ≡ Accepted Flush → accepted cx p request room ≡ true
         → waitingOf (planNext cx p request room .channel .buffer) ≡ []
     unfolding planNext draftBy planned stepsOf
-    drain-empties request room e a = rw (a, e) (sim-drain cx ns p st before memory answers masks (rested p) both .1)
+    flush-empties request room e a = rw (a, e) (sim-flush cx ns p st before memory answers masks (rested p) both .1)
 
     sim-request : (x : RequestRead) (request : List ℕ) → Bytes request → requestRead (cx .settings) request ≡ x
         → Sim cx st before (draftBy cx p x) (memoryOf cx x memory) (answers ++ answersOf cx x memory) (masks ++ masksOf x)

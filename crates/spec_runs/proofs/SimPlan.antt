@@ -26,7 +26,7 @@ use Rattle.spec_rules.proofs.Bools.{not-both, and-left, and-right, neither}
 use Rattle.spec_state.specs.Valid.{bankValid}
 use Rattle.spec_state.proofs.RoundTrip.{WritesIn}
 use Rattle.spec_plan.specs.declared.PlannerState.{PlannerState}
-use Rattle.spec_plan.specs.Plan.{Draft, rowPacket, colPacket, waiting, stateIn, openOn, hits, anyWaits, sent, flushed, flushedWhile, closed, loses, closedUpTo, cleared, delays, reached, plannedRead, plannedWrite, turned, plannedRefresh, plannedWait, plannedDrain}
+use Rattle.spec_plan.specs.Plan.{Draft, rowPacket, colPacket, waiting, stateIn, openOn, hits, anyWaits, sent, flushed, flushedWhile, closed, loses, closedUpTo, cleared, delays, reached, plannedRead, plannedWrite, turned, plannedRefresh, plannedWait, plannedFlush, plannedClose}
 use Rattle.spec_plan.proofs.SentLaws.{when-either, sent-size, sent-state, row-waiting, while-keeps, while-ends, while-state, saved, saved-far, up-to-waiting}
 use Rattle.spec_plan.proofs.Invariant.{allOpen, inBanks, Changed, NearClosed, held-far, far-other}
 use Rattle.spec_plan.proofs.PlanLaws.{Good, good-flushed, good-closed, good-cleared, good-reached}
@@ -187,9 +187,10 @@ module _ (cx : Context) (ns : Neighbours cx) (p : PlannerState) (st : List ℕ) 
   none-waits [] e = refl
   none-waits (w ∷ ws) e = not-both true refl e
 
-  pub sim-drain : (d : Draft) → Both d → Sim cx st before (plannedDrain cx d) memory answers masks × (waiting (plannedDrain cx d) ≡ [])
-  unfolding plannedDrain
-  sim-drain d k =
-      let z : Draft = flushedWhile cx anyWaits d in
-      let b : Both z = both-while d k anyWaits refl in
-      (both-up-to z b (λ x. true) bankCount (omega arith) .1, up-to-waiting cx (λ x. true) z (b .0 .inv .size) bankCount (none-waits (waiting z) (while-ends cx anyWaits refl d)))
+  pub sim-flush : (d : Draft) → Both d → Sim cx st before (plannedFlush cx d) memory answers masks × (waiting (plannedFlush cx d) ≡ [])
+  unfolding plannedFlush
+  sim-flush d k = (both-while d k anyWaits refl .1, none-waits (waiting (flushedWhile cx anyWaits d)) (while-ends cx anyWaits refl d))
+
+  pub sim-close : (d : Draft) → Both d → Sim cx st before (plannedClose cx d) memory answers masks
+  unfolding plannedClose
+  sim-close d k = both-up-to d k (λ x. true) bankCount (omega arith) .1

@@ -1,5 +1,5 @@
 -- A short run by the definitions: reads, writes under masks, two of them waiting, to one dualoct, a read past its own writes, a
--- refused call, a drain; the model's answers and store beside flat memory's, and the sum of the bytes written.
+-- refused call, a flush; the model's answers and store beside flat memory's, and the sum of the bytes written.
 -- Assumes nothing.
 use Prim.Native.Nat.{ℕ}
 use mathlib.Core.Path.{_≡_, refl}
@@ -12,7 +12,7 @@ use Rattle.settings.specs.Bench.{setOf}
 use Rattle.packet.specs.Row.{deviceHead, rowFields, rowWord, rowFits, rowCoded, rowOf as packetRow, rowDecoded}
 use Rattle.packet.specs.Col.{maskBit as carriesMask, maskField, colFields, colWord, colFits, colCoded, maskSaid, maskOf as packetMask, colOf, colDecoded}
 use Rattle.record.specs.declared.Request.{Request}
-use Rattle.record.specs.declared.Request.the-variants.{Read, Write, Refresh, Drain}
+use Rattle.record.specs.declared.Request.the-variants.{Read, Write, Refresh, Flush}
 use Rattle.record.specs.Record.{recordFields, recordBytes, rowRecord, colRecord, recordOf, recordRead}
 use Rattle.record.specs.Request.{usesByte, spareRight, placed, requestOf, requestRead, requestFields, requestBytes}
 use Rattle.spec_rules.specs.Neighbour.{bankCount, Context, runOf, inRuns, contextOf}
@@ -25,14 +25,15 @@ use Rattle.spec_rules.specs.Distances.{distances}
 use Rattle.spec_rules.specs.Checks.{maxUpTo, bounds, checkOf, checks, judged}
 use Rattle.spec_rules.specs.Earliest.{placedAt, under, earliest, leastFrom}
 use Rattle.spec_plan.specs.Planner.{freshPlanner}
-use Rattle.spec_plan.specs.Plan.{slot, sent, flushed, flushedWhile, closed, closedUpTo, reached, plannedRead, loaded, written, plannedWrite, turned, plannedRefresh, plannedWait, plannedDrain, stepsOf, planned}
-use Rattle.spec_plan.specs.Call.{inTime, timely, outcomeOf, outcomeBy, planOutcome, isMade, draftBy, planNext, planRecords}
+use Rattle.spec_plan.specs.Plan.{slot, sent, flushed, flushedWhile, closed, closedUpTo, reached, plannedRead, loaded, written, plannedWrite, turned, plannedRefresh, plannedWait, plannedFlush, plannedClose, stepsOf, planned}
+use Rattle.spec_plan.specs.Call.{inTime, timely, outcomeOf, unretired, outcomeBy, planOutcome, isMade, draftBy, planNext, planRecords}
+use Rattle.record.specs.Refusal.{answerOf}
 use Rattle.spec_plan.specs.Runs.{Call, listed}
 use Rattle.spec_model.specs.Store.{storeLength, dualoctAt, dualoct, dualoctBytes, governs, masked, onesUpTo}
 use Rattle.spec_model.specs.Model.{freshModel, openRow, retireMask, retiredWrite, storeNext, refrBy, refrNext, bytesNext, secondNext, modelNext, readOf}
 use Rattle.spec_model.specs.Step.{retireAnswer, passedAnswer, recordAnswer, readAnswer, stepAnswer, isTaken, modelBy, stepModel, storeBy, stepStore, bytesRead, bytesBy}
 use Rattle.spec_runs.specs.Flat.{memoryBy, answersBy, memoryOf, answersOf, flatNext, flatAnswer, flatAfter, flatAnswers, masksBy, masksOf, flatMask, flatMasks}
-use Rattle.spec_runs.specs.Drive.{Drive, started, returned, leftBy, isFull, fails, calledOn, called, driven}
+use Rattle.spec_runs.specs.Drive.{Drive, started, returned, leftBy, fails, calledOn, called, driven}
 use Rattle.spec_runs.specs.Count.{writtenBy, maskAt, masksAfter, retiredMasks, onesOf}
 use Rattle.spec_runs.specs.WholeRun.{fed}
 
@@ -50,7 +51,7 @@ requests =
     ∷ Write (record { bank = 31; row = 0; column = 0 }) 0xFFFF (record { dqa = 0x0807060504030201; dqb = 0x100F0E0D0C0B0A09 })
     ∷ Read (record { bank = 31; row = 1; column = 0 })
     ∷ Refresh
-    ∷ Drain
+    ∷ Flush
     ∷ []
 
 calls : List Request → List Call
@@ -80,5 +81,5 @@ store = (1 ∷ 2 ∷ replicate 14 7) ++ (replicate 16 7 ++ ((1 ∷ (replicate 14
 -- masks 0003, 8001, 8000 and FFFF have 2, 2, 1 and 16 ones; without room the calls stop at the first RD, after two retires
 pub result : (driver .failed ≡ false) × (driver .pending ≡ []) × (driver .answers ≡ answers) × (driver .store ≡ store) × (flatAfter small (fed small freshPlanner list) (replicate 512 7) ≡ store) × (flatAnswers small (fed small freshPlanner list) (replicate 512 7) ≡ answers)
     × (driver .written ≡ 21) × (onesOf (retiredMasks small (listed small freshPlanner list)) ≡ 21) × (onesOf (flatMasks small (fed small freshPlanner list)) ≡ 21) × (driven small (replicate 20 0) start .written ≡ 4)
-unfolding answers store start setOf small requests calls list rooms driver bytes number allUpTo deviceHead rowFields rowWord rowFits rowCoded packetRow rowDecoded carriesMask maskField colFields colWord colFits colCoded maskSaid packetMask colOf colDecoded recordFields recordBytes rowRecord colRecord recordOf recordRead usesByte spareRight placed requestOf requestRead requestFields requestBytes runOf inRuns contextOf rowTraits colTraits traits instant isPacket bankBy isClosed isOpen bankCount dataDelay lowest leaving loads waitingNext waitingAfter fresh waitingOf bufferOf dueOf bankNext trackNext afterPacket trackRetired afterRetire afterData after maxUpTo bounds distances deeds retireTraits checkOf checks judged placedAt under earliest leastFrom freshPlanner slot sent flushed flushedWhile closed closedUpTo reached plannedRead loaded written plannedWrite turned plannedRefresh plannedWait plannedDrain stepsOf planned inTime timely outcomeOf outcomeBy planOutcome isMade draftBy planNext planRecords listed storeLength dualoctAt dualoct dualoctBytes governs masked onesUpTo freshModel openRow retireMask retiredWrite storeNext refrBy refrNext bytesNext secondNext modelNext readOf retireAnswer passedAnswer recordAnswer readAnswer stepAnswer isTaken modelBy stepModel storeBy stepStore bytesRead bytesBy memoryBy answersBy memoryOf answersOf flatNext flatAnswer flatAfter flatAnswers masksBy masksOf flatMask flatMasks maskAt masksAfter onesOf started returned leftBy isFull fails writtenBy calledOn called driven fed
+unfolding answers store start setOf small requests calls list rooms driver bytes number allUpTo deviceHead rowFields rowWord rowFits rowCoded packetRow rowDecoded carriesMask maskField colFields colWord colFits colCoded maskSaid packetMask colOf colDecoded recordFields recordBytes rowRecord colRecord recordOf recordRead usesByte spareRight placed requestOf requestRead requestFields requestBytes runOf inRuns contextOf rowTraits colTraits traits instant isPacket bankBy isClosed isOpen bankCount dataDelay lowest leaving loads waitingNext waitingAfter fresh waitingOf bufferOf dueOf bankNext trackNext afterPacket trackRetired afterRetire afterData after maxUpTo bounds distances deeds retireTraits checkOf checks judged placedAt under earliest leastFrom freshPlanner slot sent flushed flushedWhile closed closedUpTo reached plannedRead loaded written plannedWrite turned plannedRefresh plannedWait plannedFlush plannedClose stepsOf planned inTime timely outcomeOf unretired outcomeBy planOutcome isMade draftBy planNext planRecords listed storeLength dualoctAt dualoct dualoctBytes governs masked onesUpTo freshModel openRow retireMask retiredWrite storeNext refrBy refrNext bytesNext secondNext modelNext readOf retireAnswer passedAnswer recordAnswer readAnswer stepAnswer isTaken modelBy stepModel storeBy stepStore bytesRead bytesBy memoryBy answersBy memoryOf answersOf flatNext flatAnswer flatAfter flatAnswers masksBy masksOf flatMask flatMasks maskAt masksAfter onesOf started returned leftBy answerOf fails writtenBy calledOn called driven fed
 result = (refl, refl, refl, refl, refl, refl, refl, refl, refl, refl)

@@ -3,11 +3,11 @@
 use Prim.Native.Nat.{ℕ, _+_}
 use mathlib.Core.Bool.{Bool, true, false, not, _||_, cond}
 use mathlib.Core.List.{List, [], _∷_, _++_}
-use lib.Dec.{leb}
+use lib.Dec.{eqb, leb}
 use lib.ListN.{length}
 use Rattle.record.specs.declared.Record.{Record}
 use Rattle.record.specs.declared.Refusal.{Refusal}
-use Rattle.record.specs.declared.Refusal.the-variants.{Settings as BadSettings, Kind, Spare, Bank, Row, Column, Horizon, Full, Store, Word, Rule, Block, Length}
+use Rattle.record.specs.Refusal.{answerOf}
 use Rattle.record.specs.Record.{recordBytes, recordRead}
 use Rattle.spec_rules.specs.Neighbour.{Context}
 use Rattle.spec_rules.specs.Packets.{traits}
@@ -47,20 +47,8 @@ leftBy Read r l = l
 leftBy (Retired n) r l = l
 leftBy Neither r l = l
 
-unfoldable pub isFull : Refusal → Bool
-isFull BadSettings = false
-isFull Kind = false
-isFull Spare = false
-isFull Bank = false
-isFull Row = false
-isFull Column = false
-isFull Horizon = false
-isFull Full = true
-isFull Store = false
-isFull (Word place) = false
-isFull (Rule rule place) = false
-isFull (Block place) = false
-isFull Length = false
+abbrev pub isFull : Refusal → Bool
+isFull why = eqb (answerOf why .number) 8
 
 unfoldable pub fails : Stepped → Bool
 fails (Refused why) = not (isFull why)

@@ -5,7 +5,7 @@ use mathlib.Core.Bool.{Bool, cond}
 use mathlib.Core.List.{List, [], _∷_, _++_}
 use Rattle.record.specs.declared.Place.{Place}
 use Rattle.record.specs.declared.Request.{Request}
-use Rattle.record.specs.declared.Request.the-variants.{Read, Write, Refresh, Wait, Drain}
+use Rattle.record.specs.declared.Request.the-variants.{Read, Write, Refresh, Wait, Flush, Close}
 use Rattle.record.specs.declared.RequestRead.{RequestRead}
 use Rattle.record.specs.declared.RequestRead.the-variants.{Refused, Accepted}
 use Rattle.record.specs.Request.{requestRead}
@@ -22,13 +22,14 @@ abbrev pub dualoctOf : Context → Place → ℕ
 dualoctOf cx at = dualoctAt cx (at .bank) (at .row) (at .column)
 
 -- "An accepted write sets byte i of its dualoct to its data byte i where mask bit i is 1, leaves every other byte [..]. An accepted
--- refresh, wait or drain [..] change nothing"
+-- refresh, wait [..] change nothing"; "Close joins demand 3's calls and, like flush, changes and answers nothing in flat memory."
 unfoldable pub memoryBy : Context → Request → List ℕ → List ℕ
 memoryBy cx (Read at) memory = memory
 memoryBy cx (Write at mask d) memory = masked memory (dualoctOf cx at) mask (dualoctBytes d)
 memoryBy cx Refresh memory = memory
 memoryBy cx (Wait n) memory = memory
-memoryBy cx Drain memory = memory
+memoryBy cx Flush memory = memory
+memoryBy cx Close memory = memory
 
 -- "An accepted read answers its dualoct and changes nothing." Every other request answers nothing.
 unfoldable pub answersBy : Context → Request → List ℕ → List (List ℕ)
@@ -36,7 +37,8 @@ answersBy cx (Read at) memory = dualoct memory (dualoctOf cx at) ∷ []
 answersBy cx (Write at mask d) memory = []
 answersBy cx Refresh memory = []
 answersBy cx (Wait n) memory = []
-answersBy cx Drain memory = []
+answersBy cx Flush memory = []
+answersBy cx Close memory = []
 
 -- the same of bytes that say a request, or none
 unfoldable pub memoryOf : Context → RequestRead → List ℕ → List ℕ
@@ -70,7 +72,8 @@ masksBy (Read at) = []
 masksBy (Write at mask d) = mask ∷ []
 masksBy Refresh = []
 masksBy (Wait n) = []
-masksBy Drain = []
+masksBy Flush = []
+masksBy Close = []
 
 unfoldable pub masksOf : RequestRead → List ℕ
 masksOf (Refused why) = []

@@ -7,7 +7,7 @@ use mathlib.Core.Bool.{true, false}
 use mathlib.Core.List.{List, [], _∷_, _++_}
 use lib.ListN.{length, take, drop}
 use Rattle.record.specs.declared.Record.{Record}
-use Rattle.record.specs.declared.Request.the-variants.{Drain}
+use Rattle.record.specs.declared.Request.the-variants.{Flush}
 use Rattle.record.specs.declared.RequestRead.the-variants.{Accepted}
 use Rattle.record.specs.Request.{requestRead}
 use Rattle.spec_rules.specs.Neighbour.{Context}
@@ -26,12 +26,12 @@ fed cx p [] = []
 fed cx p (c ∷ l) =
     record { request = c .request; accepted = accepted cx p (c .request) (c .room) } ∷ fed cx (planNext cx p (c .request) (c .room)) l
 
--- "an accepted drain" as the last call
-pub record EndsInDrain (cx : Context) (calls : List Call) : Type 0 where
+-- "any accepted flush" as the last call
+pub record EndsInFlush (cx : Context) (calls : List Call) : Type 0 where
   pub first : List Call
   pub last : Call
   pub ends : calls ≡ first ++ (last ∷ [])
-  pub drain : requestRead (cx .settings) (last .request) ≡ Accepted Drain
+  pub flush : requestRead (cx .settings) (last .request) ≡ Accepted Flush
   pub taken : accepted cx (plannerAfter cx freshPlanner first) (last .request) (last .room) ≡ true
 
 -- the claim, of settings that are accepted, plan calls, the bytes of a store, and the room of each model call
@@ -65,9 +65,9 @@ module _ (cx : Context) (calls : List Call) (store rooms : List ℕ) where
     pub so-far : end .answers ≡ take (readsIn recordsTaken) (flatAnswers cx feed store)
     -- and all of them where every record is taken
     pub reads : end .pending ≡ [] → end .answers ≡ flatAnswers cx feed store
-    -- and after an accepted drain the store is flat memory
-    pub drained : end .pending ≡ [] → EndsInDrain cx calls → end .store ≡ flatAfter cx feed store
+    -- "The store must equal flat memory after any accepted flush."
+    pub flushed : end .pending ≡ [] → EndsInFlush cx calls → end .store ≡ flatAfter cx feed store
     -- "the number of bytes a retire wrote [..]; their sum over a run is the ones in all retired masks", of the records taken
     pub counted : end .written ≡ onesOf (retiredMasks cx recordsTaken)
-    -- and after an accepted drain the ones in the masks of all accepted writes
-    pub drained-count : end .pending ≡ [] → EndsInDrain cx calls → end .written ≡ onesOf (flatMasks cx feed)
+    -- and after an accepted flush the ones in the masks of all accepted writes
+    pub flushed-count : end .pending ≡ [] → EndsInFlush cx calls → end .written ≡ onesOf (flatMasks cx feed)

@@ -15,7 +15,7 @@ shared-slice-read-if2 c = search needs
 
 returns-2 : tie.Need-returns-2
 unfolding requestRead
-returns-2 c = rw (eq-eqb _ 24 (c .before .before .if1 .left), lt-leb _ 4 (c .if2 .taken))
+returns-2 c = rw (eq-eqb _ 24 (c .before .before .if1 .left), lt-leb _ 5 (c .if2 .taken))
 
 spare-right-requires : tie.Need-spare-right-requires
 spare-right-requires c κs = search needs
@@ -28,7 +28,7 @@ unfolding requestRead
 returns-3 c =
     rw (
       eq-eqb _ 24 (c .before .before .before .before .before .if1 .left),
-      le-leb _ 4 (c .before .before .before .if2 .left),
+      le-leb _ 5 (c .before .before .before .if2 .left),
       sym (c .before .before .spare-right .ensures) ∙ c .before .if3 .taken,
     ) (c .request-of .ensures)
 
@@ -37,7 +37,7 @@ unfolding requestRead
 returns-4 c =
     rw (
       eq-eqb _ 24 (c .before .before .before .before .if1 .left),
-      le-leb _ 4 (c .before .before .if2 .left),
+      le-leb _ 5 (c .before .before .if2 .left),
       sym (c .before .spare-right .ensures) ∙ c .if3 .left,
     )
 

@@ -63,10 +63,22 @@ returns-5 : tie.Need-returns-5
 unfolding requestOf
 returns-5 c =
     rw (
-      ne-eqb _ 0 (c .before .before .before .if1 .left),
-      ne-eqb _ 1 (c .before .before .if2 .left),
-      ne-eqb _ 2 (c .before .if3 .left),
-      ne-eqb _ 3 (c .if4 .left),
+      ne-eqb _ 0 (c .before .before .before .before .if1 .left),
+      ne-eqb _ 1 (c .before .before .before .if2 .left),
+      ne-eqb _ 2 (c .before .before .if3 .left),
+      ne-eqb _ 3 (c .before .if4 .left),
+      eq-eqb _ 4 (c .if5 .taken),
+    )
+
+returns-6 : tie.Need-returns-6
+unfolding requestOf
+returns-6 c =
+    rw (
+      ne-eqb _ 0 (c .before .before .before .before .if1 .left),
+      ne-eqb _ 1 (c .before .before .before .if2 .left),
+      ne-eqb _ 2 (c .before .before .if3 .left),
+      ne-eqb _ 3 (c .before .if4 .left),
+      ne-eqb _ 4 (c .if5 .left),
     )
 
 pub request-of-spec : {M : Type 1} → statement M
@@ -85,4 +97,5 @@ request-of-spec =
     returns-3
     u32-at-requires
     returns-4
-    returns-5)
+    returns-5
+    returns-6)
