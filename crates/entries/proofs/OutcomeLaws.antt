@@ -17,7 +17,7 @@ use Rattle.settings.specs.declared.Settings.{Settings}
 use Rattle.settings.specs.Settings.{lows, highs, valid}
 use Rattle.settings.specs.Bench.{setOf, setH}
 use Rattle.record.specs.declared.Record.{Record}
-use Rattle.record.specs.declared.Refusal.the-variants.{Horizon, Full}
+use Rattle.record.specs.declared.Refusal.the-variants.{Horizon, Full, Unretired}
 use Rattle.record.specs.declared.RequestRead.{RequestRead}
 use Rattle.record.specs.declared.RequestRead.the-variants.{Refused as RefusedRequest, Accepted}
 use Rattle.record.specs.Request.{requestRead}
@@ -28,7 +28,7 @@ use Rattle.spec_plan.specs.declared.Outcome.{Outcome}
 use Rattle.spec_plan.specs.declared.Outcome.the-variants.{Refused, Made}
 use Rattle.spec_plan.specs.Planner.{plannerValid}
 use Rattle.spec_plan.specs.Plan.{planned}
-use Rattle.spec_plan.specs.Call.{timely, outcomeOf, outcomeBy, planOutcome, isMade, draftBy, planNext, planRecords, planRoom}
+use Rattle.spec_plan.specs.Call.{timely, outcomeOf, unretired, outcomeBy, planOutcome, isMade, draftBy, planNext, planRecords, planRoom}
 use Rattle.spec_plan.proofs.Valid.{fresh-valid, next-valid}
 use Rattle.spec_check.specs.Check.{recordsUpTo}
 use Rattle.plan_by_value.specs.Call.{Planning, planning}
@@ -45,15 +45,17 @@ module _ (cx : Context) (p : PlannerState) where
   counted-by : (x : RequestRead) (room : ℕ) → Counted (outcomeBy cx p x room) (draftBy cx p x .records) room
   unfolding Counted outcomeBy outcomeOf draftBy madeCount isMade
   counted-by (RefusedRequest why) room = (refl, omega arith)
-  counted-by (Accepted q) room = go (timely cx (planned cx q p)) (leb (length (planned cx q p .records)) (room / 32)) refl
+  counted-by (Accepted q) room = go (unretired q p) (timely cx (planned cx q p)) (leb (length (planned cx q p .records)) (room / 32)) refl
     where
       l : List Record
       l = planned cx q p .records
 
-      go : (a b : Bool) → leb (length l) (room / 32) ≡ b → Counted (cond a (cond b (Made (length l)) (Refused Full)) (Refused Horizon)) l room
-      go true true e = (refl, leb-true _ _ e)
-      go true false e = (refl, omega arith)
-      go false b e = (refl, omega arith)
+      go : (u a b : Bool) → leb (length l) (room / 32) ≡ b
+          → Counted (cond u (Refused Unretired) (cond a (cond b (Made (length l)) (Refused Full)) (Refused Horizon))) l room
+      go true a b e = (refl, omega arith)
+      go false true true e = (refl, leb-true _ _ e)
+      go false true false e = (refl, omega arith)
+      go false false b e = (refl, omega arith)
 
   count-records : (request : List ℕ) (room : ℕ) → madeCount (planOutcome cx p request room) ≡ length (planRecords cx p request room)
   unfolding Counted planOutcome planRecords

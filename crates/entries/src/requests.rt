@@ -15,7 +15,7 @@ use lines::set_h;
 use plan_by_value::Planner;
 
 // Room for the records of any request.
-const ROOM: usize = 576;
+const ROOM: usize = 512;
 
 // The planner after a request, the number of records that it made, and the end of its text.
 struct Listed {

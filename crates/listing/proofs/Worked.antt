@@ -25,8 +25,8 @@ use Rattle.spec_rules.specs.Channel.{fresh, waitingOf, bufferOf, bankNext, trac
 use Rattle.spec_rules.specs.Checks.{maxUpTo, bounds}
 use Rattle.spec_rules.specs.Earliest.{placedAt, under, earliest, leastFrom}
 use Rattle.spec_plan.specs.Planner.{freshPlanner}
-use Rattle.spec_plan.specs.Plan.{slot, sent, flushed, flushedWhile, closed, closedUpTo, reached, plannedRead, loaded, written, plannedWrite, turned, plannedRefresh, plannedWait, plannedDrain, stepsOf, planned}
-use Rattle.spec_plan.specs.Call.{inTime, timely, outcomeOf, outcomeBy, planOutcome, isMade, draftBy, planNext, planRecords}
+use Rattle.spec_plan.specs.Plan.{slot, sent, flushed, flushedWhile, closed, closedUpTo, reached, plannedRead, loaded, written, plannedWrite, turned, plannedRefresh, plannedWait, plannedFlush, plannedClose, stepsOf, planned}
+use Rattle.spec_plan.specs.Call.{inTime, timely, outcomeOf, unretired, outcomeBy, planOutcome, isMade, draftBy, planNext, planRecords}
 use Rattle.spec_check.specs.declared.Judged.{Judged}
 use Rattle.spec_check.specs.declared.Judged.the-variants.{Passed, Refused}
 use Rattle.spec_check.specs.Check.{known, recordsUpTo, recordsOf, ruleAnswer, recordsAnswer, listAnswer}
@@ -50,8 +50,11 @@ write bank row column low high fill = request 1 bank row column low high fill
 refresh : List ℕ
 refresh = request 2 0 0 0 0 0 0
 
-drain : List ℕ
-drain = request 4 0 0 0 0 0 0
+flush : List ℕ
+flush = request 4 0 0 0 0 0 0
+
+close : List ℕ
+close = request 5 0 0 0 0 0 0
 
 -- ---- lines as text
 
@@ -73,7 +76,7 @@ early = (4 ∷ 0 ∷ 0 ∷ 0 ∷ 0 ∷ 0 ∷ 0 ∷ 0 ∷ 0x00 ∷ 0x10 ∷ 0x40 
 -- in document 01's order; the last two are the checker's answer and the two words
 pub runs : List (List ℕ)
 runs =
-    listing (read 0 0 1 ++ (write 0 0 1 0x03 0x00 1 ++ (read 0 0 1 ++ (read 1 0 0 ++ drain))))
+    listing (read 0 0 1 ++ (write 0 0 1 0x03 0x00 1 ++ (read 0 0 1 ++ (read 1 0 0 ++ (flush ++ close)))))
     ∷ listing (read 15 0 0 ++ read 16 0 0)
     ∷ listing (read 14 0 0 ++ read 15 0 0)
     ∷ listing (write 0 0 0 0xFF 0xFF 1 ++ read 0 1 0)
@@ -83,7 +86,8 @@ runs =
     ∷ (rowWord 0 (Act 0 0) ∷ colWord 0 (Rd 0 1 0xFFFF) ∷ [])
     ∷ []
 
--- what document 01 prints for them; document 02 a: "In the two-writes run the second WR moves to 9, with M = 0."
+-- what document 01 prints for them; document 02 a: "In the two-writes run the second WR moves to 9, with M = 0."; d: "Run 1 ends with
+-- flush, close and lists the same ten records."
 pub results : List (List ℕ)
 results =
     lines ("4 ACT 0 0 -" ∷ "13 RD 0 1 -" ∷ "19 WR 0 1 -" ∷ "25 D 0 1 -" ∷ "27 NOCOP 0 0 0003" ∷ "31 RD 0 1 -" ∷ "35 PRER 0 0 -" ∷ "43 ACT 1 0 -" ∷ "52 RD 1 0 -" ∷ "63 PRER 1 0 -" ∷ "records 10" ∷ [])
@@ -97,5 +101,5 @@ results =
     ∷ []
 
 pub worked : runs ≡ results
-unfolding request read write refresh drain codes lines numbers early runs results bytes number allUpTo firstFalse deviceHead rowFields rowWord rowOf rowDecoded maskBit maskField colFields colWord maskSaid maskOf colOf colDecoded rowRecord colRecord recordOf recordRead isKnown wellFormed firstBad answerOf usesByte spareRight placed requestOf requestRead runOf inRuns contextOf rowTraits colTraits traits retireTraits instant isPacket bankBy bankAfter isClosed isOpen leaving loads waitingNext waitingAfter deeds events keeps bankCount distances dataDelay dueAfter ruleOf rules rule1 rule4 rule9 rule12 rule14 rule15 rule16 lowest lowestRule firstBroken fresh waitingOf bufferOf bankNext trackNext afterPacket trackRetired afterRetire afterData after maxUpTo bounds placedAt under earliest leastFrom freshPlanner slot sent flushed flushedWhile closed closedUpTo reached plannedRead loaded written plannedWrite turned plannedRefresh plannedWait plannedDrain stepsOf planned inTime timely outcomeOf outcomeBy planOutcome isMade draftBy planNext planRecords known recordsUpTo recordsOf ruleAnswer recordsAnswer listAnswer digit decimalIn hexFour dash maskText line rowLine colLine recordLine setOf setH recordLines refusedLine recordsLine outcomeText requestText plannerFor recordsListed textUpTo lengthRight listing
+unfolding request read write refresh flush close codes lines numbers early runs results bytes number allUpTo firstFalse deviceHead rowFields rowWord rowOf rowDecoded maskBit maskField colFields colWord maskSaid maskOf colOf colDecoded rowRecord colRecord recordOf recordRead isKnown wellFormed firstBad answerOf usesByte spareRight placed requestOf requestRead runOf inRuns contextOf rowTraits colTraits traits retireTraits instant isPacket bankBy bankAfter isClosed isOpen leaving loads waitingNext waitingAfter deeds events keeps bankCount distances dataDelay dueAfter ruleOf rules rule1 rule4 rule9 rule12 rule14 rule15 rule16 lowest lowestRule firstBroken fresh waitingOf bufferOf bankNext trackNext afterPacket trackRetired afterRetire afterData after maxUpTo bounds placedAt under earliest leastFrom freshPlanner slot sent flushed flushedWhile closed closedUpTo reached plannedRead loaded written plannedWrite turned plannedRefresh plannedWait plannedFlush plannedClose stepsOf planned inTime timely outcomeOf unretired outcomeBy planOutcome isMade draftBy planNext planRecords known recordsUpTo recordsOf ruleAnswer recordsAnswer listAnswer digit decimalIn hexFour dash maskText line rowLine colLine recordLine setOf setH recordLines refusedLine recordsLine outcomeText requestText plannerFor recordsListed textUpTo lengthRight listing
 worked = refl

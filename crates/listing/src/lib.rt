@@ -10,8 +10,8 @@ use entries::requests::put_requests;
 use text::put_records;
 use text::put_refused;
 
-// Room for the longest listing: 2,730 requests of at most 18 lines and the last line, each of at most 64 bytes.
-pub const ROOM: usize = 3_145_024;
+// Room for the longest listing: 2,730 requests of at most 16 lines and the last line, each of at most 64 bytes.
+pub const ROOM: usize = 2_795_584;
 
 // The longest input that is listed: 2,730 requests.
 const LONGEST: usize = 65_520;

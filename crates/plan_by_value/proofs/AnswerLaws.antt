@@ -14,7 +14,7 @@ use Rattle.settings.specs.declared.Settings.{Settings}
 use Rattle.settings.specs.Instants.{horizon}
 use Rattle.record.specs.declared.Request.{Request}
 use Rattle.record.specs.declared.Refusal.{Refusal}
-use Rattle.record.specs.declared.Refusal.the-variants.{Horizon, Full}
+use Rattle.record.specs.declared.Refusal.the-variants.{Horizon, Full, Unretired}
 use Rattle.record.specs.declared.RequestRead.{RequestRead}
 use Rattle.record.specs.declared.RequestRead.the-variants.{Accepted}
 use Rattle.spec_rules.specs.Neighbour.{contextOf}
@@ -23,7 +23,7 @@ use Rattle.spec_plan.specs.declared.PlannerState.{PlannerState}
 use Rattle.spec_plan.specs.declared.Outcome.the-variants.{Refused, Made}
 use Rattle.spec_plan.specs.Plan.{planned}
 use Rattle.spec_plan.specs.Planner.{plannerValid}
-use Rattle.spec_plan.specs.Call.{listBytes, timely, outcomeOf, outcomeBy, isMade, draftBy}
+use Rattle.spec_plan.specs.Call.{listBytes, timely, outcomeOf, unretired, outcomeBy, isMade, draftBy}
 use Rattle.spec_plan.proofs.Invariant.{valid-tested}
 use Rattle.spec_plan.proofs.Bound.{most-any}
 use Rattle.plan_by_value.specs.declared.Draft.{Draft as Drawn}
@@ -41,27 +41,31 @@ module _ (s : Settings) (p : PlannerState) where
   unfolding isMade listBytes
   refused-keeps x why l e = rw e (refl, splice-none l 0)
 
+  pub unretired-is : (q : Request) (room : ℕ) → unretired q p ≡ true → outcomeBy (contextOf s) p (Accepted q) room ≡ Refused Unretired
+  unfolding outcomeBy
+  unretired-is q room e = rw e
+
   -- a request, with what code makes of it
-  module _ (q : Request) (v : plannerValid (contextOf s) p ≡ true) (d : Drawn) (k : Draws s d (planned (contextOf s) q p)) (room : ℕ) where
+  module _ (q : Request) (v : plannerValid (contextOf s) p ≡ true) (u : unretired q p ≡ false) (d : Drawn) (k : Draws s d (planned (contextOf s) q p)) (room : ℕ) where
     pub late-is : d .late ≡ true → outcomeBy (contextOf s) p (Accepted q) room ≡ Refused Horizon
     unfolding outcomeBy outcomeOf
-    late-is l = rw (not-passes (d .late) (timely (contextOf s) (planned (contextOf s) q p)) (k .late) l)
+    late-is l = rw (u, not-passes (d .late) (timely (contextOf s) (planned (contextOf s) q p)) (k .late) l)
 
     -- of one that is in time
     module _ (l : d .late ≡ false) where
       pub count-is : d .count ≡ length (planned (contextOf s) q p .records)
-      count-is = draws-count s d (planned (contextOf s) q p) k (most-any s p v q) l
+      count-is = draws-count s d (planned (contextOf s) q p) k (most-any s p v q u) l
 
-      pub count-most : d .count ≤ 34
-      count-most = omega (arith, count-is, most-any s p v q)
+      pub count-most : d .count ≤ 32
+      count-most = omega (arith, count-is, most-any s p v q u)
 
       pub full-is : room / 32 < d .count → outcomeBy (contextOf s) p (Accepted q) room ≡ Refused Full
       unfolding outcomeBy outcomeOf
-      full-is h = rw (in-time s d (planned (contextOf s) q p) k l, lt-leb (length (planned (contextOf s) q p .records)) (room / 32) (omega (arith, h, count-is)))
+      full-is h = rw (u, in-time s d (planned (contextOf s) q p) k l, lt-leb (length (planned (contextOf s) q p .records)) (room / 32) (omega (arith, h, count-is)))
 
       pub made-is : d .count ≤ room / 32 → outcomeBy (contextOf s) p (Accepted q) room ≡ Made (d .count)
       unfolding outcomeBy outcomeOf
-      made-is h = rw (in-time s d (planned (contextOf s) q p) k l, le-leb (length (planned (contextOf s) q p .records)) (room / 32) (omega (arith, h, count-is)), count-is)
+      made-is h = rw (u, in-time s d (planned (contextOf s) q p) k l, le-leb (length (planned (contextOf s) q p .records)) (room / 32) (omega (arith, h, count-is)), count-is)
 
       pub next-is : d .count ≤ room / 32 → d .planner ≡ nextBy (contextOf s) p (Accepted q) room
       unfolding isMade draftBy
@@ -69,4 +73,4 @@ module _ (s : Settings) (p : PlannerState) where
 
       pub records-are : d .count ≤ room / 32 → recordsOf (d .list) (d .count) ≡ recordsBy (contextOf s) p (Accepted q) room
       unfolding isMade draftBy
-      records-are h = rw (made-is h) (k .records l (most-any s p v q))
+      records-are h = rw (made-is h) (k .records l (most-any s p v q u))

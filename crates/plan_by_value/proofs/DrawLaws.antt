@@ -89,7 +89,7 @@ module _ (s : Settings) where
 
   -- ---- one record more
 
-  pub draws-added : (d : Drawn) (e e′ : Draft) (p : PlannerState) (q : Record) (lt : Bool) → length (d .list) ≡ 34 → Draws s d e → Grows e e′
+  pub draws-added : (d : Drawn) (e e′ : Draft) (p : PlannerState) (q : Record) (lt : Bool) → length (d .list) ≡ 32 → Draws s d e → Grows e e′
       → (d .late ≡ false → (timely (contextOf s) e′ ≡ not lt) × (lt ≡ false → (p ≡ e′ .planner) × (e′ .records ≡ e .records ++ (q ∷ []))))
       → Draws s (addedTo d p q lt) e′
   unfolding addedTo
@@ -111,11 +111,11 @@ module _ (s : Settings) where
       go true l = rw (l, late-after d e e′ k g l)
       go false l = rw (l, same l .0) (twice lt)
 
-      more : d .late ≡ false → length (e .records) + 1 ≤ 34
-          → recordsOf (cond (ltb (d .count) 34) (set (d .list) (d .count) (record { made = q })) (d .list)) (cond (ltb (d .count) 34) (d .count + 1) (d .count)) ≡ e .records ++ (q ∷ [])
+      more : d .late ≡ false → length (e .records) + 1 ≤ 32
+          → recordsOf (cond (ltb (d .count) 32) (set (d .list) (d .count) (record { made = q })) (d .list)) (cond (ltb (d .count) 32) (d .count + 1) (d .count)) ≡ e .records ++ (q ∷ [])
       more f n =
-          let few : d .count < 34 = omega (arith, n, sym (records-count (d .list) (d .count)) ∙ ap length (k .records f (omega (arith, n)))) in
-          rw (lt-ltb (d .count) 34 few) (records-more (d .list) (d .count) (record { made = q }) (omega (arith, few, size)) ∙ ap (λ l. l ++ (q ∷ [])) (k .records f (omega (arith, n))))
+          let few : d .count < 32 = omega (arith, n, sym (records-count (d .list) (d .count)) ∙ ap length (k .records f (omega (arith, n)))) in
+          rw (lt-ltb (d .count) 32 few) (records-more (d .list) (d .count) (record { made = q }) (omega (arith, few, size)) ∙ ap (λ l. l ++ (q ∷ [])) (k .records f (omega (arith, n))))
 
   -- ---- the first and the last draft of a request
 
@@ -123,5 +123,5 @@ module _ (s : Settings) where
   unfolding timely inTime recordsOf
   draws-start d p a b l h = record { late = rw (l, h); planner = λ f. a; records = λ f n. rw b }
 
-  pub draws-count : (d : Drawn) (e : Draft) → Draws s d e → length (e .records) ≤ 34 → d .late ≡ false → d .count ≡ length (e .records)
+  pub draws-count : (d : Drawn) (e : Draft) → Draws s d e → length (e .records) ≤ 32 → d .late ≡ false → d .count ≡ length (e .records)
   draws-count d e k n l = sym (records-count (d .list) (d .count)) ∙ ap length (k .records l n)

@@ -109,7 +109,7 @@ module _ (s : Settings) where
         second = p .second;
       }
 
-  pub draws-sent : (d : Drawn) (e : Draft) (r : Record) → length (d .list) ≡ 34 → Draws s d e
+  pub draws-sent : (d : Drawn) (e : Draft) (r : Record) → length (d .list) ≡ 32 → Draws s d e
       → let t : ℕ = slot cx (d .planner) r in
       Draws s (addedTo d (packetAt (d .planner) (clip t) r) (placedBy s (d .planner) (clip t) r) (not (leb (t + dataDelay cx r) horizon))) (sent cx r e)
   unfolding sent
@@ -227,7 +227,7 @@ module _ (s : Settings) where
         second = cond (two (waitingOf (p .channel .buffer))) mask (p .second);
       }
 
-  pub draws-loaded : (d : Drawn) (e : Draft) (mask : ℕ) (bytes : Dualoct) (t : DataAt) → length (d .list) ≡ 34 → Draws s d e → arrival (d .planner .now) (s .cwd) ≡ At t
+  pub draws-loaded : (d : Drawn) (e : Draft) (mask : ℕ) (bytes : Dualoct) (t : DataAt) → length (d .list) ≡ 32 → Draws s d e → arrival (d .planner .now) (s .cwd) ≡ At t
       → Draws s (addedTo d (loadedAt (d .planner) mask (DataOf t bytes)) (DataOf t bytes) false) (loaded cx mask bytes e)
   unfolding loaded arrival contextOf
   draws-loaded d e mask bytes t size k a = draws-added s d e (loaded cx mask bytes e) _ _ _ size k (loaded-grows mask bytes e) (λ f. (timed f, λ g. same (k .planner f)))

@@ -5,6 +5,7 @@ ghost use Rattle.spec_rules.specs.Neighbour.{contextOf};
 ghost use Rattle.spec_rules.specs.History.{isClosed, two};
 ghost use Rattle.spec_rules.specs.Channel.{trackOf, stateOf, waitingOf, leavingOf};
 ghost use Rattle.spec_plan.specs.Plan.{carried, shifted, openOn};
+ghost use Rattle.spec_plan.specs.Call.{unretired};
 ghost use Rattle.plan_by_value.specs.form.Drawn.{concerns, reads, holdsUp, bankIn};
 use crate::Banks;
 use crate::Before;
@@ -16,6 +17,7 @@ use chan_view::neighbours::is_near;
 use chan_view::views::held_of;
 use packet::FULL;
 use record::Record;
+use record::Request;
 use settings::Settings;
 use spec_plan::PlannerState;
 use spec_rules::Bank;
@@ -30,7 +32,7 @@ fn concerns(s: Settings, next: Before, w: Write) -> bool
     match next {
         Before::Prer(x) => is_near(s, x, w.bank),
         Before::Rd(bank, column) => (w.bank == bank) & (w.column == column),
-        Before::Drain => true,
+        Before::Flush => true,
     }
 }
 
@@ -40,7 +42,7 @@ fn reads(next: Before) -> bool
     match next {
         Before::Prer(_) => false,
         Before::Rd(_, _) => true,
-        Before::Drain => false,
+        Before::Flush => false,
     }
 }
 
@@ -54,6 +56,20 @@ pub(crate) fn holds_up(s: Settings, next: Before, p: PlannerState) -> bool
         Buffer::Empty => false,
         Buffer::One(w) => concerns(s, next, w),
         Buffer::Two(x, y) => reads(next) | (concerns(s, next, x) | concerns(s, next, y)),
+    }
+}
+
+// Whether a request is a close while a write waits.
+pub(crate) fn unretired(s: Settings, q: Request, p: PlannerState) -> bool
+    ensures { λ r. ⌜ r ≡ unretired q p ⌝ }
+{
+    match q {
+        Request::Read(_) => false,
+        Request::Write(_, _, _) => false,
+        Request::Refresh => false,
+        Request::Wait(_) => false,
+        Request::Flush => false,
+        Request::Close => holds_up(s, Before::Flush, p),
     }
 }
 

@@ -20,10 +20,10 @@ use settings::PacketAt;
 use spec_plan::PlannerState;
 
 // A list with a record at place n, where there is such a place.
-fn put_in(list: [Entry; 34], n: usize, q: Record) -> [Entry; 34]
-    ensures { λ r. ⌜ r ≡ cond (ltb n 34) (set list n (record { made = q })) list ⌝ }
+fn put_in(list: [Entry; 32], n: usize, q: Record) -> [Entry; 32]
+    ensures { λ r. ⌜ r ≡ cond (ltb n 32) (set list n (record { made = q })) list ⌝ }
 {
-    if n < 34 {
+    if n < 32 {
         let mut next = list;
         next[n] = Entry { made: q };
         return next;
@@ -32,9 +32,9 @@ fn put_in(list: [Entry; 34], n: usize, q: Record) -> [Entry; 34]
 }
 
 fn more(n: usize) -> usize
-    ensures { λ r. ⌜ r ≡ cond (ltb n 34) (n + 1) n ⌝ }
+    ensures { λ r. ⌜ r ≡ cond (ltb n 32) (n + 1) n ⌝ }
 {
-    if n < 34 {
+    if n < 32 {
         return n + 1;
     }
     n
@@ -71,7 +71,7 @@ pub(crate) fn start(p: PlannerState) -> Draft
     ensures { λ z. ⌜ ((s : SettingsOf) → leb (p .now .0) horizon ≡ true → Draws s z (record { planner = p; records = [] })) ⌝ }
 {
     let none = Record::RowAt(PacketAt(0), RowPacket::Act { bank: 0, row: 0 });
-    let list = [Entry { made: none }; 34];
+    let list = [Entry { made: none }; 32];
     Draft {
         planner: p,
         list,

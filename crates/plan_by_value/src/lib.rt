@@ -27,11 +27,11 @@ pub(crate) enum Command {
 }
 
 // What NOCOPs are sent before: a PRER to a bank, which writes near it concern; an RD of a bank and column, which a write of these
-// concerns, and two writes of any; or a drain, which every write concerns.
+// concerns, and two writes of any; or the end of a flush, which every write concerns.
 pub(crate) enum Before {
     Prer(u32),
     Rd(u32, u32),
-    Drain,
+    Flush,
 }
 
 // Which banks are closed: those near a bank, or all.
@@ -49,7 +49,7 @@ pub(crate) struct Entry {
 // or of its data, or now, passed the last one; then the rest says nothing.
 pub(crate) struct Draft {
     pub planner: PlannerState,
-    pub list: [Entry; 34],
+    pub list: [Entry; 32],
     pub count: usize,
     pub late: bool,
 }

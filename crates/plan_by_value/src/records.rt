@@ -9,8 +9,8 @@ use crate::Entry;
 use settings::Settings;
 
 // Puts the first n records of a list from the start of a buffer on.
-pub(crate) fn put_list(s: Settings, room: &mut [u8], list: [Entry; 34], n: usize)
-    requires { ⌜ (n ≤ 34) × (32 * n ≤ length (now room)) × (s .device < 32) ⌝ }
+pub(crate) fn put_list(s: Settings, room: &mut [u8], list: [Entry; 32], n: usize)
+    requires { ⌜ (n ≤ 32) × (32 * n ≤ length (now room)) × (s .device < 32) ⌝ }
     ensures { λ _. ⌜ now (room .exit) ≡ splice (now (room .entry)) 0 (listBytes s (recordsOf list n)) ⌝ }
 {
     let mut i = 0;

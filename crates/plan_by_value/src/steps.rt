@@ -4,7 +4,7 @@ ghost use mathlib.Core.Bool.{true, cond};
 ghost use lib.Dec.{leb};
 ghost use Rattle.settings.specs.Instants.{horizon};
 ghost use Rattle.spec_rules.specs.Neighbour.{bankCount, contextOf};
-ghost use Rattle.spec_plan.specs.Plan.{Draft as DraftOf, when, waiting, sent, flushed, flushedWhile, closed, closedUpTo, reached, plannedRead, loaded, written, plannedWrite, plannedRefresh, plannedDrain, planned};
+ghost use Rattle.spec_plan.specs.Plan.{Draft as DraftOf, when, waiting, sent, flushed, flushedWhile, closed, closedUpTo, reached, plannedRead, loaded, written, plannedWrite, plannedRefresh, plannedFlush, plannedClose, planned};
 ghost use Rattle.plan_by_value.specs.form.Drawn.{packetOf, holdsUp, bankIn, Draws};
 use crate::Banks;
 use crate::Before;
@@ -187,11 +187,18 @@ fn planned_refresh(s: Settings, d: Draft) -> Draft
     turned(sent(s, Command::Row(RowPacket::Refp { bank }), z))
 }
 
-// NOCOP until no write waits, then PRER to each open bank in rising order.
-fn planned_drain(s: Settings, d: Draft) -> Draft
-    ensures { λ z. ⌜ ((e : DraftOf) → Draws s d e → Draws s z (plannedDrain (contextOf s) e)) ⌝ }
+// NOCOP until no write waits.
+fn planned_flush(s: Settings, d: Draft) -> Draft
+    ensures { λ z. ⌜ ((e : DraftOf) → Draws s d e → Draws s z (plannedFlush (contextOf s) e)) ⌝ }
 {
-    closed_up_to(s, Banks::All, flushed_while(s, Before::Drain, d))
+    flushed_while(s, Before::Flush, d)
+}
+
+// PRER to each open bank in rising order.
+fn planned_close(s: Settings, d: Draft) -> Draft
+    ensures { λ z. ⌜ ((e : DraftOf) → Draws s d e → Draws s z (plannedClose (contextOf s) e)) ⌝ }
+{
+    closed_up_to(s, Banks::All, d)
 }
 
 // What a request makes of a planner, with its records.
@@ -205,6 +212,7 @@ pub(crate) fn planned(s: Settings, q: Request, p: PlannerState) -> Draft
         Request::Write(at, mask, bytes) => planned_write(s, at, mask, bytes, d),
         Request::Refresh => planned_refresh(s, d),
         Request::Wait(cycles) => waited(cycles, d),
-        Request::Drain => planned_drain(s, d),
+        Request::Flush => planned_flush(s, d),
+        Request::Close => planned_close(s, d),
     }
 }

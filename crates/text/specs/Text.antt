@@ -87,9 +87,9 @@ recordLine bank column (DataOf t d) = line (t .0) (codes "D") bank column dash
 
 -- ---- the lines of a request, of a refusal and of the count
 
--- "A request may make 18 records."
+-- "No request now makes more than 16 records", under set H, whose core is split
 abbrev pub mostRecords : ℕ
-mostRecords = 18
+mostRecords = 16
 
 -- room for the lines of a request
 abbrev pub requestRoom : ℕ

@@ -22,7 +22,7 @@ use Rattle.spec_plan.specs.Call.{timely}
 use Rattle.plan_by_value.specs.declared.Command.{Command}
 use Rattle.plan_by_value.specs.declared.Command.the-variants.{Row, Col}
 use Rattle.plan_by_value.specs.declared.Before.{Before}
-use Rattle.plan_by_value.specs.declared.Before.the-variants.{Prer, Rd, Drain}
+use Rattle.plan_by_value.specs.declared.Before.the-variants.{Prer, Rd, Flush}
 use Rattle.plan_by_value.specs.declared.Banks.{Banks}
 use Rattle.plan_by_value.specs.declared.Banks.the-variants.{Near, All}
 use Rattle.plan_by_value.specs.declared.Entry.{Entry}
@@ -37,12 +37,12 @@ packetOf (Col p) = colPacket p
 abbrev pub concerns : Settings → Before → Write → Bool
 concerns s (Prer x) = λ w. near (contextOf s) x (w .bank)
 concerns s (Rd bank column) = hits bank column
-concerns s Drain = λ w. true
+concerns s Flush = λ w. true
 
 abbrev pub reads : Before → Bool
 reads (Prer x) = false
 reads (Rd bank column) = true
-reads Drain = false
+reads Flush = false
 
 -- the waiting writes ask for a NOCOP: two before an RD, or one that concerns what is sent next
 abbrev pub holdsUp : Settings → Before → List Write → Bool
@@ -73,19 +73,19 @@ unfoldable pub recordsOf : List Entry → ℕ → List Record
 recordsOf l zero = []
 recordsOf l (suc n) = recordsOf l n ++ (getD l n blank .made ∷ [])
 
--- late where an instant passes the last one; otherwise the same planner, and the same records while they are at most 34
+-- late where an instant passes the last one; otherwise the same planner, and the same records while they are at most 32
 pub record Draws (s : Settings) (d : Drawn) (e : Draft) : Type 0 where
   pub late : d .late ≡ not (timely (contextOf s) e)
   pub planner : d .late ≡ false → d .planner ≡ e .planner
-  pub records : d .late ≡ false → length (e .records) ≤ 34 → recordsOf (d .list) (d .count) ≡ e .records
+  pub records : d .late ≡ false → length (e .records) ≤ 32 → recordsOf (d .list) (d .count) ≡ e .records
 
 -- a draft with one record more, while there is a place for it
 unfoldable pub addedTo : Drawn → PlannerState → Record → Bool → Drawn
 addedTo d p q late =
     record {
       planner = p;
-      list = cond (ltb (d .count) 34) (set (d .list) (d .count) (record { made = q })) (d .list);
-      count = cond (ltb (d .count) 34) (d .count + 1) (d .count);
+      list = cond (ltb (d .count) 32) (set (d .list) (d .count) (record { made = q })) (d .list);
+      count = cond (ltb (d .count) 32) (d .count + 1) (d .count);
       late = d .late || late;
     }
 

@@ -17,7 +17,7 @@ returns c =
     (c .refused .ensures .0 ∙ sym a, (c .refused .ensures .1 ∙ h .0, h .1))
 
 returns-2 : tie.Need-returns-2
-returns-2 c = rw (c .before .before .before .before .before .x2 .given .1) (c .before .before .served .ensures)
+returns-2 c = rw (c .before .before .before .before .before .x2 .given .1) (c .before .before .granted .ensures)
 
 pub answered-spec : {M : Type 1} → statement M
 answered-spec = tie.close (tie.spec (λ c. search needs) (λ c κs. search needs) (λ c. search needs) (λ c κs. search needs) returns (λ c. search needs) returns-2)

@@ -16,20 +16,20 @@ planned-requires c κs = now-in-time (c .before .args .s) (c .before .args .p) (
 put-list-requires : tie.Need-put-list-requires
 put-list-requires c κs =
     let z = c .before .before .before .before .before .before in
-    let l = count-most (z .args .s) (z .args .p) (z .args .q) (z .pre .1) (c .before .before .before .before .planned .result) (c .before .before .before .before .planned .ensures) (length (z .args .room .now)) (c .before .before .before .if1 .left) in
+    let l = count-most (z .args .s) (z .args .p) (z .args .q) (z .pre .1) (z .pre .2) (c .before .before .before .before .planned .result) (c .before .before .before .before .planned .ensures) (length (z .args .room .now)) (c .before .before .before .if1 .left) in
     (l, omega (arith, c .before .before .if2 .left), omega (arith, bounds (z .args .s) (z .pre .0) .device-most))
 
 returns : tie.Need-returns
 returns c =
     let z = c .before .before .before .before in
-    let a = late-is (z .args .s) (z .args .p) (z .args .q) (z .pre .1) (c .before .before .planned .result) (c .before .before .planned .ensures) (length (z .args .room .now)) (c .before .if1 .taken) in
+    let a = late-is (z .args .s) (z .args .p) (z .args .q) (z .pre .1) (z .pre .2) (c .before .before .planned .result) (c .before .before .planned .ensures) (length (z .args .room .now)) (c .before .if1 .taken) in
     let h = refused-keeps (z .args .s) (z .args .p) _ _ (z .args .room .now) a in
     (c .refused .ensures .0 ∙ sym a, (c .refused .ensures .1 ∙ h .0, h .1))
 
 returns-2 : tie.Need-returns-2
 returns-2 c =
     let z = c .before .before .before .before .before in
-    let a = full-is (z .args .s) (z .args .p) (z .args .q) (z .pre .1) (c .before .before .before .planned .result) (c .before .before .before .planned .ensures) (length (z .args .room .now)) (c .before .before .if1 .left) (c .before .if2 .taken) in
+    let a = full-is (z .args .s) (z .args .p) (z .args .q) (z .pre .1) (z .pre .2) (c .before .before .before .planned .result) (c .before .before .before .planned .ensures) (length (z .args .room .now)) (c .before .before .if1 .left) (c .before .if2 .taken) in
     let h = refused-keeps (z .args .s) (z .args .p) _ _ (z .args .room .now) a in
     (c .refused2 .ensures .0 ∙ sym a, (c .refused2 .ensures .1 ∙ h .0, h .1))
 
@@ -39,10 +39,10 @@ returns-3 c =
     let k = c .before .before .before .before .before .before .before .before .planned in
     let n = length (z .args .room .now) in
     let w = c .before .before .before .before .before .before .if2 .left in (
-      sym (made-is (z .args .s) (z .args .p) (z .args .q) (z .pre .1) (k .result) (k .ensures) n (c .before .before .before .before .before .before .before .if1 .left) w),
+      sym (made-is (z .args .s) (z .args .p) (z .args .q) (z .pre .1) (z .pre .2) (k .result) (k .ensures) n (c .before .before .before .before .before .before .before .if1 .left) w),
       (
-        next-is (z .args .s) (z .args .p) (z .args .q) (z .pre .1) (k .result) (k .ensures) n (c .before .before .before .before .before .before .before .if1 .left) w,
-        c .before .before .before .put-list .ensures ∙ ap (λ r. splice (z .args .room .now) 0 (listBytes (z .args .s) r)) (records-are (z .args .s) (z .args .p) (z .args .q) (z .pre .1) (k .result) (k .ensures) n (c .before .before .before .before .before .before .before .if1 .left) w),
+        next-is (z .args .s) (z .args .p) (z .args .q) (z .pre .1) (z .pre .2) (k .result) (k .ensures) n (c .before .before .before .before .before .before .before .if1 .left) w,
+        c .before .before .before .put-list .ensures ∙ ap (λ r. splice (z .args .room .now) 0 (listBytes (z .args .s) r)) (records-are (z .args .s) (z .args .p) (z .args .q) (z .pre .1) (z .pre .2) (k .result) (k .ensures) n (c .before .before .before .before .before .before .before .if1 .left) w),
       ),
     )
 

@@ -5,10 +5,10 @@ use Rattle.plan_by_value.proofs.drafts.more.Statement.{statement}
 use Rattle.plan_by_value.proofs.drafts.more.Tie as tie
 
 returns : tie.Need-returns
-returns c = rw (lt-ltb (c .before .args .n) 34 (c .if1 .taken))
+returns c = rw (lt-ltb (c .before .args .n) 32 (c .if1 .taken))
 
 returns-2 : tie.Need-returns-2
-returns-2 c = rw (le-ltb (c .before .args .n) 34 (c .if1 .left))
+returns-2 c = rw (le-ltb (c .before .args .n) 32 (c .if1 .left))
 
 pub more-spec : {M : Type 1} → statement M
 more-spec = tie.close (tie.spec (λ c. search needs) returns returns-2)

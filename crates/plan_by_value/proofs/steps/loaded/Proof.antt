@@ -7,7 +7,7 @@ use borrow.Author.Needs.{needs}
 use Rattle.plan_by_value.proofs.steps.loaded.Statement.{statement}
 use Rattle.plan_by_value.proofs.steps.loaded.Tie as tie
 
-long : (c : tie.Start) → length (c .args .d .list) ≡ 34
+long : (c : tie.Start) → length (c .args .d .list) ≡ 32
 long c = search (length-of-map, c .good .1 .1 .1 .0)
 
 returns : tie.Need-returns

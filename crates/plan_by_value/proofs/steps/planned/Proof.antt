@@ -27,7 +27,12 @@ returns-4 c =
 returns-5 : tie.Need-returns-5
 unfolding planned stepsOf
 returns-5 c =
-    rw (c .before .enum-told2 .given .1) (c .planned-drain .ensures _ (c .before .before .before .start .ensures (c .before .before .before .before .args .s) (c .before .before .before .before .pre)))
+    rw (c .before .enum-told2 .given .1) (c .planned-flush .ensures _ (c .before .before .before .start .ensures (c .before .before .before .before .args .s) (c .before .before .before .before .pre)))
+
+returns-6 : tie.Need-returns-6
+unfolding planned stepsOf
+returns-6 c =
+    rw (c .before .enum-told3 .given .1) (c .planned-close .ensures _ (c .before .before .before .start .ensures (c .before .before .before .before .args .s) (c .before .before .before .before .pre)))
 
 pub planned-spec : {M : Type 1} → statement M
-planned-spec = tie.close (tie.spec (λ c κs. search needs) (λ c. search needs) (λ c κs. search needs) (λ c. search needs) (λ c κs. search needs) (λ c. search needs) (λ c κs. search needs) (λ c. search needs) (λ c κs. search needs) (λ c. search needs) (λ c κs. search needs) returns returns-2 returns-3 returns-4 returns-5)
+planned-spec = tie.close (tie.spec (λ c κs. search needs) (λ c. search needs) (λ c κs. search needs) (λ c. search needs) (λ c κs. search needs) (λ c. search needs) (λ c κs. search needs) (λ c. search needs) (λ c κs. search needs) (λ c. search needs) (λ c κs. search needs) (λ c. search needs) (λ c κs. search needs) returns returns-2 returns-3 returns-4 returns-5 returns-6)
