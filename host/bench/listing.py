@@ -1,5 +1,5 @@
 #!/usr/bin/env python3
-"""The listing of document 01 ("Bench runs") a second time, written from documents 01 and 02 (a) alone, so that what the runs are
+"""The listing of document 01 ("Bench runs") a second time, written from documents 01 and 02 (a, d) alone, so that what the runs are
 held to does not come from the program that they test. Nothing of it is proved, and no build needs it.
 
   listing.py            the listing of standard input
@@ -111,8 +111,8 @@ class Planner:
 
     def request(self, r):
         kind, bank, row, column, mask = r[0], r[1], r[2] + 256 * r[3], r[4], r[6] + 256 * r[7]
-        used = {0: {0, 1, 2, 3, 4}, 1: set(range(24)) - {5}, 2: {0}, 3: {0, 8, 9, 10, 11}, 4: {0}}
-        if kind > 4:
+        used = {0: {0, 1, 2, 3, 4}, 1: set(range(24)) - {5}, 2: {0}, 3: {0, 8, 9, 10, 11}, 4: {0}, 5: {0}}
+        if kind > 5:
             return 2
         if any(r[i] for i in range(24) if i not in used[kind]):
             return 3
@@ -123,6 +123,8 @@ class Planner:
                 return 5
             if column >= COLUMNS:
                 return 6
+        if kind == 5 and self.writes:
+            return 15
         lines = []
         if kind < 2:
             self.reach(bank, row, lines)
@@ -143,8 +145,9 @@ class Planner:
             self.now += int.from_bytes(r[8:12], 'little')
             if self.now > HORIZON:
                 return 7
-        else:
+        elif kind == 4:
             self.retire_while(lambda writes: writes, lines)
+        else:
             self.close(range(32), lines)
         return lines
 
@@ -178,12 +181,14 @@ def largest():
     for i in range(2730):
         r = bytearray(24)
         pick = below(32)
-        if i % 300 < 16:  # every other bank opened and two writes, so that a drain has the most to do
+        if i % 300 < 16:  # every other bank opened and two writes, so that flush and close have the most to do
             r[0], r[1] = 0, 2 * (i % 300)
         elif i % 300 < 18:
             r[0], r[1], r[4], r[6] = 1, 30, below(4), below(256)
-        elif i % 300 == 18 or pick == 31:
-            r[0] = 4
+        elif i % 300 < 20:
+            r[0] = 4 + i % 300 - 18
+        elif pick == 31:
+            r[0] = 4 + below(2)
         elif pick < 28:
             r[0], r[1], r[2], r[4] = pick % 2, below(33), below(32) // 15, below(33) // 8
             if r[0]:
@@ -194,7 +199,7 @@ def largest():
         elif pick == 29:
             r[0] = 2
         else:
-            r[below(24)] = 5
+            r[below(24)] = 6
         out += bytes(r)
     return out
 

@@ -48,9 +48,9 @@ extern "C" {
 
 /*
  * The most records that one request makes under any core form: room for so many is enough. Where banks
- * have neighbours it is 18.
+ * have neighbours it is 16.
  */
-#define RDRAM_REQUEST_RECORDS 34
+#define RDRAM_REQUEST_RECORDS 32
 
 /*
  * Planner, 768 bytes: the state of a planner between two requests. A program need not look inside;
@@ -110,7 +110,7 @@ enum rdram_kind { RDRAM_KIND_ROW = 0, RDRAM_KIND_COL = 1, RDRAM_KIND_D = 2 };
 /* Kinds of request. */
 enum rdram_request {
     RDRAM_REQUEST_READ = 0, RDRAM_REQUEST_WRITE = 1, RDRAM_REQUEST_REFRESH = 2,
-    RDRAM_REQUEST_WAIT = 3, RDRAM_REQUEST_DRAIN = 4
+    RDRAM_REQUEST_WAIT = 3, RDRAM_REQUEST_FLUSH = 4, RDRAM_REQUEST_CLOSE = 5
 };
 
 /* What a record that a model took did. */
@@ -123,20 +123,22 @@ enum rdram_event {
 /* Answer numbers. */
 enum rdram_refusal {
     RDRAM_OK = 0,
-    RDRAM_REFUSED_SETTINGS = 1,  /* settings, planner, model or meter: length, or out of range */
-    RDRAM_REFUSED_KIND = 2,      /* request kind too high */
-    RDRAM_REFUSED_SPARE = 3,     /* a request byte that its kind does not use is not 0 */
-    RDRAM_REFUSED_BANK = 4,      /* bank above 31 */
-    RDRAM_REFUSED_ROW = 5,       /* row not below rows */
-    RDRAM_REFUSED_COLUMN = 6,    /* column not below columns */
-    RDRAM_REFUSED_HORIZON = 7,   /* an instant would pass 1,000,000,000, or is below 4 */
-    RDRAM_REFUSED_FULL = 8,      /* too little room in the buffer for the answer */
-    RDRAM_REFUSED_STORE = 9,     /* wrong store length */
-    RDRAM_REFUSED_WORD = 10,     /* a packet, word or record that has no coding */
-    RDRAM_REFUSED_RULE = 11,     /* a record breaks one of the sixteen rules */
-    RDRAM_REFUSED_BLOCK = 12,    /* a damaged or misplaced block */
-    RDRAM_REFUSED_LENGTH = 13,   /* not whole requests, records or blocks */
-    RDRAM_REFUSED_OVERLAP = 16   /* a data instant less than 4 after the newest */
+    RDRAM_REFUSED_SETTINGS = 1,   /* settings, planner, model or meter: length, or out of range */
+    RDRAM_REFUSED_KIND = 2,       /* request kind too high */
+    RDRAM_REFUSED_SPARE = 3,      /* a request byte that its kind does not use is not 0 */
+    RDRAM_REFUSED_BANK = 4,       /* bank above 31 */
+    RDRAM_REFUSED_ROW = 5,        /* row not below rows */
+    RDRAM_REFUSED_COLUMN = 6,     /* column not below columns */
+    RDRAM_REFUSED_HORIZON = 7,    /* an instant would pass 1,000,000,000, or is below 4 */
+    RDRAM_REFUSED_FULL = 8,       /* too little room in the buffer for the answer */
+    RDRAM_REFUSED_STORE = 9,      /* wrong store length */
+    RDRAM_REFUSED_WORD = 10,      /* a packet, word or record that has no coding */
+    RDRAM_REFUSED_RULE = 11,      /* a record breaks one of the sixteen rules */
+    RDRAM_REFUSED_BLOCK = 12,     /* a damaged or misplaced block */
+    RDRAM_REFUSED_LENGTH = 13,    /* not whole requests, records or blocks */
+    RDRAM_REFUSED_INDEX = 14,     /* an index that differs from its log */
+    RDRAM_REFUSED_UNRETIRED = 15, /* a close while a write waits */
+    RDRAM_REFUSED_OVERLAP = 16    /* a data instant less than 4 after the newest */
 };
 
 typedef struct { uint32_t number; uint64_t word; } rdram_word;
@@ -313,7 +315,8 @@ uint32_t rdram_planner_fresh(uint8_t *planner, size_t planner_len);
  *   refresh  PRER as for read, about the refresh bank; REFA and REFP to it. The refresh bank
  *            rises, modulo 32.
  *   wait     No packet: now rises by the cycles.
- *   drain    NOCOP while a write waits, then PRER to each open bank, in rising order.
+ *   flush    NOCOP while a write waits. Rows stay open.
+ *   close    PRER to each open bank, in rising order. No write may wait.
  *
  * NOCOPs stand before a PRER while it would close the bank of a waiting write. Now is the instant
  * of the latest packet, and what waits add to it. Data bytes alter no instant and no word.
@@ -325,11 +328,12 @@ uint32_t rdram_planner_fresh(uint8_t *planner, size_t planner_len);
  *       refresh, or data are due. Pass the bytes that the last call left, with the same settings,
  *       or a fresh planner.
  *   13  request_len is not 24: pass one whole request.
- *    2  the kind is above 4: correct the kind.
+ *    2  the kind is above 5: correct the kind.
  *    3  a byte that the kind does not use is not 0: clear it.
  *    4  bank above 31: correct the bank.
  *    5  the row is not below rows: correct the row.
  *    6  the column is not below columns: correct the column.
+ *   15  a close while a write waits: send a flush first.
  *    7  a packet, its data or now would pass 1,000,000,000: the run is at its end. Go on with a
  *       fresh planner, or wait for fewer cycles.
  *    8  room has fewer whole records than needed: pass a longer room. A request that makes no
@@ -363,7 +367,7 @@ uint32_t rdram_model_fresh(uint8_t *model, size_t model_len);
  *            bank 31. The store is not read or written.
  *
  * Fed with the records of all accepted calls of rdram_plan, a model reads what an array of the
- * store's size would that each write sets at once, and after a drain the store is that array.
+ * store's size would that each write sets at once, and after a flush the store is that array.
  *
  * Refusals, in this order:
  *    1  settings: correct the settings bytes. Or model is not 792 bytes, or no state under these

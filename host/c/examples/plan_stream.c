@@ -30,7 +30,7 @@ int main(void)
     /* kind, bank, row 2, column, 0, mask 2, data 16 */
     static const uint8_t requests[][RDRAM_REQUEST_BYTES] = {
         {RDRAM_REQUEST_READ, 0, 0, 0, 1}, {RDRAM_REQUEST_WRITE, 0, 0, 0, 1, 0, 3, 0, 0xAA, 0xBB},
-        {RDRAM_REQUEST_READ, 0, 0, 0, 1}, {RDRAM_REQUEST_READ, 1}, {RDRAM_REQUEST_DRAIN}};
+        {RDRAM_REQUEST_READ, 0, 0, 0, 1}, {RDRAM_REQUEST_READ, 1}, {RDRAM_REQUEST_FLUSH}, {RDRAM_REQUEST_CLOSE}};
     uint8_t planner[RDRAM_PLANNER_BYTES], room[RDRAM_REQUEST_RECORDS * RDRAM_RECORD_BYTES];
     uint64_t records = 0;
     rdram_planner_fresh(planner, sizeof planner);

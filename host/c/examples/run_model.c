@@ -24,11 +24,11 @@ static uint8_t *place(uint8_t *of, const uint8_t *request)
     return of + RDRAM_DUALOCT_BYTES * ((request[1] * ROWS + request[2]) * COLUMNS + request[4]);
 }
 
-/* A read, a write with any mask and data, now and then a refresh; the last one drains. */
+/* A read, a write with any mask and data, now and then a refresh; the last one is a flush. */
 static void make(uint8_t *request, int i)
 {
     memset(request, 0, RDRAM_REQUEST_BYTES);
-    request[0] = i == REQUESTS - 1 ? RDRAM_REQUEST_DRAIN : i % 16 == 0 ? RDRAM_REQUEST_REFRESH : (uint8_t)(rand() % 2);
+    request[0] = i == REQUESTS - 1 ? RDRAM_REQUEST_FLUSH : i % 16 == 0 ? RDRAM_REQUEST_REFRESH : (uint8_t)(rand() % 2);
     if (request[0] > RDRAM_REQUEST_WRITE)
         return;
     request[1] = (uint8_t)(rand() % 32);

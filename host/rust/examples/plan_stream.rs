@@ -31,7 +31,14 @@ fn main() -> Result<(), Refusal> {
         mask: 3,
         data: [0xAA; 16],
     };
-    let stream = [read(0, 1), write, read(0, 1), read(1, 0), Request::Drain];
+    let stream = [
+        read(0, 1),
+        write,
+        read(0, 1),
+        read(1, 0),
+        Request::Flush,
+        Request::Close,
+    ];
     let (mut planner, mut records) = (Planner::fresh(), 0);
     for request in &stream {
         let mut room = [0; rdram::REQUEST_RECORDS * RECORD_BYTES];

@@ -20,10 +20,10 @@ impl Numbers {
     }
 }
 
-/// A read, a write with any mask and data, now and then a refresh; the last one drains.
+/// A read, a write with any mask and data, now and then a refresh; the last one is a flush.
 fn request(i: u32, numbers: &mut Numbers) -> Request {
     if i == REQUESTS - 1 {
-        return Request::Drain;
+        return Request::Flush;
     }
     if i % 16 == 0 {
         return Request::Refresh;
@@ -90,7 +90,7 @@ fn main() -> Result<(), Refusal> {
             }
         }
     }
-    assert!(store == array, "after the drain the store is the array");
+    assert!(store == array, "after the flush the store is the array");
     println!("{reads} reads and {bytes} retired bytes: model and array are the same");
     Ok(())
 }

@@ -43,8 +43,8 @@ pub const BLOCK_BYTES: usize = 512;
 pub const BLOCK_RECORDS: usize = 15;
 /// Bytes of a request.
 pub const REQUEST_BYTES: usize = 24;
-/// Most records of a request under any core form; 18 where banks have neighbours.
-pub const REQUEST_RECORDS: usize = 34;
+/// Most records of a request under any core form; 16 where banks have neighbours.
+pub const REQUEST_RECORDS: usize = 32;
 /// Bytes of a planner.
 pub const PLANNER_BYTES: usize = 768;
 /// Bytes of a model.

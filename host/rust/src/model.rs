@@ -28,7 +28,7 @@ pub enum Event {
 /// let requests = [
 ///     Request::Write { bank: 3, row: 1, column: 2, mask: 0x8001, data: [9; 16] },
 ///     Request::Read { bank: 3, row: 1, column: 2 },
-///     Request::Drain,
+///     Request::Flush,
 /// ];
 /// let (mut planner, mut model) = (Planner::fresh(), Model::fresh());
 /// let mut store = vec![0; settings.store_bytes()];

@@ -26,8 +26,10 @@ pub enum Request {
     Wait {
         cycles: u32,
     },
-    /// The waiting writes are retired and every bank closed.
-    Drain,
+    /// The waiting writes are retired; rows stay open.
+    Flush,
+    /// Every open bank is closed. No write may wait: send a flush first.
+    Close,
 }
 
 impl Request {
@@ -60,7 +62,8 @@ impl Request {
                 bytes[0] = 3;
                 bytes[8..12].copy_from_slice(&cycles.to_le_bytes());
             }
-            Request::Drain => bytes[0] = 4,
+            Request::Flush => bytes[0] = 4,
+            Request::Close => bytes[0] = 5,
         }
         bytes
     }
@@ -82,7 +85,8 @@ fn place(bytes: &mut [u8; REQUEST_BYTES], kind: u8, bank: u8, row: u16, column: 
 /// let requests = [
 ///     Request::Read { bank: 15, row: 0, column: 0 },
 ///     Request::Write { bank: 16, row: 1, column: 3, mask: 0x00FF, data: [9; 16] },
-///     Request::Drain,
+///     Request::Flush,
+///     Request::Close,
 /// ];
 /// let (mut planner, mut list) = (Planner::fresh(), Vec::new());
 /// for request in &requests {
@@ -90,7 +94,7 @@ fn place(bytes: &mut [u8; REQUEST_BYTES], kind: u8, bank: u8, row: u16, column: 
 ///     let records = planner.plan(&settings, request, &mut room)?;
 ///     list.extend_from_slice(&room[..records * RECORD_BYTES]);
 /// }
-/// // ACT RD, ACT WR D, NOCOP PRER PRER
+/// // ACT RD, ACT WR D, NOCOP, PRER PRER
 /// assert_eq!(list.len(), 8 * RECORD_BYTES);
 /// assert_eq!(check(&settings, &list), Ok(()));
 /// # Ok::<(), rdram::Refusal>(())
@@ -150,8 +154,9 @@ impl Planner {
     ///
     /// Refused, in this order, with planner and room unchanged: [`Refusal::Settings`], also for a
     /// planner of bytes that are no state; [`Refusal::Bank`], [`Refusal::Row`] and
-    /// [`Refusal::Column`] for a read or write; [`Refusal::Horizon`] where an instant would pass
-    /// 1,000,000,000; [`Refusal::Full`] for a room of fewer whole records than needed.
+    /// [`Refusal::Column`] for a read or write; [`Refusal::Unretired`] for a close while a write
+    /// waits; [`Refusal::Horizon`] where an instant would pass 1,000,000,000; [`Refusal::Full`] for a
+    /// room of fewer whole records than needed.
     ///
     /// [`REQUEST_RECORDS`]: crate::REQUEST_RECORDS
     ///
@@ -175,6 +180,11 @@ impl Planner {
     /// }
     /// // Two writes wait, the newer one to the place that is read: NOCOP, NOCOP, RD.
     /// assert_eq!(planner.plan(&settings, &read, &mut room), Ok(3));
+    /// // A write waits again: flush, then close.
+    /// assert_eq!(planner.plan(&settings, &write, &mut room), Ok(2));
+    /// assert_eq!(planner.plan(&settings, &Request::Close, &mut room), Err(Refusal::Unretired));
+    /// assert_eq!(planner.plan(&settings, &Request::Flush, &mut room), Ok(1));
+    /// assert_eq!(planner.plan(&settings, &Request::Close, &mut room), Ok(1));
     /// ```
     pub fn plan(
         &mut self,
@@ -188,7 +198,7 @@ impl Planner {
     /// [`Planner::plan`] for a request of bytes, as [`Request::to_bytes`] writes them.
     ///
     /// Refused as there, and after the settings: [`Refusal::Length`] for a request that is not 24
-    /// bytes, [`Refusal::Kind`] for a kind above 4, [`Refusal::Spare`] for a byte that the kind
+    /// bytes, [`Refusal::Kind`] for a kind above 5, [`Refusal::Spare`] for a byte that the kind
     /// does not use and that is not 0.
     ///
     /// ```

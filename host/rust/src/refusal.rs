@@ -9,7 +9,7 @@ pub enum Refusal {
     /// 1: a figure of the settings is outside its range, or the bytes of a planner or a model are
     /// no state under these settings, or those of a meter are no meter.
     Settings,
-    /// 2: a request kind above 4.
+    /// 2: a request kind above 5.
     Kind,
     /// 3: a byte of a request that its kind does not use is not 0.
     Spare,
@@ -42,6 +42,8 @@ pub enum Refusal {
     /// 14: an index differs from its log. `place` is the first word that is wrong, missing or surplus,
     /// from 0.
     Index { place: u64 },
+    /// 15: a close while a write waits.
+    Unretired,
     /// 16: an instant that is fed to a meter is less than 4 after the newest.
     Overlap,
     /// A number that this crate does not know: crate and archive are of different versions.
@@ -66,6 +68,7 @@ impl Refusal {
             Refusal::Block { .. } => 12,
             Refusal::Length => 13,
             Refusal::Index { .. } => 14,
+            Refusal::Unretired => 15,
             Refusal::Overlap => 16,
             Refusal::Other { number } => number,
         }
@@ -124,6 +127,7 @@ impl Refusal {
             7 => Refusal::Horizon,
             8 => Refusal::Full,
             13 => Refusal::Length,
+            15 => Refusal::Unretired,
             number => Refusal::Other { number },
         }
     }
@@ -211,7 +215,7 @@ impl fmt::Display for Refusal {
                 "a figure of the settings or of the planner, model or meter is outside its range; \
                  correct the settings, or go on from a state that the library made under them",
             ),
-            Refusal::Kind => f.write_str("a request's kind is above 4; correct the kind"),
+            Refusal::Kind => f.write_str("a request's kind is above 5; correct the kind"),
             Refusal::Spare => f.write_str(
                 "a byte of a request that its kind does not use is not 0; clear that byte",
             ),
@@ -263,6 +267,9 @@ impl fmt::Display for Refusal {
                 f,
                 "word {place} (from 0) of the index is wrong, missing or surplus; \
                  make the index of this log afresh"
+            ),
+            Refusal::Unretired => f.write_str(
+                "a write waits, and a close would lose it; send a flush first, then the close",
             ),
             Refusal::Overlap => f.write_str(
                 "an instant is less than 4 after the newest; \

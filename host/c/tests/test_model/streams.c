@@ -20,7 +20,7 @@ static uint8_t room[RDRAM_REQUEST_RECORDS * RECORD];
 
 static void any_request(void)
 {
-    static const uint8_t KINDS[] = {0, 0, 0, 0, 1, 1, 1, 1, 2, 3, 4};
+    static const uint8_t KINDS[] = {0, 0, 0, 0, 1, 1, 1, 1, 2, 3, 4, 5};
     memset(request, 0, sizeof request);
     request[0] = KINDS[random_below(sizeof KINDS)];
     if (request[0] == RDRAM_REQUEST_WAIT)
@@ -78,7 +78,7 @@ void test_whole_runs(void)
             any_request();
             if (requests == 100) {
                 memset(request, 0, sizeof request);
-                request[0] = RDRAM_REQUEST_DRAIN;
+                request[0] = RDRAM_REQUEST_FLUSH;
             }
             rdram_planned made = rdram_plan(settings, sizeof settings, planner, sizeof planner, request, sizeof request,
                                             room, sizeof room);
@@ -87,6 +87,7 @@ void test_whole_runs(void)
                 continue;
             feed_array();
             ok &= records_right(made.records);
+            ok &= request[0] != RDRAM_REQUEST_FLUSH || store_right();
         }
         check(ok && store_right(), "run %u against an array", runs);
     }

@@ -16,10 +16,10 @@ void put_data(uint8_t *to, unsigned n)
 
 void use_request(const char *text)
 {
-    static const char *const NAMES[] = {"read", "write", "refresh", "wait", "drain"};
+    static const char *const NAMES[] = {"read", "write", "refresh", "wait", "flush", "close"};
     unsigned bank = 0, row = 0, column = 0, mask = 0;
     char name[8] = "";
-    sscanf(text, "%7s %u %u %u %x", name, &bank, &row, &column, &mask);
+    sscanf(text, " %7[a-z] %u %u %u %x", name, &bank, &row, &column, &mask);
     memset(request, 0, sizeof request);
     while (strcmp(NAMES[request[0]], name) != 0)
         request[0]++;

@@ -28,6 +28,7 @@ int main(void)
     test_lengths();
     test_settings();
     test_null_pointers();
+    test_unretired();
     test_horizon();
     test_cores();
     test_most_records();

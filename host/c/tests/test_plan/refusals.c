@@ -12,13 +12,15 @@ void test_requests(void)
         {6, "read 0 0 4"}, {6, "write 31 1 255 0"},
         /* several faults: the first of 3, 4, 5, 6 */
         {3, "read 32 2 4 1"}, {4, "read 32 2 4"}, {5, "read 31 2 4"},
-        {3, "refresh 1"}, {3, "refresh 32"}, {3, "drain 0 0 1"}};
+        {3, "refresh 1"}, {3, "refresh 32"}, {3, "flush 0 0 1"}, {3, "close 32"},
+        /* the write waits: after 2 to 6, before the horizon and the room */
+        {15, "close"}};
     for (size_t i = 0; i < COUNT(PLACES); i++) {
         use_request(PLACES[i].text);
         check(refuses(PLACES[i].number, PLANNER, REQUEST, ROOM), "refusal %" PRIu32 ": %s", PLACES[i].number,
               PLACES[i].text);
     }
-    for (int kind = 5; kind < 256; kind++) {
+    for (int kind = 6; kind < 256; kind++) {
         use_request("read 0 0 0");
         request[0] = (uint8_t)kind;
         request[23] = (uint8_t)kind; /* the kind before the spare bytes */
@@ -37,9 +39,9 @@ static int uses(int kind, int byte)
 
 void test_spare_bytes(void)
 {
-    static const char *const KINDS[] = {"read 0 0 0", "write 0 0 0 1", "refresh", "wait 1", "drain"};
+    static const char *const KINDS[] = {"read 0 0 0", "write 0 0 0 1", "refresh", "wait 1", "flush", "close"};
     begin();
-    for (int kind = 0; kind <= RDRAM_REQUEST_DRAIN; kind++)
+    for (int kind = 0; kind <= RDRAM_REQUEST_CLOSE; kind++)
         for (int byte = 0; byte < REQUEST; byte++)
             if (!uses(kind, byte)) {
                 use_request(KINDS[kind]);
@@ -63,7 +65,7 @@ void test_lengths(void)
             ok &= refuses(RDRAM_REFUSED_SETTINGS, length, REQUEST, ROOM);
     check(ok, "planners of another length");
     check(refuses(RDRAM_REFUSED_SETTINGS, PLANNER - 1, REQUEST - 1, 0), "the planner before the request");
-    request[0] = 5;
+    request[0] = 6;
     check(refuses(RDRAM_REFUSED_LENGTH, PLANNER, REQUEST - 1, 0), "the length before the kind");
 }
 
@@ -77,7 +79,7 @@ static int refused_by_settings(const uint8_t *bytes, size_t length)
 void test_settings(void)
 {
     begin();
-    use_request("drain");
+    use_request("close");
     for (int figure = 0; figure < 16; figure++) {
         use_bad_figure(figure);
         check(refused_by_settings(settings, sizeof settings), "settings number %d", figure);
@@ -90,7 +92,7 @@ void test_settings(void)
 void test_null_pointers(void)
 {
     begin();
-    use_request("drain");
+    use_request("close");
     remember();
     rdram_planned made = rdram_plan(settings, sizeof settings, planner, PLANNER, request, REQUEST, NULL, 0);
     check(made.number == 0 && made.records == 0, "null room for no record");
@@ -98,6 +100,25 @@ void test_null_pointers(void)
     check(made.number == RDRAM_REFUSED_LENGTH && made.records == 0, "null request");
     made = rdram_plan(settings, sizeof settings, NULL, 0, request, REQUEST, NULL, 0);
     check(made.number == RDRAM_REFUSED_SETTINGS && made.records == 0, "null planner");
+}
+
+/* A close while one write waits, or two, whatever the room and the instant; a flush, and then a close, are accepted. */
+void test_unretired(void)
+{
+    static const char *const WRITES[] = {
+        "write 0 0 0 0003", "write 0 0 0 0003, write 0 0 1 0006", "write 0, read 9", "wait 999999989, write 31 1 3 0001"};
+    for (size_t i = 0; i < COUNT(WRITES); i++) {
+        check(plan_all(WRITES[i]), "%s", WRITES[i]);
+        use_request("close");
+        int ok = refuses(RDRAM_REFUSED_UNRETIRED, PLANNER, REQUEST, ROOM);
+        check(ok && refuses(RDRAM_REFUSED_UNRETIRED, PLANNER, REQUEST, 0), "close after: %s", WRITES[i]);
+        if (i < 3)
+            check(plan_more("flush, close, flush, close") && list_passes(), "flush and close after: %s", WRITES[i]);
+    }
+    use_request("close 0 0 0 1");
+    check(refuses(RDRAM_REFUSED_SPARE, PLANNER, REQUEST, ROOM), "spare before unretired");
+    use_request("flush");
+    check(refuses(RDRAM_REFUSED_HORIZON, PLANNER, REQUEST, ROOM), "a flush past the last instant");
 }
 
 /* After a wait of so many cycles the request is accepted, and after one more refused. */

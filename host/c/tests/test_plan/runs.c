@@ -29,7 +29,7 @@ static void test_list(const run *run)
 void test_runs(void)
 {
     static const run RUNS[] = {
-        {"read 0 0 1, write 0 0 1 0003, read 0 0 1, read 1 0 0, drain",
+        {"read 0 0 1, write 0 0 1 0003, read 0 0 1, read 1 0 0, flush, close",
          "4 ACT 0 0, 13 RD 0 1, 19 WR 0 1, 25 D, 27 NOCOP 0 0 0003, 31 RD 0 1, 35 PRER 0, 43 ACT 1 0, 52 RD 1 0, "
          "63 PRER 1"},
         {"read 15, read 16", "4 ACT 15, 13 RD 15, 13 ACT 16, 22 RD 16"},
@@ -38,15 +38,15 @@ void test_runs(void)
         {"refresh, refresh", "4 REFA 0, 24 REFP 0, 32 REFA 1, 52 REFP 1"},
         {"write 0 0 0 0003, write 0 0 0 0006", "4 ACT 0, 5 WR 0 0, 11 D, 9 WR 0 0, 15 D"},
         {"read 31 1 3", "4 ACT 31 1, 13 RD 31 3"},
-        {"write 0 0 0 0000, drain", "4 ACT 0, 5 WR 0, 11 D, 13 NOCOP 0 0 0000, 24 PRER 0"},
+        {"write 0 0 0 0000, flush, close", "4 ACT 0, 5 WR 0, 11 D, 13 NOCOP 0 0 0000, 24 PRER 0"},
         /* Another column, and another bank: reads pass the buffer. */
-        {"write 0 0 1 0003, read 0 0 2, read 2 0 1, drain",
+        {"write 0 0 1 0003, read 0 0 2, read 2 0 1, flush, close",
          "4 ACT 0, 5 WR 0 1, 11 D, 13 RD 0 2, 13 ACT 2, 22 RD 2 1, 26 NOCOP 0 0 0003, 30 PRER 0, 38 PRER 2"},
         /* Open neighbours on both sides, one of them with the waiting write. */
         {"read 5, write 7 1 0 00F0, read 6",
          "4 ACT 5, 13 RD 5, 13 ACT 7 1, 19 WR 7 0, 25 D, 24 PRER 5, 27 NOCOP 0 0 00F0, 33 PRER 7, 41 ACT 6, 50 RD 6"},
-        /* A drain retires first, also where the write's bank is not the lowest. */
-        {"read 0, write 2 0 0 0100, drain",
+        /* Flush and close: also where the write's bank is not the lowest. */
+        {"read 0, write 2 0 0 0100, flush, close",
          "4 ACT 0, 13 RD 0, 13 ACT 2, 19 WR 2, 25 D, 27 NOCOP 0 0 0100, 27 PRER 0, 35 PRER 2"},
         /* Two writes wait: reads of the older's dualoct, of the newer's, and of another bank. */
         {"write 0 0 0 0003, write 0 0 1 0006, read 0 0 0, read 0 0 1",
@@ -65,17 +65,17 @@ void test_runs(void)
         {"read 9, write 0 0 0 0003, write 0 0 1 0006, refresh",
          "4 ACT 9, 13 RD 9, 13 ACT 0, 19 WR 0, 25 D, 23 WR 0 1, 29 D, 27 NOCOP 0 0 0003, 31 NOCOP 0 0 0006, "
          "35 PRER 0, 43 REFA 0, 63 REFP 0"},
-        /* A drain first retires both. */
-        {"read 0, write 4 0 0 FFFF, write 4 0 0 0100, drain",
+        /* A flush retires both. */
+        {"read 0, write 4 0 0 FFFF, write 4 0 0 0100, flush, close",
          "4 ACT 0, 13 RD 0, 13 ACT 4, 19 WR 4, 25 D, 23 WR 4, 29 D, 27 NOCOP, 31 NOCOP 0 0 0100, 31 PRER 0, "
          "39 PRER 4"},
         /* A WR every tCC: from the third on each carries the mask of the last but one. */
         {"write 0 0 0 0003, write 0 0 1 0006, write 0 0 2 000C, write 0 0 3 0018",
          "4 ACT 0, 5 WR 0 0, 11 D, 9 WR 0 1, 15 D, 13 WR 0 2 0003, 19 D, 17 WR 0 3 0006, 23 D"},
-        {"read 15, read 16, drain", "4 ACT 15, 13 RD 15, 13 ACT 16, 22 RD 16, 24 PRER 15, 33 PRER 16"},
+        {"read 15, read 16, close", "4 ACT 15, 13 RD 15, 13 ACT 16, 22 RD 16, 24 PRER 15, 33 PRER 16"},
         /* A refresh closes as a read does. */
         {"read 1, refresh", "4 ACT 1, 13 RD 1, 24 PRER 1, 32 REFA 0, 52 REFP 0"},
-        {"wait 10, read 0, wait 0, wait 100, drain", "14 ACT 0, 23 RD 0, 123 PRER 0"},
+        {"wait 10, read 0, wait 0, wait 100, close", "14 ACT 0, 23 RD 0, 123 PRER 0"},
     };
     for (size_t i = 0; i < COUNT(RUNS); i++) {
         check(plan_all(RUNS[i].requests), "accepted: %s", RUNS[i].requests);
@@ -95,7 +95,7 @@ void test_timings(void)
         {4, 30, 4, 30, {"read 0, read 2", "4 ACT 0, 13 RD 0, 34 ACT 2, 43 RD 2"}}, /* tRR */
         {4, 30, 4, 30, {"refresh, read 9", "4 REFA 0, 24 REFP 0, 34 ACT 9, 43 RD 9"}},
         /* tPP */
-        {3, 40, 3, 40, {"read 0, read 2, drain", "4 ACT 0, 13 RD 0, 13 ACT 2, 22 RD 2, 24 PRER 0, 64 PRER 2"}},
+        {3, 40, 3, 40, {"read 0, read 2, close", "4 ACT 0, 13 RD 0, 13 ACT 2, 22 RD 2, 24 PRER 0, 64 PRER 2"}},
         /* tRCD below tRTR: a WR at the instant of its ACT */
         {5, 4, 6, 20, {"write 0 0 0 1, write 0 0 1 2", "4 ACT 0, 4 WR 0, 10 D, 8 WR 0 1, 14 D"}},
         /* tRTR above tCC twice: a third WR waits for the first write */
@@ -107,8 +107,8 @@ void test_timings(void)
         /* tRTR below tCWD: a retire before the instant of its D */
         {6, 4, 5, 4, {"write 0 0 0 1, read 0 0 0", "4 ACT 0, 4 WR 0, 10 D, 8 NOCOP 0 0 0001, 12 RD 0"}},
         {10, 12, 11, 1, {"read 0, write 0 0 0 1", "4 ACT 0, 13 RD 0, 28 WR 0, 29 D"}}, /* tCAC, tCWD */
-        {7, 30, 7, 30, {"read 0, drain", "4 ACT 0, 13 RD 0, 43 PRER 0"}}, /* tRDP */
-        {8, 30, 8, 30, {"write 0, drain", "4 ACT 0, 5 WR 0, 11 D, 13 NOCOP 0 0 0000, 43 PRER 0"}}, /* tRTP */
+        {7, 30, 7, 30, {"read 0, close", "4 ACT 0, 13 RD 0, 43 PRER 0"}}, /* tRDP */
+        {8, 30, 8, 30, {"write 0, flush, close", "4 ACT 0, 5 WR 0, 11 D, 13 NOCOP 0 0 0000, 43 PRER 0"}}, /* tRTP */
     };
     for (size_t i = 0; i < COUNT(RUNS); i++) {
         begin();
@@ -148,11 +148,11 @@ void test_cores(void)
         {2, {"read 1, refresh", "4 ACT 1, 13 RD 1, 13 REFA 0, 33 REFP 0"}},
         /* a write between two open neighbours, and another row of its own bank */
         {1,
-         {"read 15, read 17, write 16 1 2 0003, drain",
+         {"read 15, read 17, write 16 1 2 0003, flush, close",
           "4 ACT 15, 13 RD 15, 13 ACT 17, 22 RD 17, 24 PRER 15, 33 PRER 17, 41 ACT 16 1, 42 WR 16 2, 48 D, "
           "50 NOCOP 0 0 0003, 61 PRER 16"}},
         {2,
-         {"read 15, read 17, write 16 1 2 0003, drain",
+         {"read 15, read 17, write 16 1 2 0003, flush, close",
           "4 ACT 15, 13 RD 15, 13 ACT 17, 22 RD 17, 22 ACT 16 1, 28 WR 16 2, 34 D, 36 NOCOP 0 0 0003, 36 PRER 15, "
           "44 PRER 16, 52 PRER 17"}},
         {2, {"read 0, read 1, read 0 1",
@@ -166,10 +166,10 @@ void test_cores(void)
     }
 }
 
-/* As many open banks as may be and two waiting writes: two NOCOP, and a PRER for each bank. */
-static void test_longest_drain(unsigned core)
+/* As many open banks as may be: a PRER for each. Two waiting writes are flushed before. */
+static void test_longest_close(unsigned core)
 {
-    unsigned step = core == RDRAM_CORE_INDEPENDENT ? 1 : 2, most = core == RDRAM_CORE_INDEPENDENT ? 34 : 18;
+    unsigned step = core == RDRAM_CORE_INDEPENDENT ? 1 : 2, most = core == RDRAM_CORE_INDEPENDENT ? 32 : 16;
     char text[40];
     begin();
     use_core(core);
@@ -180,19 +180,25 @@ static void test_longest_drain(unsigned core)
     }
     use_request(text);
     check(accepts(2 * RECORD), "a second write");
-    use_request("drain");
+    use_request("close");
+    check(refuses(RDRAM_REFUSED_UNRETIRED, PLANNER, REQUEST, ROOM), "a close while two writes wait");
+    use_request("flush");
+    size_t before = records;
+    check(refuses(RDRAM_REFUSED_FULL, PLANNER, REQUEST, 2 * RECORD - 1), "a flush with too little room");
+    check(accepts(2 * RECORD) && records == before + 2 && accepts(0) && records == before + 2, "a flush, and another");
+    use_request("close");
     int ok = 1;
     for (size_t length = 0; length < most * RECORD; length++)
         ok &= refuses(RDRAM_REFUSED_FULL, PLANNER, REQUEST, length);
     check(ok, "rooms for fewer than %u records", most);
-    size_t before = records;
+    before = records;
     check(accepts(ROOM + 31) && records == before + most, "%u records", most);
     check(list_passes(), "they pass the check");
-    check(accepts(0) && records == before + most, "nothing left to drain");
+    check(accepts(0) && records == before + most, "nothing left to close");
 }
 
 void test_most_records(void)
 {
     for (unsigned core = 0; core < CORES; core++)
-        test_longest_drain(core);
+        test_longest_close(core);
 }

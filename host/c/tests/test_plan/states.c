@@ -23,13 +23,13 @@ void test_state(void)
     plan_all("read 0 0 1, write 0 0 1 0003");
     check(state_is(planner, PLANNER, WAITING, COUNT(WAITING)), "state with a waiting write");
     /* run 1 to its end: NOCOP 27, RD 31, PRER 0 at 35, ACT 1 at 43, RD 52, PRER 1 at 63 */
-    static const field DRAINED[] = {
+    static const field CLOSED[] = {
         AT(0, 4), AT(4, 43), AT(128, 4), AT(132, 43), AT(256, 35), AT(260, 63),
         AT(384, 31), AT(388, 52), AT(512, 27),
         AT(704, 63), AT(708, 63), AT(712, 52), AT(716, 63), AT(720, 52),
         AT(752, 63)};
-    plan_all("read 0 0 1, write 0 0 1 0003, read 0 0 1, read 1 0 0, drain");
-    check(state_is(planner, PLANNER, DRAINED, COUNT(DRAINED)), "state after run 1");
+    plan_all("read 0 0 1, write 0 0 1 0003, read 0 0 1, read 1 0 0, flush, close");
+    check(state_is(planner, PLANNER, CLOSED, COUNT(CLOSED)), "state after run 1");
     /* ACT 0 at 4, WR at 5, WR at 9 */
     static const field TWO_WAIT[] = {
         AT(0, 4), AT(128, 4), {640, 2, 1}, AT(704, 9), AT(708, 4), AT(712, 9),

@@ -64,6 +64,7 @@ void test_spare_bytes(void);
 void test_lengths(void);
 void test_settings(void);
 void test_null_pointers(void);
+void test_unretired(void);
 void test_horizon(void);
 
 #endif

@@ -7,7 +7,7 @@ use crate::lists::list_bytes;
 use crate::model_calls as model;
 use crate::plan_calls::{compare, Case, Run, Seen, ENOUGH};
 use crate::plan_runs::{listing, Requests};
-use crate::plan_streams::{bare, read, wait, write, DRAIN, REFRESH};
+use crate::plan_streams::{bare, read, wait, write, CLOSE, FLUSH, REFRESH};
 use crate::random::{bytes, set_h, with_core};
 use crate::reference::CORES;
 use crate::reference_plan::Planner;
@@ -100,7 +100,8 @@ fn runs() -> Vec<(Vec<u16>, Requests, Vec<&'static str>)> {
             read(5, 0, 0),
             read(7, 0, 0),
             write(6, 1, 2, 3, &[1; 16]),
-            bare(DRAIN),
+            bare(FLUSH),
+            bare(CLOSE),
         ]
     };
     vec![
@@ -147,7 +148,7 @@ fn runs() -> Vec<(Vec<u16>, Requests, Vec<&'static str>)> {
                 "33 REFP 0 0 -",
             ],
         ),
-        // Neighbours on both sides are closed, or stay open until the drain.
+        // Neighbours on both sides are closed, or stay open until the close.
         (
             vec![0, 1],
             two(),

@@ -46,6 +46,7 @@ impl FlatMemory {
                 }
                 None
             }
+            // Refresh, wait, flush and close.
             _ => None,
         }
     }

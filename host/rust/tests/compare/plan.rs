@@ -2,7 +2,7 @@
 
 use crate::plan_calls::{Run, Seen, ENOUGH};
 use crate::plan_streams::{
-    bare, most_banks, read, wait, write, Maker, DRAIN, READ, REFRESH, WAIT, WRITE,
+    bare, most_banks, read, wait, write, Maker, CLOSE, FLUSH, READ, REFRESH, WAIT, WRITE,
 };
 use crate::random::{rounds, set_h, with_core, Random};
 use crate::reference::{device_and_core, COLUMNS, CORES, ROWS};
@@ -37,7 +37,7 @@ fn random_streams() {
         run.check();
     }
     // 7 where damage made a long wait.
-    seen.report(name, &[0, 2, 3, 4, 5, 6, 7, 8, 13]);
+    seen.report(name, &[0, 2, 3, 4, 5, 6, 7, 8, 13, 15]);
     seen.all_kinds();
     settings_seen.report(name);
 }
@@ -53,7 +53,7 @@ fn long_streams() {
         assert_eq!(run.call(&mut seen, &wait(u32::MAX), 0), Err(7));
         run.check();
     }
-    seen.report("plan, long streams", &[0, 2, 3, 4, 5, 6, 7, 8, 13]);
+    seen.report("plan, long streams", &[0, 2, 3, 4, 5, 6, 7, 8, 13, 15]);
     seen.all_kinds();
 }
 
@@ -79,35 +79,46 @@ fn all_waiting(random: &mut Random, seen: &mut Seen, numbers: &[u16; 16]) -> Run
     run
 }
 
-/// The longest request: a drain with as many open banks and waiting writes as may be. It makes 18
-/// records where banks have neighbours, else 34.
-fn longest_drain(random: &mut Random, seen: &mut Seen, numbers: &[u16; 16], every_left: bool) {
-    let drain = bare(DRAIN);
-    let most = [18, 18, 34][usize::from(device_and_core(numbers).1)];
-    let run = all_waiting(random, seen, numbers);
-    let need = most - 2 + usize::from(run.state[WAITING]);
-    assert_eq!(need == most, numbers[T_CC] < numbers[T_RTR]);
-    for records in 0..need {
+/// The longest request: a close with as many open banks as may be. It makes 16 records where banks
+/// have neighbours, else 32. While a write waits it is refused, whatever else is wrong; a flush makes a
+/// record for each write.
+fn longest_close(random: &mut Random, seen: &mut Seen, numbers: &[u16; 16], every_left: bool) {
+    let (flush, close) = (bare(FLUSH), bare(CLOSE));
+    let most = [16, 16, 32][usize::from(device_and_core(numbers).1)];
+    let mut run = all_waiting(random, seen, numbers);
+    let waiting = usize::from(run.state[WAITING]);
+    assert_eq!(waiting, 1 + usize::from(numbers[T_CC] < numbers[T_RTR]));
+    assert_eq!(run.call(seen, &close, ENOUGH), Err(15));
+    assert_eq!(run.call(seen, &close, 0), Err(15));
+    at_the_end(random, seen, &run, &close, 1);
+    at_the_end(random, seen, &run, &flush, 100);
+    assert_eq!(run.call(seen, &flush, 32 * waiting - 1), Err(8));
+    assert_eq!(run.call(seen, &flush, 32 * waiting), Ok(waiting));
+    assert_eq!(run.call(seen, &flush, 0), Ok(0));
+    for records in 0..most {
         let room = 32 * records + random.below(32);
-        let refused = run.clone().call(seen, &drain, room);
+        let refused = run.clone().call(seen, &close, room);
         assert_eq!(refused, Err(8), "room for {records} records");
     }
-    let mut drained = run.clone();
-    assert_eq!(drained.call(seen, &drain, ENOUGH), Ok(need));
+    let mut closed = run.clone();
+    assert_eq!(closed.call(seen, &close, ENOUGH), Ok(most));
     // Nothing is open now.
-    assert_eq!(drained.call(seen, &drain, 0), Ok(0));
-    drained.check();
+    assert_eq!(closed.call(seen, &close, 0), Ok(0));
+    closed.check();
     // At the end of time any of them may be the first that is late.
-    let span = (drained.now() - run.now()) as usize;
-    let lefts: Vec<usize> = match every_left {
-        true => (0..=span + 1).collect(),
-        false => (0..12).map(|_| random.below(span + 2)).collect(),
-    };
-    for left in lefts {
+    let span = (closed.now() - run.now()) as usize;
+    let lefts = if every_left { span + 2 } else { 12 };
+    at_the_end(random, seen, &run, &close, lefts);
+}
+
+/// A request near the end of time: at so many distances to it, which every one is where they are many.
+fn at_the_end(random: &mut Random, seen: &mut Seen, run: &Run, request: &[u8], lefts: usize) {
+    for left in 0..lefts {
+        let left = if lefts > 12 { left } else { random.below(300) };
         let mut late = run.clone();
         let cycles = LAST - left as u64 - late.now();
         late.call(seen, &wait(cycles as u32), 0).unwrap();
-        _ = late.call(seen, &drain, ENOUGH);
+        _ = late.call(seen, request, ENOUGH);
     }
 }
 
@@ -115,7 +126,7 @@ fn longest_drain(random: &mut Random, seen: &mut Seen, numbers: &[u16; 16], ever
 fn most_records() {
     let (mut seen, mut random) = (Seen::default(), Random::new(63));
     for core in CORES {
-        longest_drain(
+        longest_close(
             &mut random,
             &mut seen,
             &with_core(set_h(2, 4, 0), core),
@@ -123,12 +134,12 @@ fn most_records() {
         );
         for _ in 0..120 {
             let numbers = with_core(rule_numbers(&mut random), core);
-            longest_drain(&mut random, &mut seen, &numbers, false);
+            longest_close(&mut random, &mut seen, &numbers, false);
         }
     }
-    seen.report("plan, most records", &[0, 7, 8]);
-    assert!(seen.with_records(17) > 0 && seen.with_records(18) >= 100);
-    assert!(seen.with_records(33) > 0 && seen.with_records(34) >= 50);
+    seen.report("plan, most records", &[0, 7, 8, 15]);
+    assert!(seen.with_records(16) >= 200 && seen.with_records(32) >= 100);
+    assert!((17..32).chain(33..40).all(|n| seen.with_records(n) == 0));
 }
 
 #[test]
@@ -148,7 +159,7 @@ fn near_the_horizon() {
         plan_all(&mut random, &mut seen, &mut run, &maker, after);
         run.check();
     }
-    let numbers = [0, 2, 3, 4, 5, 6, 7, 8, 13];
+    let numbers = [0, 2, 3, 4, 5, 6, 7, 8, 13, 15];
     seen.report("plan, near the horizon", &numbers);
     seen.all_kinds();
 }
@@ -182,7 +193,8 @@ fn one_of_each_kind() -> Vec<Vec<u8>> {
         wait(0),
         wait(1),
         wait(u32::MAX),
-        bare(DRAIN),
+        bare(FLUSH),
+        bare(CLOSE),
     ]
 }
 
@@ -208,7 +220,7 @@ fn every_distance_to_the_horizon() {
             }
         }
     }
-    seen.report("plan, every distance to the horizon", &[0, 7, 8]);
+    seen.report("plan, every distance to the horizon", &[0, 7, 8, 15]);
 }
 
 #[test]
@@ -222,19 +234,19 @@ fn damaged_requests() {
             for request in &prefix {
                 _ = run.call(&mut seen, request, ENOUGH);
             }
-            for kind in [READ, WRITE, REFRESH, WAIT, DRAIN] {
+            for kind in [READ, WRITE, REFRESH, WAIT, FLUSH, CLOSE] {
                 damage_each_byte(&mut random, &mut seen, &run, &bare(kind));
             }
         }
     }
-    let numbers = [0, 2, 3, 4, 5, 6, 7];
+    let numbers = [0, 2, 3, 4, 5, 6, 7, 15];
     seen.report("plan, requests damaged byte by byte", &numbers);
 }
 
 fn damage_each_byte(random: &mut Random, seen: &mut Seen, run: &Run, request: &[u8]) {
     for byte in 0..24 {
         let any = random.word() as u8;
-        for value in [1, 2, 3, 4, 5, 31, 32, 127, 128, 255, any] {
+        for value in [1, 2, 3, 4, 5, 6, 31, 32, 127, 128, 255, any] {
             let mut damaged = request.to_vec();
             damaged[byte] = value;
             _ = run.clone().call(seen, &damaged, ENOUGH);
@@ -271,7 +283,7 @@ fn rooms() {
             }
         }
     }
-    seen.report("plan, rooms of every length", &[0, 7, 8]);
+    seen.report("plan, rooms of every length", &[0, 7, 8, 15]);
 }
 
 /// Faults of a request from the first that is tested to the last, each with all that come after it.
@@ -282,7 +294,7 @@ fn order_of_refusals() {
     run.call(&mut seen, &wait(LAST as u32 - 4), 0).unwrap();
     let fault = |request: &mut Vec<u8>, number: u32| match number {
         13 => request.push(0),
-        2 => request[0] = 5,
+        2 => request[0] = 6,
         3 => request[5] = 1,
         4 => request[1] = 32,
         5 => put(request, 2, 2, 2),
@@ -303,6 +315,15 @@ fn order_of_refusals() {
     let mut refresh = bare(REFRESH);
     refresh[1] = 32;
     assert_eq!(fresh.call(&mut seen, &refresh, 0), Err(3));
-    let numbers = [0, 2, 3, 4, 5, 6, 7, 8, 13];
+    // Spare before a write that waits, and that before the horizon and the room.
+    let late = wait(LAST as u32 - 20);
+    for request in [late, write(0, 0, 0, 3, &[9; 16]), wait(8)] {
+        fresh.call(&mut seen, &request, ENOUGH).unwrap();
+    }
+    let mut close = bare(CLOSE);
+    assert_eq!(fresh.call(&mut seen, &close, 0), Err(15));
+    close[1] = 32;
+    assert_eq!(fresh.call(&mut seen, &close, 0), Err(3));
+    let numbers = [0, 2, 3, 4, 5, 6, 7, 8, 13, 15];
     seen.report("plan, order of refusals", &numbers);
 }

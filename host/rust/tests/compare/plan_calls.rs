@@ -3,7 +3,7 @@
 
 use crate::buffers::{self, guarded, lent, pattern};
 use crate::calls::{typed, Seen as Numbers};
-use crate::plan_streams::{DRAIN, READ, REFRESH, WAIT, WRITE};
+use crate::plan_streams::{CLOSE, FLUSH, READ, REFRESH, WAIT, WRITE};
 use crate::random::bytes;
 use crate::reference::{NOCOP, PRER, RD, WR};
 use crate::reference_plan::{self as reference, STATE_BYTES};
@@ -36,6 +36,7 @@ fn refusal(number: u32) -> Refusal {
         7 => Refusal::Horizon,
         8 => Refusal::Full,
         13 => Refusal::Length,
+        15 => Refusal::Unretired,
         number => panic!("no refusal {number} of a plan"),
     }
 }
@@ -57,7 +58,8 @@ fn typed_request(request: &[u8]) -> Option<Request> {
         3 => Request::Wait {
             cycles: u32::from_le_bytes(b[8..12].try_into().unwrap()),
         },
-        _ => Request::Drain,
+        4 => Request::Flush,
+        _ => Request::Close,
     };
     (typed.to_bytes() == *b).then_some(typed)
 }
@@ -165,7 +167,7 @@ pub fn fresh() -> Vec<u8> {
 pub struct Seen {
     numbers: Numbers,
     /// Accepted requests by kind.
-    kinds: [u64; 5],
+    kinds: [u64; 6],
     /// Accepted requests by the number of their records.
     records: BTreeMap<usize, u64>,
     /// NOCOP before RD, NOCOP before PRER, two PRER before ACT or REFA, a WR with a mask; two NOCOP
@@ -191,7 +193,7 @@ impl Seen {
         let mut records = list.chunks(32).zip(commands);
         self.shapes[0] += u64::from(pair(NOCOP, RD));
         self.shapes[1] += u64::from(pair(NOCOP, PRER));
-        self.shapes[2] += u64::from(closings == 2 && request[0] != DRAIN);
+        self.shapes[2] += u64::from(closings == 2 && request[0] != CLOSE);
         // M is bit 16 of the word.
         self.shapes[3] += u64::from(records.any(|(r, c)| *c == Some(WR) && r[10] & 1 == 1));
         self.shapes[4] += u64::from(flushed(RD));
@@ -203,9 +205,12 @@ impl Seen {
     pub fn report(&self, name: &str, numbers: &[u32]) {
         self.numbers.report(name, numbers);
         let most = self.records.keys().last().unwrap_or(&0);
-        let [read, write, refresh, wait, drain] =
-            [READ, WRITE, REFRESH, WAIT, DRAIN].map(|kind| self.kinds[usize::from(kind)]);
-        println!("{name}: accepted: {read} read, {write} write, {refresh} refresh, {wait} wait, {drain} drain");
+        let [read, write, refresh, wait, flush, close] =
+            [READ, WRITE, REFRESH, WAIT, FLUSH, CLOSE].map(|kind| self.kinds[usize::from(kind)]);
+        println!(
+            "{name}: accepted: {read} read, {write} write, {refresh} refresh, {wait} wait, \
+             {flush} flush, {close} close"
+        );
         let [own, lost, two, masked, both, both_lost, beside] = self.shapes;
         println!(
             "{name}: {own} with NOCOP RD, {lost} with NOCOP PRER, {two} with two PRER, \

@@ -3,7 +3,7 @@
 //! bank, row or column, mask or `-`; D shows its WR's bank and column.
 
 use crate::plan_calls::{Run, Seen, ENOUGH};
-use crate::plan_streams::{bare, read, wait, write, DRAIN, REFRESH};
+use crate::plan_streams::{bare, read, wait, write, CLOSE, FLUSH, REFRESH};
 use crate::random::{bytes, set_h};
 use crate::reference::{figures, number, packet, word, NOCOP};
 use crate::reference_plan::Planner;
@@ -47,7 +47,8 @@ fn runs() -> Runs {
                 write(0, 0, 1, 0x0003, &ONES),
                 read(0, 0, 1),
                 read(1, 0, 0),
-                bare(DRAIN),
+                bare(FLUSH),
+                bare(CLOSE),
             ],
             vec![
                 "4 ACT 0 0 -",
@@ -104,7 +105,7 @@ fn runs() -> Runs {
         ),
         // Mask 0 is legal.
         (
-            vec![write(0, 0, 0, 0, &ONES), bare(DRAIN)],
+            vec![write(0, 0, 0, 0, &ONES), bare(FLUSH), bare(CLOSE)],
             vec![
                 "4 ACT 0 0 -",
                 "5 WR 0 0 -",
@@ -174,8 +175,32 @@ fn last_answers() -> Vec<(Requests, Result<usize, u32>)> {
         // REFP at the last instant.
         (vec![wait(999_999_976), bare(REFRESH)], Ok(2)),
         (vec![wait(999_999_977), bare(REFRESH)], Err(7)),
-        (vec![bare(DRAIN)], Ok(0)),
-        (vec![vec![5; 24]], Err(2)),
+        (vec![bare(FLUSH)], Ok(0)),
+        (vec![bare(CLOSE)], Ok(0)),
+        // Close while a write waits, once it has retired, and where it would be late too.
+        (vec![write(0, 0, 0, 3, &ONES), bare(CLOSE)], Err(15)),
+        (
+            vec![write(0, 0, 0, 3, &ONES), read(4, 0, 0), bare(CLOSE)],
+            Err(15),
+        ),
+        (
+            vec![write(0, 0, 0, 3, &ONES), read(0, 0, 0), bare(CLOSE)],
+            Ok(1),
+        ),
+        (
+            vec![wait(999_999_989), write(0, 0, 0, 3, &ONES), bare(CLOSE)],
+            Err(15),
+        ),
+        (
+            vec![wait(999_999_989), write(0, 0, 0, 3, &ONES), bare(FLUSH)],
+            Err(7),
+        ),
+        (
+            vec![wait(999_999_987), write(0, 0, 0, 3, &ONES), bare(FLUSH)],
+            Ok(1),
+        ),
+        (vec![wait(999_999_979), read(0, 0, 0), bare(CLOSE)], Err(7)),
+        (vec![vec![6; 24]], Err(2)),
         (vec![vec![0; 23]], Err(13)),
     ]
 }
@@ -199,7 +224,7 @@ fn last_answers_by_the_library() {
         let plans = requests.iter().map(|q| run.call(&mut seen, q, ENOUGH));
         assert_eq!(plans.last().unwrap(), answer, "{requests:?}");
     }
-    seen.report("plan, last answers", &[0, 2, 4, 5, 6, 7, 13]);
+    seen.report("plan, last answers", &[0, 2, 4, 5, 6, 7, 13, 15]);
 }
 
 /// The words of the paper: ACT 0/0 401000, RD 0/1 8000260000.
@@ -224,7 +249,8 @@ fn data_alter_nothing_else() {
             write(3, 1, 2, 0x00F0, &data),
             write(3, 1, 2, 0xF00F, &data),
             read(3, 1, 2),
-            bare(DRAIN),
+            bare(FLUSH),
+            bare(CLOSE),
         ] {
             run.call(&mut Seen::default(), &request, ENOUGH).unwrap();
         }

@@ -4,7 +4,7 @@
 use crate::buffers::fresh_refused;
 use crate::calls::Seen as Numbers;
 use crate::plan_calls::{compare, fresh, Case, Run, Seen, Want, ENOUGH};
-use crate::plan_streams::{bare, read, wait, write, Maker, DRAIN};
+use crate::plan_streams::{bare, read, wait, write, Maker, CLOSE, FLUSH};
 use crate::random::{bytes, rounds, set_h, with_core, Random};
 use crate::reference::{device_and_core, COLUMNS, CORES, ROWS};
 use crate::reference_plan::{state_fits, STATE_BYTES};
@@ -134,7 +134,7 @@ fn damaged_bytes() {
             seen.add(call(&numbers, &damaged, &request, ENOUGH));
         }
     }
-    let numbers = [0, 1, 2, 3, 4, 5, 6, 7, 13];
+    let numbers = [0, 1, 2, 3, 4, 5, 6, 7, 13, 15];
     seen.report("plan, states with damaged bytes", &numbers);
 }
 
@@ -189,7 +189,7 @@ fn open_neighbours() {
         put(&mut state, 640 + 2 * b, 2, 2);
         for core in CORES {
             let numbers = with_core(set_h(2, 4, 0), core);
-            let number = call(&numbers, &state, &bare(DRAIN), ENOUGH);
+            let number = call(&numbers, &state, &bare(CLOSE), ENOUGH);
             let refused = are_neighbours(core, a, b);
             assert_eq!(number == 1, refused, "banks {a} and {b}, form {core}");
             seen.add(number);
@@ -214,7 +214,7 @@ fn banks_of_the_waiting_writes() {
                 put_writes(&mut state, &writes, false);
                 put(&mut state, 640 + 18, 2, 1);
                 put(&mut state, 640 + 2 * (bank as usize % 32), 2, tag);
-                let number = call(&numbers, &state, &bare(DRAIN), ENOUGH);
+                let number = call(&numbers, &state, &bare(FLUSH), ENOUGH);
                 let alone = core == 2 || (bank != 8 && bank != 10);
                 let open = bank < 32 && (tag == 1 || tag == 2) && alone;
                 assert_eq!(number == 0, open, "{writes:?}, {tag}, form {core}");
@@ -232,7 +232,7 @@ fn counts_of_writes() {
         put(&mut state, 640, 2, 1);
         put_writes(&mut state, &[(0, 3, 4), (0, 2, 8)][..writes], false);
         (state[WAITING], state[DUE]) = (count, due);
-        let number = call(&numbers, &state, &bare(DRAIN), ENOUGH);
+        let number = call(&numbers, &state, &bare(FLUSH), ENOUGH);
         let fits = (usize::from(count), due) == (writes, 0);
         assert_eq!(
             number,
@@ -290,7 +290,7 @@ fn any_states() {
         let room = random.pick(&[ENOUGH, ENOUGH, ENOUGH, some]);
         seen.add(call(&numbers, &state, &request, room));
     }
-    let numbers = [0, 2, 3, 4, 5, 6, 7, 8, 13];
+    let numbers = [0, 2, 3, 4, 5, 6, 7, 8, 13, 15];
     seen.report("plan, any states", &numbers);
 }
 
@@ -308,10 +308,10 @@ fn a_copy_goes_on_alike() {
     }
     assert_eq!(run.state[WAITING], 2);
     let mut copy = run.clone();
-    for request in [read(7, 1, 2), read(7, 1, 3), bare(DRAIN)] {
+    for request in [read(7, 1, 2), read(7, 1, 3), bare(FLUSH), bare(CLOSE)] {
         run.call(&mut seen, &request, ENOUGH).unwrap();
     }
-    for request in [read(7, 1, 2), read(7, 1, 3), bare(DRAIN)] {
+    for request in [read(7, 1, 2), read(7, 1, 3), bare(FLUSH), bare(CLOSE)] {
         copy.call(&mut seen, &request, ENOUGH).unwrap();
     }
     assert!(run.state == copy.state && run.list == copy.list);

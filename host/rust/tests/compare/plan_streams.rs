@@ -8,7 +8,8 @@ pub const READ: u8 = 0;
 pub const WRITE: u8 = 1;
 pub const REFRESH: u8 = 2;
 pub const WAIT: u8 = 3;
-pub const DRAIN: u8 = 4;
+pub const FLUSH: u8 = 4;
+pub const CLOSE: u8 = 5;
 
 /// A request without place, mask and data.
 pub fn bare(kind: u8) -> Vec<u8> {
@@ -94,7 +95,7 @@ impl Maker {
             let (mask, data) = (Self::mask(random), random.bytes(16));
             return write(self.banks[0], self.row_choice[0], column, mask, &data);
         }
-        match random.below(20) {
+        match random.below(23) {
             0..8 => read(bank, row, column),
             8..15 => {
                 let (mask, data) = (Self::mask(random), random.bytes(16));
@@ -102,7 +103,8 @@ impl Maker {
             }
             15 | 16 => bare(REFRESH),
             17 | 18 => wait(Self::cycles(random)),
-            _ => bare(DRAIN),
+            19 | 20 => bare(FLUSH),
+            _ => bare(CLOSE),
         }
     }
 
@@ -112,7 +114,7 @@ impl Maker {
             0 => request[1] = random.pick(&[31, 32, 33, 64, 255]),
             1 => put(request, 2, 2, self.rows.into()),
             2 => put(request, 4, 1, self.columns.into()),
-            3 => request[0] = random.pick(&[0, 1, 2, 3, 4, 5, 6, 255]),
+            3 => request[0] = random.pick(&[0, 1, 2, 3, 4, 5, 6, 7, 255]),
             4 => request[random.below(24)] = random.word() as u8,
             5 => request.truncate(random.below(24)),
             6 => request.extend(vec![0; 1 + random.below(24)]),

@@ -1,4 +1,4 @@
-//! The planner as plain Rust, written from documents 01 and 02 (a, c) alone, by trying. It keeps every
+//! The planner as plain Rust, written from documents 01 and 02 (a, c, d) alone, by trying. It keeps every
 //! record that it has made, reads banks and the waiting writes off that list, and tries each packet
 //! at now, now + 1, .. until it breaks none of the rules of `reference_rules` against all earlier
 //! records.
@@ -46,7 +46,8 @@ enum Request {
     Wait {
         cycles: u64,
     },
-    Drain,
+    Flush,
+    Close,
 }
 
 #[derive(Clone, Copy)]
@@ -91,7 +92,7 @@ fn read_request(f: &Figures, request: &[u8]) -> Result<Request, Refused> {
         return Err(13);
     }
     let kind = request[0];
-    if kind > 4 {
+    if kind > 5 {
         return Err(2);
     }
     if (0..24).any(|i| !used(kind, i) && request[i] != 0) {
@@ -110,7 +111,8 @@ fn read_request(f: &Figures, request: &[u8]) -> Result<Request, Refused> {
         3 => Request::Wait {
             cycles: number(&request[8..12]),
         },
-        _ => Request::Drain,
+        4 => Request::Flush,
+        _ => Request::Close,
     })
 }
 
@@ -244,8 +246,14 @@ impl Planner {
         Ok(())
     }
 
-    fn drain(&mut self) -> Result<(), Refused> {
-        self.nocops(|writes| !writes.is_empty())?;
+    fn flush(&mut self) -> Result<(), Refused> {
+        self.nocops(|writes| !writes.is_empty())
+    }
+
+    fn close_all(&mut self) -> Result<(), Refused> {
+        if !waiting(&self.steps).is_empty() {
+            return Err(15);
+        }
         self.close_open(|_| true)
     }
 
@@ -256,7 +264,8 @@ impl Planner {
             Request::Write { at, mask, data } => self.write(at, mask, data)?,
             Request::Refresh => self.refresh()?,
             Request::Wait { cycles } => self.wait(cycles)?,
-            Request::Drain => self.drain()?,
+            Request::Flush => self.flush()?,
+            Request::Close => self.close_all()?,
         }
         if room / 32 < self.steps.len() - before {
             return Err(8);

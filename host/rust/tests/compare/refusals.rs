@@ -3,7 +3,7 @@
 use rdram::{raw, Refusal};
 use std::mem::{align_of, offset_of, size_of};
 
-const ALL: [Refusal; 17] = [
+const ALL: [Refusal; 18] = [
     Refusal::Settings,
     Refusal::Kind,
     Refusal::Spare,
@@ -19,6 +19,7 @@ const ALL: [Refusal; 17] = [
     Refusal::Broken { rule: 12 },
     Refusal::Block { place: 3 },
     Refusal::Length,
+    Refusal::Unretired,
     Refusal::Overlap,
     Refusal::Other { number: 99 },
 ];
@@ -27,7 +28,7 @@ const ALL: [Refusal; 17] = [
 fn numbers_and_places() {
     assert_eq!(
         ALL.map(|r| r.number()),
-        [1, 2, 3, 4, 5, 6, 7, 8, 9, 10, 10, 11, 11, 12, 13, 16, 99]
+        [1, 2, 3, 4, 5, 6, 7, 8, 9, 10, 10, 11, 11, 12, 13, 15, 16, 99]
     );
     assert_eq!(
         ALL.map(|r| r.place()),
@@ -46,6 +47,7 @@ fn numbers_and_places() {
             Some(5),
             None,
             Some(3),
+            None,
             None,
             None,
             None
@@ -125,6 +127,12 @@ fn layout_of_answers() {
         (size_of::<raw::Meter>(), offset_of!(raw::Meter, newest)),
         (rdram::METER_BYTES, 128)
     );
-    assert_eq!((size_of::<raw::Counted>(), offset_of!(raw::Counted, count)), (8, 4));
-    assert_eq!((size_of::<raw::Shared>(), offset_of!(raw::Shared, share)), (8, 4));
+    assert_eq!(
+        (size_of::<raw::Counted>(), offset_of!(raw::Counted, count)),
+        (8, 4)
+    );
+    assert_eq!(
+        (size_of::<raw::Shared>(), offset_of!(raw::Shared, share)),
+        (8, 4)
+    );
 }

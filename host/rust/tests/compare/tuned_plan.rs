@@ -1,4 +1,4 @@
-//! The planner in plain Rust, written for speed from documents 01 and 02 (a, c): last instants in a
+//! The planner in plain Rust, written for speed from documents 01 and 02 (a, c, d): last instants in a
 //! struct of numbers, and no list (the rival "tuned" of the benches). It plans from any state that is not
 //! refused, also one that no run reaches.
 
@@ -8,7 +8,7 @@ use super::tuned_state::{
     REFP, WR,
 };
 
-/// No request gets from here past the last instant: it makes at most 34 packets, each at most 64
+/// No request gets from here past the last instant: it makes at most 32 packets, each at most 64
 /// after the latest instant before it, and data come at most 12 later.
 const SAFE: u32 = MOST - 4_096;
 pub const STATE_BYTES: usize = 768;
@@ -193,10 +193,14 @@ impl Planner {
         self.refresh = (self.refresh + 1) % 32;
     }
 
-    fn drain(&mut self, f: &Figures, out: &mut Out) {
+    fn flush(&mut self, f: &Figures, out: &mut Out) {
         while self.channel.count > 0 {
             self.nocop(f, out);
         }
+    }
+
+    /// No write waits.
+    fn close_all(&mut self, f: &Figures, out: &mut Out) {
         for bank in 0..32 {
             self.close(f, out, bank);
         }
@@ -215,7 +219,8 @@ impl Planner {
                 return f.cwd;
             }
             Request::Refresh => self.refresh(f, out),
-            Request::Drain => self.drain(f, out),
+            Request::Flush => self.flush(f, out),
+            Request::Close => self.close_all(f, out),
             Request::Wait => {}
         }
         0
@@ -260,8 +265,10 @@ impl Planner {
     /// The number of records that a request makes, at the start of `room`.
     pub fn plan(&mut self, f: &Figures, request: &[u8], room: &mut [u8]) -> Result<usize, Refused> {
         let asked = Asked::of(f, request)?;
-        if let Request::Wait = asked.kind {
-            return self.wait(asked.low);
+        match asked.kind {
+            Request::Wait => return self.wait(asked.low),
+            Request::Close if self.channel.count > 0 => return Err(15),
+            _ => {}
         }
         let safe = !self.far & (self.now <= SAFE);
         match room.as_chunks_mut::<32>().0.first_chunk_mut::<RECORDS>() {

@@ -1,10 +1,10 @@
-//! What a planner in plain Rust takes and makes, written for speed from documents 01 and 02 (a, c):
+//! What a planner in plain Rust takes and makes, written for speed from documents 01 and 02 (a, c, d):
 //! requests of bytes, and the records of a call.
 
 use super::tuned_state::{Figures, FULL};
 
 /// The most records that a request makes.
-pub const RECORDS: usize = 34;
+pub const RECORDS: usize = 32;
 
 /// A refusal number.
 pub type Refused = u32;
@@ -15,7 +15,8 @@ pub enum Request {
     Write,
     Refresh,
     Wait,
-    Drain,
+    Flush,
+    Close,
 }
 
 /// A request: its kind, its place, and its mask and data or cycles as they stand in the bytes.
@@ -40,7 +41,8 @@ impl Asked {
             1 => (Request::Write, head & 0xFF << 40),
             2 => (Request::Refresh, head >> 8 | low | high),
             3 => (Request::Wait, head >> 8 | low >> 32 | high),
-            4 => (Request::Drain, head >> 8 | low | high),
+            4 => (Request::Flush, head >> 8 | low | high),
+            5 => (Request::Close, head >> 8 | low | high),
             _ => return Err(2),
         };
         let asked = Asked {

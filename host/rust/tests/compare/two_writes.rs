@@ -3,7 +3,7 @@
 
 use crate::plan_calls::{Run, Seen, ENOUGH};
 use crate::plan_runs::{Runs, ONES, TWOS};
-use crate::plan_streams::{bare, read, write, DRAIN};
+use crate::plan_streams::{bare, read, write, CLOSE, FLUSH};
 use crate::random::{set_h, Random};
 use crate::reference::number;
 use crate::rule_settings::{rule_numbers, T_CC, T_RTR};
@@ -100,13 +100,14 @@ pub fn runs() -> Runs {
                 "52 RD 0 1 -",
             ],
         ),
-        // A drain first retires both.
+        // A flush retires both.
         (
             vec![
                 read(0, 0, 0),
                 write(4, 0, 0, 0xFFFF, &ONES),
                 write(4, 0, 0, 0x0100, &TWOS),
-                bare(DRAIN),
+                bare(FLUSH),
+                bare(CLOSE),
             ],
             vec![
                 "4 ACT 0 0 -",

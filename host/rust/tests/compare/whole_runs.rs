@@ -6,7 +6,7 @@ use crate::calls::typed;
 use crate::flat_memory::FlatMemory;
 use crate::model_calls::{any_store, small_numbers};
 use crate::plan_calls::ENOUGH;
-use crate::plan_streams::{bare, read, wait, write, Maker, DRAIN, READ, REFRESH, WRITE};
+use crate::plan_streams::{bare, read, wait, write, Maker, CLOSE, FLUSH, READ, REFRESH, WRITE};
 use crate::random::{bytes, rounds, set_h, Random};
 use crate::reference::{COLUMNS, ROWS};
 use crate::reference_state::WAITING;
@@ -19,8 +19,8 @@ use std::collections::VecDeque;
 struct Seen {
     runs: u64,
     /// Plan calls that were accepted, by kind, and those that were refused, by number.
-    accepted: [u64; 5],
-    refused: [u64; 14],
+    accepted: [u64; 6],
+    refused: [u64; 16],
     records: u64,
     reads: u64,
     /// Model calls that were refused 8.
@@ -28,29 +28,29 @@ struct Seen {
     retires: u64,
     /// The bytes that retires wrote.
     written: u64,
-    /// Runs by the number of writes that waited before the last drain.
-    drained: [u64; 3],
+    /// Flushes by the number of writes that waited before them.
+    flushed: [u64; 3],
     /// Turns of REFR from rows - 1 to 0.
     refr_again: u64,
 }
 
 impl Seen {
     fn report(&self, name: &str) {
-        let [read, write, refresh, wait, drain] = self.accepted;
+        let [read, write, refresh, wait, flush, close] = self.accepted;
         println!(
             "{name}: {} runs; accepted: {read} read, {write} write, {refresh} refresh, {wait} wait, \
-             {drain} drain; refused, by number: {:?}",
+             {flush} flush, {close} close; refused, by number: {:?}",
             self.runs, self.refused
         );
         println!(
             "{name}: {} records, {} reads, {} calls refused 8, {} retires of {} bytes, {:?} writes \
-             before the last drain, REFR started again {} times",
+             before flushes, REFR started again {} times",
             self.records,
             self.reads,
             self.full,
             self.retires,
             self.written,
-            self.drained,
+            self.flushed,
             self.refr_again
         );
         assert_eq!(self.reads, read);
@@ -68,7 +68,7 @@ impl Seen {
         for count in [self.full, self.written, self.refr_again] {
             assert!(count > 0);
         }
-        assert!(self.drained.iter().all(|n| *n > 0), "{:?}", self.drained);
+        assert!(self.flushed.iter().all(|n| *n > 0), "{:?}", self.flushed);
     }
 }
 
@@ -191,23 +191,38 @@ impl Run {
         }
     }
 
-    /// The last drain, after which store and flat memory are the same.
-    fn finish(mut self, random: &mut Random, seen: &mut Seen) {
+    /// A flush, after which store and flat memory are the same once the model has taken it. False where
+    /// it is refused: at the end of time the last writes still wait.
+    fn flush(&mut self, random: &mut Random, seen: &mut Seen, room: usize) -> bool {
         self.take(random, seen, 0);
-        seen.drained[usize::from(self.model.to_bytes()[WAITING])] += 1;
-        if self.plan(seen, &bare(DRAIN), ENOUGH).is_err() {
-            // At the end of time the last writes still wait.
+        let waiting = usize::from(self.model.to_bytes()[WAITING]);
+        if self.plan(seen, &bare(FLUSH), room).is_err() {
             self.compare_but_for_the_waiting_writes();
-            return;
+            return false;
         }
+        assert_eq!(self.list.len(), waiting);
+        seen.flushed[waiting] += 1;
         self.take(random, seen, 0);
         assert!(self.answers.is_empty());
         assert!(self.store == self.memory.bytes, "another store");
         assert_eq!(self.written, self.ones);
+        true
+    }
+
+    /// The last flush, and a close, which changes nothing.
+    fn finish(mut self, random: &mut Random, seen: &mut Seen) {
+        if !self.flush(random, seen, ENOUGH) {
+            return;
+        }
+        if self.plan(seen, &bare(CLOSE), ENOUGH).is_ok() {
+            self.take(random, seen, 0);
+            let closed = self.model.to_bytes()[640..704].iter().all(|tag| *tag == 0);
+            assert!(closed && self.store == self.memory.bytes);
+        }
         seen.runs += 1;
     }
 
-    /// Before a drain the store differs from flat memory in the dualocts of the waiting writes at most.
+    /// Before a flush the store differs from flat memory in the dualocts of the waiting writes at most.
     fn compare_but_for_the_waiting_writes(&self) {
         let pairs = self.store.chunks(16).zip(self.memory.bytes.chunks(16));
         let differ = pairs.filter(|(a, b)| a != b).count();
@@ -221,6 +236,10 @@ fn stream(random: &mut Random, seen: &mut Seen, run: &mut Run, maker: &Maker, re
         let request = maker.request(random);
         let some = random.below(5 * 32);
         let room = random.pick(&[ENOUGH, ENOUGH, ENOUGH, some]);
+        if request == bare(FLUSH) {
+            run.flush(random, seen, room);
+            continue;
+        }
         _ = run.plan(seen, &request, room);
         if random.chance(4) {
             let left = random.below(run.list.len() + 1);
@@ -266,7 +285,7 @@ fn long_runs() {
         run.finish(&mut random, &mut seen);
     }
     seen.report(name);
-    seen.all(&[2, 3, 4, 5, 6, 8, 13]);
+    seen.all(&[2, 3, 4, 5, 6, 8, 13, 15]);
     assert_eq!(seen.runs, 60);
 }
 
@@ -300,7 +319,7 @@ fn large_stores() {
     assert_eq!(seen.runs, 5);
 }
 
-/// Runs that meet the end of time: plan calls are refused 7, the last drain sometimes with them.
+/// Runs that meet the end of time: plan calls are refused 7, the last flush sometimes with them.
 #[test]
 fn near_the_horizon() {
     let (mut seen, mut random) = (Seen::default(), Random::new(104));
@@ -318,7 +337,7 @@ fn near_the_horizon() {
         run.finish(&mut random, &mut seen);
     }
     let runs = seen.runs;
-    println!("whole runs, near the horizon: {runs} of {all} end with a drain");
+    println!("whole runs, near the horizon: {runs} of {all} end with a flush");
     assert!(seen.refused[7] > 1_000 && runs > 500 && runs < all as u64);
 }
 

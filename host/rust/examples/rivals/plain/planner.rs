@@ -47,7 +47,8 @@ impl Planner {
             Request::Read => self.read(f, &mut out, &asked) + f.cac,
             Request::Write => self.write(f, &mut out, &asked) + f.cwd,
             Request::Refresh => self.refresh(f, &mut out),
-            Request::Drain => self.drain(f, &mut out),
+            Request::Flush => self.flush(f, &mut out),
+            Request::Close => self.close_all(f, &mut out).ok_or(15u32)?,
             Request::Wait => self.wait(asked.low).ok_or(7u32)?,
         };
         let used = out.used;
@@ -194,10 +195,18 @@ impl Planner {
         self.now
     }
 
-    fn drain(&mut self, f: &Figures, out: &mut Out) -> u32 {
+    fn flush(&mut self, f: &Figures, out: &mut Out) -> u32 {
         self.nocops(f, out, |_| true);
-        self.close(f, out, 0..=31);
         self.now
+    }
+
+    /// None where a write waits.
+    fn close_all(&mut self, f: &Figures, out: &mut Out) -> Option<u32> {
+        if self.channel.buffer.older().is_some() {
+            return None;
+        }
+        self.close(f, out, 0..=31);
+        Some(self.now)
     }
 
     fn wait(&mut self, cycles: u64) -> Option<u32> {
