@@ -25,7 +25,7 @@ use Rattle.spec_plan.specs.declared.Outcome.the-variants.{Refused, Made}
 use Rattle.spec_plan.specs.Planner.{plannerValid}
 use Rattle.spec_plan.specs.PlannerBytes.{plannerLength, plannerBytes, plannerIn, plannerRight}
 use Rattle.spec_plan.specs.Plan.{Draft, planned}
-use Rattle.spec_plan.specs.Call.{listBytes, timely, outcomeOf, outcomeBy, planOutcome, isMade, draftBy, planNext, planRecords, planRoom}
+use Rattle.spec_plan.specs.Call.{listBytes, timely, outcomeOf, unretired, outcomeBy, planOutcome, isMade, draftBy, planNext, planRecords, planRoom}
 use Rattle.spec_plan.proofs.Bound.{most-any}
 use Rattle.spec_plan.proofs.PlannerRoundTrip.{planner-length}
 use Rattle.plan_bytes.specs.form.Numbers.{word, Tops, Below}
@@ -99,12 +99,17 @@ module _ (s : Settings) (planner : List ℕ) where
     unfolding served outcomeBy
     request-refused h why e r a = rw (by-request h, e) (a, (refl, refl))
 
-  -- a request on the lent bytes, with room for its records, and beside them
-  module _ (q : Request) (room : List ℕ) (h : plannerRight (contextOf s) planner ≡ true) where
+  -- a request on the lent bytes, with room for its records, and beside them; 15 first
+  pub not-retired : (q : Request) (room : List ℕ) → unretired q (plannerIn planner) ≡ true → (r : PlanAnswer) → r ≡ planAnswer (Refused refusal.Unretired)
+      → Leaves (served (contextOf s) planner (Accepted q) room) r planner room
+  unfolding served outcomeBy
+  not-retired q room u r a = rw u (a, (refl, refl))
+
+  module _ (q : Request) (room : List ℕ) (h : plannerRight (contextOf s) planner ≡ true) (u : unretired q (plannerIn planner) ≡ false) where
     pub late : timely (contextOf s) (planned (contextOf s) q (plannerIn planner)) ≡ false → (r : PlanAnswer) → r ≡ planAnswer (Refused refusal.Horizon)
         → Leaves (served (contextOf s) planner (Accepted q) room) r planner room
     unfolding served outcomeBy outcomeOf
-    late t r a = rw t (a, (refl, refl))
+    late t r a = rw (u, t) (a, (refl, refl))
 
     pub in-time : 32 * length (planned (contextOf s) q (plannerIn planner) .records) ≤ length room → timely (contextOf s) (planned (contextOf s) q (plannerIn planner)) ≡ true → (n : ℕ)
         → n ≡ length (planned (contextOf s) q (plannerIn planner) .records) → (r : PlanAnswer) → r ≡ planAnswer (Made n) → (after left : List ℕ)
@@ -114,25 +119,28 @@ module _ (s : Settings) (planner : List ℕ) where
     unfolding served outcomeBy outcomeOf draftBy contextOf
     in-time l t n en r a after left ea el =
         let fits = le-leb (length (planned (contextOf s) q (plannerIn planner) .records)) (length room / 32) (omega arith) in
-        rw (t, fits) (rw en at a, (ea, el))
+        rw (u, t, fits) (rw en at a, (ea, el))
 
-    -- no request makes more than 34 records
-    pub enough : (list : List ℕ) → 1088 ≤ length list → 32 * length (planned (contextOf s) q (plannerIn planner) .records) ≤ length list
-    enough list l = omega (arith, most-any s (plannerIn planner) (right-valid h) q)
+    -- no request makes more than 32 records
+    pub enough : (list : List ℕ) → 1024 ≤ length list → 32 * length (planned (contextOf s) q (plannerIn planner) .records) ≤ length list
+    enough list l = omega (arith, most-any s (plannerIn planner) (right-valid h) q u)
 
     pub full : timely (contextOf s) (planned (contextOf s) q (plannerIn planner)) ≡ true → length room / 32 < length (planned (contextOf s) q (plannerIn planner) .records)
         → (r : PlanAnswer) → r ≡ planAnswer (Refused refusal.Full) → Leaves (served (contextOf s) planner (Accepted q) room) r planner room
     unfolding served outcomeBy outcomeOf
-    full t l r a = rw (t, lt-leb (length (planned (contextOf s) q (plannerIn planner) .records)) (length room / 32) l) (a, (refl, refl))
+    full t l r a = rw (u, t, lt-leb (length (planned (contextOf s) q (plannerIn planner) .records)) (length room / 32) l) (a, (refl, refl))
 
     -- a state and a list of the call's own: the lent state is copied to the one, the request is planned there, and what both become
     -- is copied back
-    module _ (state list : List ℕ) (e : length state ≡ 768) (m : 1088 ≤ length list) (copy : List ℕ) (ec : copy ≡ splice state 0 planner) where
+    module _ (state list : List ℕ) (e : length state ≡ 768) (m : 1024 ≤ length list) (copy : List ℕ) (ec : copy ≡ splice state 0 planner) where
       copied : copy ≡ planner
       copied = ec ∙ splice-whole state planner (right-length h ∙ sym e)
 
       pub copy-right : plannerRight (contextOf s) copy ≡ true
       copy-right = rw copied h
+
+      pub copy-granted : unretired q (plannerIn copy) ≡ false
+      copy-granted = rw copied u
 
       module _ (next made : List ℕ) (n : ℕ) (ep : next ≡ plannerBytes (planned (contextOf s) q (plannerIn copy) .planner))
           (el : made ≡ splice list 0 (listBytes s (planned (contextOf s) q (plannerIn copy) .records))) (en : n ≡ length (planned (contextOf s) q (plannerIn copy) .records)) where

@@ -11,10 +11,11 @@ ghost use Rattle.spec_rules.specs.Neighbour.{contextOf};
 ghost use Rattle.spec_plan.specs.PlannerBytes.{plannerRight};
 ghost use Rattle.plan_calm.specs.form.Calm.{isCalm};
 ghost use Rattle.spec_calls.specs.Plans.{planAnswer, planUnder};
-ghost use Rattle.calls_plan.specs.form.Served.{served};
+ghost use Rattle.calls_plan.specs.form.Served.{Granted, served};
 use plan_in_place::requests::in_time;
 use plan_in_place::requests::left_in_time;
 use plan_in_place::requests::plan;
+use plan_in_place::requests::unretired;
 use puts::put_bytes;
 use record::Refusal;
 use record::Request;
@@ -48,8 +49,8 @@ fn on_lent(s: Settings, planner: &mut [u8], q: Request, room: &mut [u8]) -> Plan
     requires { ⌜ valid s ≡ true ⌝ }
     requires { ⌜ plannerRight (contextOf s) (now planner) ≡ true ⌝ }
     requires { ⌜ isCalm (now planner) ≡ true ⌝ }
-    requires { ⌜ InRange s q ⌝ }
-    requires { ⌜ 1088 ≤ length (now room) ⌝ }
+    requires { ⌜ Granted s (now planner) q ⌝ }
+    requires { ⌜ 1024 ≤ length (now room) ⌝ }
     ensures { λ r. ⌜ r ≡ served (contextOf s) (now (planner .entry)) (Accepted q) (now (room .entry)) .answer ⌝ }
     ensures { λ _. ⌜ now (planner .exit) ≡ served (contextOf s) (now (planner .entry)) (Accepted q) (now (room .entry)) .planner ⌝ }
     ensures { λ _. ⌜ now (room .exit) ≡ served (contextOf s) (now (planner .entry)) (Accepted q) (now (room .entry)) .room ⌝ }
@@ -83,9 +84,9 @@ fn tried(
 ) -> PlanAnswer
     requires { ⌜ valid s ≡ true ⌝ }
     requires { ⌜ plannerRight (contextOf s) (now planner) ≡ true ⌝ }
-    requires { ⌜ InRange s q ⌝ }
+    requires { ⌜ Granted s (now planner) q ⌝ }
     requires { ⌜ length (now state) ≡ 768 ⌝ }
-    requires { ⌜ 1088 ≤ length (now list) ⌝ }
+    requires { ⌜ 1024 ≤ length (now list) ⌝ }
     ensures { λ r. ⌜ r ≡ served (contextOf s) (now (planner .entry)) (Accepted q) (now (room .entry)) .answer ⌝ }
     ensures { λ _. ⌜ now (planner .exit) ≡ served (contextOf s) (now (planner .entry)) (Accepted q) (now (room .entry)) .planner ⌝ }
     ensures { λ _. ⌜ now (room .exit) ≡ served (contextOf s) (now (planner .entry)) (Accepted q) (now (room .entry)) .room ⌝ }
@@ -106,7 +107,7 @@ fn tried(
 fn beside(s: Settings, planner: &mut [u8], q: Request, room: &mut [u8]) -> PlanAnswer
     requires { ⌜ valid s ≡ true ⌝ }
     requires { ⌜ plannerRight (contextOf s) (now planner) ≡ true ⌝ }
-    requires { ⌜ InRange s q ⌝ }
+    requires { ⌜ Granted s (now planner) q ⌝ }
     ensures { λ r. ⌜ r ≡ served (contextOf s) (now (planner .entry)) (Accepted q) (now (room .entry)) .answer ⌝ }
     ensures { λ _. ⌜ now (planner .exit) ≡ served (contextOf s) (now (planner .entry)) (Accepted q) (now (room .entry)) .planner ⌝ }
     ensures { λ _. ⌜ now (room .exit) ≡ served (contextOf s) (now (planner .entry)) (Accepted q) (now (room .entry)) .room ⌝ }
@@ -116,12 +117,12 @@ fn beside(s: Settings, planner: &mut [u8], q: Request, room: &mut [u8]) -> PlanA
     tried(s, planner, q, room, &mut state, &mut list)
 }
 
-// A request in range: on the lent bytes where no packet can be late and the room has the most records.
+// A request in range, no close while a write waits: on the lent bytes where no packet can be late and the room has the most records.
 fn served(s: Settings, planner: &mut [u8], quick: bool, q: Request, room: &mut [u8]) -> PlanAnswer
     requires { ⌜ valid s ≡ true ⌝ }
     requires { ⌜ plannerRight (contextOf s) (now planner) ≡ true ⌝ }
     requires { ⌜ quick ≡ isCalm (now planner) ⌝ }
-    requires { ⌜ InRange s q ⌝ }
+    requires { ⌜ Granted s (now planner) q ⌝ }
     ensures { λ r. ⌜ r ≡ served (contextOf s) (now (planner .entry)) (Accepted q) (now (room .entry)) .answer ⌝ }
     ensures { λ _. ⌜ now (planner .exit) ≡ served (contextOf s) (now (planner .entry)) (Accepted q) (now (room .entry)) .planner ⌝ }
     ensures { λ _. ⌜ now (room .exit) ≡ served (contextOf s) (now (planner .entry)) (Accepted q) (now (room .entry)) .room ⌝ }
@@ -130,6 +131,22 @@ fn served(s: Settings, planner: &mut [u8], quick: bool, q: Request, room: &mut [
         return on_lent(s, planner, q, room);
     }
     beside(s, planner, q, room)
+}
+
+// A request in range: 15 first.
+fn granted(s: Settings, planner: &mut [u8], quick: bool, q: Request, room: &mut [u8]) -> PlanAnswer
+    requires { ⌜ valid s ≡ true ⌝ }
+    requires { ⌜ plannerRight (contextOf s) (now planner) ≡ true ⌝ }
+    requires { ⌜ quick ≡ isCalm (now planner) ⌝ }
+    requires { ⌜ InRange s q ⌝ }
+    ensures { λ r. ⌜ r ≡ served (contextOf s) (now (planner .entry)) (Accepted q) (now (room .entry)) .answer ⌝ }
+    ensures { λ _. ⌜ now (planner .exit) ≡ served (contextOf s) (now (planner .entry)) (Accepted q) (now (room .entry)) .planner ⌝ }
+    ensures { λ _. ⌜ now (room .exit) ≡ served (contextOf s) (now (planner .entry)) (Accepted q) (now (room .entry)) .room ⌝ }
+{
+    if unretired(planner, q) {
+        return answer(Outcome::Refused(Refusal::Unretired));
+    }
+    served(s, planner, quick, q, room)
 }
 
 // From a state that is not refused, of which is known whether it is calm: what the request says.
@@ -149,6 +166,6 @@ pub(crate) fn asked(
 {
     match requests::read_request(s, request) {
         RequestRead::Refused(why) => answer(Outcome::Refused(why)),
-        RequestRead::Accepted(q) => served(s, planner, quick, q, room),
+        RequestRead::Accepted(q) => granted(s, planner, quick, q, room),
     }
 }

@@ -24,7 +24,7 @@ use Rattle.spec_rules.proofs.EarliestLaws.{moved-instant, picked-late}
 use Rattle.spec_state.proofs.EachInstant.{All, after-all}
 use Rattle.spec_state.proofs.RoundTrip.{Back, SomeBack, some-back}
 use Rattle.spec_plan.specs.declared.PlannerState.{PlannerState}
-use Rattle.spec_plan.specs.Plan.{Draft, rowPacket, colPacket, when, waiting, stateIn, openOn, anyWaits, carried, slot, leaver, placedIn, sent, flushed, flushedWhile, loses, closed, closedUpTo, reached, delays, plannedRead, loaded, written, plannedWrite, turned, plannedRefresh, plannedDrain}
+use Rattle.spec_plan.specs.Plan.{Draft, rowPacket, colPacket, when, waiting, stateIn, openOn, anyWaits, carried, slot, leaver, placedIn, sent, flushed, flushedWhile, loses, closed, closedUpTo, reached, delays, plannedRead, loaded, written, plannedWrite, turned, plannedRefresh, plannedFlush, plannedClose}
 use Rattle.spec_plan.proofs.SentLaws.{when-either}
 use Rattle.plan_bytes.proofs.Tops.{Under, under-more, least-top}
 
@@ -166,6 +166,10 @@ module _ (s : Settings) (v : valid s ≡ true) where
         let x : Draft = sent cx (rowPacket (Refp b)) y in
         marked-more s (top + 6144 + 64 + 64) (top + 6400) (omega arith) _ (marked-turned (top + 6144 + 64 + 64) x (marked-sent (top + 6144 + 64) y n (omega arith) (rowPacket (Refp b))) (omega arith))
 
-    pub marked-drain : Marked s (top + 6400) (plannedDrain cx d)
-    unfolding plannedDrain
-    marked-drain = marked-more s (top + 128 + 6144) (top + 6400) (omega arith) _ (marked-all (λ x. true) (top + 128) (flushedWhile cx anyWaits d) (marked-while anyWaits top d k (omega arith)) (omega arith))
+    pub marked-flush : Marked s (top + 6400) (plannedFlush cx d)
+    unfolding plannedFlush
+    marked-flush = marked-more s (top + 128) (top + 6400) (omega arith) _ (marked-while anyWaits top d k (omega arith))
+
+    pub marked-close : Marked s (top + 6400) (plannedClose cx d)
+    unfolding plannedClose
+    marked-close = marked-more s (top + 6144) (top + 6400) (omega arith) _ (marked-all (λ x. true) top d k (omega arith))

@@ -2,7 +2,7 @@
 -- Assumes nothing.
 use Prim.Native.Nat.{ℕ, zero, suc, _+_, _-_, _/_, _%_, _<_, _≤_}
 use mathlib.Core.Path.{_≡_, refl, sym, ap, ap₂, _∙_}
-use mathlib.Core.Bool.{Bool, true, not, _&&_}
+use mathlib.Core.Bool.{Bool, true, false, not, _&&_}
 use mathlib.Core.List.{List}
 use native.Mathlib.Omega.{arith}
 use borrow.Author.Tests.{leb-true, le-leb}
@@ -20,7 +20,7 @@ use Rattle.record.specs.declared.Dualoct.{Dualoct}
 use Rattle.record.specs.declared.Place.{Place}
 use Rattle.record.specs.declared.Record.{Record}
 use Rattle.record.specs.declared.Request.{Request}
-use Rattle.record.specs.declared.Request.the-variants.{Read, Write as WriteTo, Refresh as RefreshBank, Wait, Drain}
+use Rattle.record.specs.declared.Request.the-variants.{Read, Write as WriteTo, Refresh as RefreshBank, Wait, Flush, Close}
 use Rattle.record.proofs.RequestLaws.{InPlace, InRange}
 use Rattle.spec_rules.specs.declared.Write.{Write}
 use Rattle.spec_rules.specs.Neighbour.{bankCount, Context, contextOf, near}
@@ -29,8 +29,8 @@ use Rattle.spec_rules.specs.Checks.{since}
 use Rattle.spec_rules.proofs.Bools.{iff-eq}
 use Rattle.spec_rules.proofs.NeighbourLaws.{core-neighbours}
 use Rattle.spec_plan.specs.declared.PlannerState.{PlannerState}
-use Rattle.spec_plan.specs.Plan.{Draft, rowPacket, colPacket, stateIn, delays, anyWaits, sent, flushed, flushedWhile, closed, closedUpTo, reached, plannedRead, loaded, written, plannedWrite, turned, plannedRefresh, plannedWait, plannedDrain, stepsOf, planned}
-use Rattle.spec_plan.specs.Call.{listBytes, inTime, timely}
+use Rattle.spec_plan.specs.Plan.{Draft, rowPacket, colPacket, stateIn, delays, anyWaits, sent, flushed, flushedWhile, closed, closedUpTo, reached, plannedRead, loaded, written, plannedWrite, turned, plannedRefresh, plannedWait, plannedFlush, plannedClose, stepsOf, planned}
+use Rattle.spec_plan.specs.Call.{listBytes, inTime, timely, unretired}
 use Rattle.spec_plan.specs.PlannerBytes.{plannerBytes, plannerIn, plannerRight}
 use Rattle.spec_plan.proofs.SentLaws.{when-either, sent-refresh, while-keeps}
 use Rattle.spec_plan.proofs.PlanLaws.{Good, good-while, good-reached}
@@ -41,7 +41,7 @@ use Rattle.spec_plan.proofs.Timely.{lastDelay, timely-is}
 use Rattle.plan_bytes.specs.form.Numbers.{word, half}
 use Rattle.plan_bytes.specs.form.Drawn.{bare, drafted, Ready, Fits, Drawn}
 use Rattle.plan_bytes.proofs.Since.{since-some}
-use Rattle.plan_bytes.proofs.Marks.{far, Marked, marked-more, marked-while, marked-reached, marked-read, marked-write, marked-refresh, marked-drain}
+use Rattle.plan_bytes.proofs.Marks.{far, Marked, marked-more, marked-while, marked-reached, marked-read, marked-write, marked-refresh, marked-flush, marked-close}
 use Rattle.plan_bytes.proofs.Instants.{said-some, some-said}
 use Rattle.plan_bytes.proofs.Puts.{now-stored, refresh-stored}
 use Rattle.plan_bytes.proofs.ReadyLaws.{readies, inv}
@@ -68,16 +68,16 @@ up-to-refresh cx pick (suc n) d =
     when-either (λ y. f y ≡ f d) (pick n && not (isClosed (stateIn z n))) (closed cx n) z
     (λ _. sent-refresh cx (rowPacket (Prer n)) (flushedWhile cx test z) ∙ save ∙ up-to-refresh cx pick n d) (λ _. up-to-refresh cx pick n d)
 
-module _ (s : Settings) (b : List ℕ) (k : Ready s 999999997 b) (room : List ℕ) (m : 1088 ≤ length room) where
+module _ (s : Settings) (b : List ℕ) (k : Ready s 999999997 b) (room : List ℕ) (m : 1024 ≤ length room) where
   abbrev cx : Context
   cx = contextOf s
 
   abbrev d : Draft
   d = drafted b
 
-  -- no request makes more than 34 records
-  enough : (q : Request) → Fits (planned cx q (plannerIn b)) room 0
-  enough q = omega (arith, most-made s (plannerIn b) (inv s 999999997 b k) q)
+  -- no request makes more than 32 records
+  enough : (q : Request) → unretired q (plannerIn b) ≡ false → Fits (planned cx q (plannerIn b)) room 0
+  enough q u = omega (arith, most-made s (plannerIn b) (inv s 999999997 b k) q u)
 
   module _ (at : Place) (i : InPlace s at) where
     -- the row reached
@@ -107,8 +107,8 @@ module _ (s : Settings) (b : List ℕ) (k : Ready s 999999997 b) (room : List �
     clean = flushedWhile cx test there
 
     read-fits : Fits (sent cx rd clean) room 0
-    unfolding planned stepsOf plannedRead
-    read-fits = enough (Read at)
+    unfolding planned stepsOf plannedRead unretired
+    read-fits = enough (Read at) refl
 
     clean-fits : Fits clean room 0
     clean-fits = fits-first (sent cx rd) (sent-blind cx rd) clean room 0 read-fits
@@ -149,8 +149,8 @@ module _ (s : Settings) (b : List ℕ) (k : Ready s 999999997 b) (room : List �
       wr = written cx at mask bytes′
 
       write-fits : Fits (wr there) room 0
-      unfolding planned stepsOf plannedWrite
-      write-fits = enough (WriteTo at mask bytes′)
+      unfolding planned stepsOf plannedWrite unretired
+      write-fits = enough (WriteTo at mask bytes′) refl
 
       pub write-first : Fits there room 0
       write-first = fits-first wr (written-blind cx at mask bytes′) there room 0 write-fits
@@ -186,8 +186,8 @@ module _ (s : Settings) (b : List ℕ) (k : Ready s 999999997 b) (room : List �
   cleared = closedUpTo cx (near cx (half b 756)) bankCount d
 
   refresh-fits : Fits (refreshed (half b 756) cleared) room 0
-  unfolding planned stepsOf plannedRefresh turned
-  refresh-fits = rw bank-is (enough RefreshBank)
+  unfolding planned stepsOf plannedRefresh turned unretired
+  refresh-fits = rw bank-is (enough RefreshBank refl)
 
   pub refresh-first : Fits cleared room 0
   refresh-first = cleared-first s 999999997 b k (omega arith) (half b 756) (refreshed (half b 756)) (refreshed-blind (half b 756)) room refresh-fits
@@ -224,41 +224,23 @@ module _ (s : Settings) (b : List ℕ) (k : Ready s 999999997 b) (room : List �
           next = u .next;
         })
 
-  -- ---- drain
+  -- ---- flush and close
 
-  abbrev emptied : Draft
-  emptied = flushedWhile cx anyWaits d
-
-  abbrev shut : Draft → Draft
-  shut = closedUpTo cx (λ x. true) bankCount
-
-  drain-fits : Fits (shut emptied) room 0
-  unfolding planned stepsOf plannedDrain
-  drain-fits = enough Drain
-
-  emptied-after : (b1 : List ℕ) → b1 ≡ plannerBytes (emptied .planner) → After s 1000001000 emptied b1
-  emptied-after =
-      after-of s 999999997 b k (1000000000 + 128) 1000001000 emptied (omega arith) (omega arith) (marked-while s (readies s 999999997 b k .figures) anyWaits 1000000000 d (start s 999999997 b k) (omega arith))
-      (good-while cx (core-neighbours s) (plannerIn b) d (good s 999999997 b k) anyWaits refl)
+  pub emptied-fits : Fits (flushedWhile cx anyWaits d) room 0
+  unfolding planned stepsOf plannedFlush unretired
+  emptied-fits = enough Flush refl
 
   -- all banks from the first on
-  all-shut : (z : Draft) → closedUpTo cx (λ y. leb 0 y) 32 z ≡ shut z
-  unfolding bankCount
-  all-shut z = up-to-ext cx z (λ y. leb 0 y) (λ y. true) 32 (λ y l. le-leb 0 y (omega arith))
+  all-shut : closedUpTo cx (λ y. leb 0 y) 32 d ≡ plannedClose cx d
+  unfolding bankCount plannedClose
+  all-shut = up-to-ext cx d (λ y. leb 0 y) (λ y. true) 32 (λ y l. le-leb 0 y (omega arith))
 
-  pub drain-first : Fits emptied room 0
-  drain-first = fits-first shut (up-to-blind cx (λ x. true) bankCount) emptied room 0 drain-fits
+  pub close-fits : unretired Close (plannerIn b) ≡ false → Fits (closedUpTo cx (λ y. leb 0 y) 32 d) room 0
+  unfolding planned stepsOf
+  close-fits u = rw all-shut (enough Close u)
 
-  module _ (b1 room1 : List ℕ) (to1 : ℕ) (v : Drawn s emptied room 0 b1 room1 to1) where
-    pub drain-after : After s 1000001000 emptied b1
-    drain-after = emptied-after b1 (v .planner)
-
-    pub drain-room : Fits (closedUpTo cx (λ y. leb 0 y) 32 (drafted b1)) room1 to1
-    drain-room = rw (all-shut (drafted b1)) (fits-then s shut (up-to-blind cx (λ x. true) bankCount) emptied room 0 b1 room1 to1 v (drain-after .back) drain-fits)
-
-    pub drain-drawn : (b2 room2 : List ℕ) (to2 : ℕ) → Drawn s (closedUpTo cx (λ y. leb 0 y) 32 (drafted b1)) room1 to1 b2 room2 to2 → Drawn s (plannedDrain cx d) room 0 b2 room2 to2
-    unfolding plannedDrain
-    drain-drawn b2 room2 to2 u = drawn-then s shut (up-to-blind cx (λ x. true) bankCount) emptied room 0 b1 room1 to1 v (drain-after .back) drain-fits b2 room2 to2 (rw (all-shut (drafted b1)) at u)
+  pub close-drawn : (b1 room1 : List ℕ) (to : ℕ) → Drawn s (closedUpTo cx (λ y. leb 0 y) 32 d) room 0 b1 room1 to → Drawn s (plannedClose cx d) room 0 b1 room1 to
+  close-drawn b1 room1 to v = rw all-shut at v
 
 -- ---- wait
 
@@ -284,7 +266,8 @@ NoWait (Read at) = Unit {0}
 NoWait (WriteTo at mask bytes) = Unit {0}
 NoWait RefreshBank = Unit {0}
 NoWait (Wait n) = ⊥
-NoWait Drain = Unit {0}
+NoWait Flush = Unit {0}
+NoWait Close = Unit {0}
 
 request-marked : (s : Settings) (top : ℕ) (b : List ℕ) → Ready s top b → top + 6403 ≤ far → (q : Request) → NoWait q → Marked s (top + 3 + 6400) (planned (contextOf s) q (plannerIn b))
 unfolding planned stepsOf
@@ -301,7 +284,8 @@ request-marked s top b k h q n = go q n
     go (WriteTo at mask bytes) n = marked-write s v (top + 3) (drafted b) m (omega arith) at mask bytes
     go RefreshBank n = marked-refresh s v (top + 3) (drafted b) m (omega arith)
     go (Wait cycles) n = absurd n
-    go Drain n = marked-drain s v (top + 3) (drafted b) m (omega arith)
+    go Flush n = marked-flush s v (top + 3) (drafted b) m (omega arith)
+    go Close n = marked-close s v (top + 3) (drafted b) m (omega arith)
 
 -- from a calm state no packet, data or now of a request passes the last instant
 pub calm-timely : (s : Settings) (b : List ℕ) → Ready s 999990000 b → (q : Request) → NoWait q → timely (contextOf s) (planned (contextOf s) q (plannerIn b)) ≡ true
@@ -315,7 +299,8 @@ calm-timely s b k q n =
     delay-most (WriteTo at mask d) = omega (arith, bounds s (readies s 999990000 b k .figures) .cwd-cac, bounds s (readies s 999990000 b k .figures) .cac-most)
     delay-most RefreshBank = omega arith
     delay-most (Wait n) = omega arith
-    delay-most Drain = omega arith
+    delay-most Flush = omega arith
+    delay-most Close = omega arith
 
 -- a distance after a stored instant, against the last instant as it is stored
 ends-by : (w n delay : ℕ) → n ≡ w + 3 → 1 ≤ w → leb (since w delay) 999999997 ≡ leb (n + delay) horizon
@@ -375,6 +360,10 @@ module _ (s : Settings) (p : PlannerState) (room b1 room1 : List ℕ) (to : ℕ)
   unfolding stepsOf
   called-refresh w = called RefreshBank w
 
-  pub called-drain : Drawn s (plannedDrain (contextOf s) (bare p)) room 0 b1 room1 to → Called Drain (to / 32)
+  pub called-flush : Drawn s (plannedFlush (contextOf s) (bare p)) room 0 b1 room1 to → Called Flush (to / 32)
   unfolding stepsOf
-  called-drain w = called Drain w
+  called-flush w = called Flush w
+
+  pub called-close : Drawn s (plannedClose (contextOf s) (bare p)) room 0 b1 room1 to → Called Close (to / 32)
+  unfolding stepsOf
+  called-close w = called Close w

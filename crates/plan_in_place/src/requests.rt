@@ -1,16 +1,17 @@
 // Requests on the bytes of a planner.
 ghost use mathlib.Core.Path.{_≡_};
-ghost use mathlib.Core.Bool.{true};
+ghost use mathlib.Core.Bool.{true, false};
 ghost use Prim.Native.Nat.{_≤_};
 ghost use lib.Dec.{leb};
 ghost use lib.ListN.{length};
 ghost use Rattle.num.specs.Bytes.{splice};
 ghost use Rattle.settings.specs.Settings.{valid};
 ghost use Rattle.record.proofs.RequestLaws.{InPlace, InRange};
+ghost use Rattle.record.specs.declared.Request.the-variants.{Close};
 ghost use Rattle.spec_rules.specs.Neighbour.{contextOf};
 ghost use Rattle.spec_rules.specs.Checks.{since};
-ghost use Rattle.spec_plan.specs.Plan.{plannedRead, plannedWrite, plannedRefresh, plannedWait, plannedDrain, planned};
-ghost use Rattle.spec_plan.specs.Call.{listBytes, timely};
+ghost use Rattle.spec_plan.specs.Plan.{plannedRead, plannedWrite, plannedRefresh, plannedWait, plannedFlush, plannedClose, planned};
+ghost use Rattle.spec_plan.specs.Call.{listBytes, timely, unretired};
 ghost use Rattle.spec_plan.specs.PlannerBytes.{plannerBytes, plannerIn, plannerRight};
 ghost use Rattle.plan_bytes.specs.form.Numbers.{word};
 ghost use Rattle.plan_bytes.specs.form.Drawn.{drafted, Ready, Drawn};
@@ -18,6 +19,7 @@ ghost use Rattle.plan_calm.specs.form.Calm.{isCalm};
 use num::u16_at;
 use num::wide32;
 use plan_bytes::after;
+use plan_bytes::waits;
 use plan_cols::rd;
 use plan_cols::wr;
 use plan_rows::refresh_bank;
@@ -38,7 +40,7 @@ fn read(s: Settings, b: &mut [u8], at: Place, room: &mut [u8]) -> usize
     requires { ⌜ Ready s 999999997 (now b) ⌝ }
     requires { ⌜ length (now b) ≡ 768 ⌝ }
     requires { ⌜ InPlace s at ⌝ }
-    requires { ⌜ 1088 ≤ length (now room) ⌝ }
+    requires { ⌜ 1024 ≤ length (now room) ⌝ }
     ensures { λ r. ⌜ Drawn s (plannedRead (contextOf s) at (drafted (now (b .entry)))) (now (room .entry)) 0 (now (b .exit)) (now (room .exit)) r ⌝ }
 {
     let to = reach(s, b, at.bank, at.row, room);
@@ -51,7 +53,7 @@ fn write(s: Settings, b: &mut [u8], at: Place, mask: u32, d: Dualoct, room: &mut
     requires { ⌜ Ready s 999999997 (now b) ⌝ }
     requires { ⌜ length (now b) ≡ 768 ⌝ }
     requires { ⌜ InPlace s at ⌝ }
-    requires { ⌜ 1088 ≤ length (now room) ⌝ }
+    requires { ⌜ 1024 ≤ length (now room) ⌝ }
     ensures { λ r. ⌜ Drawn s (plannedWrite (contextOf s) at mask d (drafted (now (b .entry)))) (now (room .entry)) 0 (now (b .exit)) (now (room .exit)) r ⌝ }
 {
     let to = reach(s, b, at.bank, at.row, room);
@@ -62,7 +64,7 @@ fn write(s: Settings, b: &mut [u8], at: Place, mask: u32, d: Dualoct, room: &mut
 fn refresh(s: Settings, b: &mut [u8], room: &mut [u8]) -> usize
     requires { ⌜ Ready s 999999997 (now b) ⌝ }
     requires { ⌜ length (now b) ≡ 768 ⌝ }
-    requires { ⌜ 1088 ≤ length (now room) ⌝ }
+    requires { ⌜ 1024 ≤ length (now room) ⌝ }
     ensures { λ r. ⌜ Drawn s (plannedRefresh (contextOf s) (drafted (now (b .entry)))) (now (room .entry)) 0 (now (b .exit)) (now (room .exit)) r ⌝ }
 {
     let bank = u16_at(b, 756);
@@ -81,24 +83,50 @@ fn wait(s: Settings, b: &mut [u8], cycles: u32)
     put_u32(b, 752, after(b, 752, cycles));
 }
 
-// "A drain first retires both"; "then PRER to each open bank in rising order."
-fn drain(s: Settings, b: &mut [u8], room: &mut [u8]) -> usize
+// "flush: NOCOPs until no write waits."
+fn flush(s: Settings, b: &mut [u8], room: &mut [u8]) -> usize
     requires { ⌜ Ready s 999999997 (now b) ⌝ }
     requires { ⌜ length (now b) ≡ 768 ⌝ }
-    requires { ⌜ 1088 ≤ length (now room) ⌝ }
-    ensures { λ r. ⌜ Drawn s (plannedDrain (contextOf s) (drafted (now (b .entry)))) (now (room .entry)) 0 (now (b .exit)) (now (room .exit)) r ⌝ }
+    requires { ⌜ 1024 ≤ length (now room) ⌝ }
+    ensures { λ r. ⌜ Drawn s (plannedFlush (contextOf s) (drafted (now (b .entry)))) (now (room .entry)) 0 (now (b .exit)) (now (room .exit)) r ⌝ }
 {
-    let to = flush_all(s, b, room, 0);
-    close_from(s, b, 0, 32, room, to)
+    flush_all(s, b, room, 0)
 }
 
-// A request in range from a state that is not refused, with room for the most records: the number of records that it makes. They
-// may be late.
+// "close: PRER to each open bank in rising order."
+fn close(s: Settings, b: &mut [u8], room: &mut [u8]) -> usize
+    requires { ⌜ Ready s 999999997 (now b) ⌝ }
+    requires { ⌜ length (now b) ≡ 768 ⌝ }
+    requires { ⌜ unretired Close (plannerIn (now b)) ≡ false ⌝ }
+    requires { ⌜ 1024 ≤ length (now room) ⌝ }
+    ensures { λ r. ⌜ Drawn s (plannedClose (contextOf s) (drafted (now (b .entry)))) (now (room .entry)) 0 (now (b .exit)) (now (room .exit)) r ⌝ }
+{
+    close_from(s, b, 0, 32, room, 0)
+}
+
+// Whether a request is a close while a write waits.
+pub fn unretired(planner: &[u8], q: Request) -> bool
+    requires { ⌜ length (now planner) ≡ 768 ⌝ }
+    ensures { λ r. ⌜ r ≡ unretired q (plannerIn (now (planner .entry))) ⌝ }
+{
+    match q {
+        Request::Read(_) => false,
+        Request::Write(_, _, _) => false,
+        Request::Refresh => false,
+        Request::Wait(_) => false,
+        Request::Flush => false,
+        Request::Close => waits(planner),
+    }
+}
+
+// A request in range from a state that is not refused, no close while a write waits, with room for the most records: the number of
+// records that it makes. They may be late.
 pub fn plan(s: Settings, planner: &mut [u8], q: Request, room: &mut [u8]) -> usize
     requires { ⌜ valid s ≡ true ⌝ }
     requires { ⌜ plannerRight (contextOf s) (now planner) ≡ true ⌝ }
     requires { ⌜ InRange s q ⌝ }
-    requires { ⌜ 1088 ≤ length (now room) ⌝ }
+    requires { ⌜ unretired q (plannerIn (now planner)) ≡ false ⌝ }
+    requires { ⌜ 1024 ≤ length (now room) ⌝ }
     ensures { λ _. ⌜ now (planner .exit) ≡ plannerBytes (planned (contextOf s) q (plannerIn (now (planner .entry))) .planner) ⌝ }
     ensures { λ _. ⌜ now (room .exit) ≡ splice (now (room .entry)) 0 (listBytes s (planned (contextOf s) q (plannerIn (now (planner .entry))) .records)) ⌝ }
     ensures { λ r. ⌜ r ≡ length (planned (contextOf s) q (plannerIn (now (planner .entry))) .records) ⌝ }
@@ -111,7 +139,8 @@ pub fn plan(s: Settings, planner: &mut [u8], q: Request, room: &mut [u8]) -> usi
             wait(s, planner, cycles);
             0
         }
-        Request::Drain => drain(s, planner, room) / 32,
+        Request::Flush => flush(s, planner, room) / 32,
+        Request::Close => close(s, planner, room) / 32,
     }
 }
 
@@ -135,7 +164,8 @@ pub fn in_time(s: Settings, planner: &[u8], q: Request) -> bool
         Request::Write(_, _, _) => true,
         Request::Refresh => true,
         Request::Wait(cycles) => ends_by(planner, cycles),
-        Request::Drain => true,
+        Request::Flush => true,
+        Request::Close => true,
     }
 }
 
@@ -153,6 +183,7 @@ pub fn left_in_time(s: Settings, planner: &[u8], q: Request, left: &[u8]) -> boo
         Request::Write(_, _, _) => ends_by(left, s.cwd),
         Request::Refresh => ends_by(left, 0),
         Request::Wait(cycles) => ends_by(planner, cycles),
-        Request::Drain => ends_by(left, 0),
+        Request::Flush => ends_by(left, 0),
+        Request::Close => ends_by(left, 0),
     }
 }

@@ -16,7 +16,7 @@ use Rattle.record.specs.declared.Place.{Place}
 use Rattle.record.specs.declared.Record.{Record}
 use Rattle.record.specs.declared.Record.the-variants.{RowAt, ColAt, DataOf}
 use Rattle.record.specs.declared.Request.{Request}
-use Rattle.record.specs.declared.Request.the-variants.{Read, Write as WriteTo, Refresh as RefreshBank, Wait, Drain}
+use Rattle.record.specs.declared.Request.the-variants.{Read, Write as WriteTo, Refresh as RefreshBank, Wait, Flush, Close}
 use Rattle.spec_rules.specs.declared.Write.{Write}
 use Rattle.spec_rules.specs.Neighbour.{bankCount, Context, near}
 use Rattle.spec_rules.specs.Packets.{instant}
@@ -26,7 +26,7 @@ use Rattle.spec_rules.specs.Channel.{waitingOf}
 use Rattle.spec_rules.specs.Earliest.{placedAt, under, earliest, leastFrom}
 use Rattle.spec_rules.proofs.EarliestLaws.{moved-instant, picked-late}
 use Rattle.spec_plan.specs.declared.PlannerState.{PlannerState}
-use Rattle.spec_plan.specs.Plan.{Draft, rowPacket, colPacket, when, waiting, stateIn, openOn, anyWaits, carried, slot, leaver, placedIn, sent, flushed, flushedWhile, loses, closed, closedUpTo, cleared, reached, delays, plannedRead, loaded, written, plannedWrite, turned, plannedRefresh, plannedWait, plannedDrain, stepsOf, planned}
+use Rattle.spec_plan.specs.Plan.{Draft, rowPacket, colPacket, when, waiting, stateIn, openOn, anyWaits, carried, slot, leaver, placedIn, sent, flushed, flushedWhile, loses, closed, closedUpTo, cleared, reached, delays, plannedRead, loaded, written, plannedWrite, turned, plannedRefresh, plannedWait, plannedFlush, plannedClose, stepsOf, planned}
 use Rattle.spec_plan.specs.Call.{inTime, timely}
 use Rattle.spec_plan.proofs.SentLaws.{when-either}
 
@@ -36,7 +36,8 @@ lastDelay cx (Read at) = cx .settings .cac
 lastDelay cx (WriteTo at mask bytes) = cx .settings .cwd
 lastDelay cx RefreshBank = 0
 lastDelay cx (Wait cycles) = 0
-lastDelay cx Drain = 0
+lastDelay cx Flush = 0
+lastDelay cx Close = 0
 
 module _ (cx : Context) where
   -- no packet or data instant of these records is after t
@@ -194,9 +195,13 @@ module _ (cx : Context) where
       let y : Draft = sent cx (rowPacket (Refa bank)) z in
       led-timely (plannedRefresh cx d) (led-row y (led-row z (led-up-to (near cx bank) bankCount d k) (Refa bank)) (Refp bank))
 
-  drain-timely : (d : Draft) → Led d → timely cx (plannedDrain cx d) ≡ leb (plannedDrain cx d .planner .now .0) horizon
-  unfolding plannedDrain
-  drain-timely d k = led-timely (plannedDrain cx d) (led-up-to (λ x. true) bankCount _ (led-while anyWaits d k))
+  flush-timely : (d : Draft) → Led d → timely cx (plannedFlush cx d) ≡ leb (plannedFlush cx d .planner .now .0) horizon
+  unfolding plannedFlush
+  flush-timely d k = led-timely (plannedFlush cx d) (led-while anyWaits d k)
+
+  close-timely : (d : Draft) → Led d → timely cx (plannedClose cx d) ≡ leb (plannedClose cx d .planner .now .0) horizon
+  unfolding plannedClose
+  close-timely d k = led-timely (plannedClose cx d) (led-up-to (λ x. true) bankCount d k)
 
   wait-timely : (cycles : ℕ) (p : PlannerState) (d : Draft) → d ≡ record { planner = p; records = [] } → timely cx (plannedWait cx cycles d) ≡ leb (plannedWait cx cycles d .planner .now .0) horizon
   unfolding plannedWait
@@ -218,4 +223,5 @@ module _ (cx : Context) where
       go (WriteTo at mask bytes) = write-timely at mask bytes d tt
       go RefreshBank = rw plus-none (refresh-timely d tt)
       go (Wait cycles) = rw plus-none (wait-timely cycles p d refl)
-      go Drain = rw plus-none (drain-timely d tt)
+      go Flush = rw plus-none (flush-timely d tt)
+      go Close = rw plus-none (close-timely d tt)

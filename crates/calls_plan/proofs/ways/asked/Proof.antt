@@ -7,8 +7,8 @@ use borrow.Author.Needs.{needs}
 use Rattle.calls_plan.proofs.ways.asked.Statement.{statement}
 use Rattle.calls_plan.proofs.ways.asked.Tie as tie
 
-served-requires : tie.Need-served-requires
-served-requires c κs =
+granted-requires : tie.Need-granted-requires
+granted-requires c κs =
     let z = c .before .before .before .before .before .before .before .before .before in
     let e = sym (c .before .before .before .before .before .read-request .ensures) ∙ c .before .before .before .q .given .1 in
     let range = accepted-range (z .args .s) (z .args .request .now) _ (λ i l. omega (arith, c .before .before .before .before .before .before .before .shared-slice-known .given i)) e in
@@ -22,7 +22,7 @@ returns c =
 returns-2 : tie.Need-returns-2
 returns-2 c =
     let z = c .before .before .before .before .before .before .before .before .before .before .before .before .before .before in
-    rw (by-request (z .args .s) (z .args .planner .now) (z .args .request .now) (z .args .room .now) (z .pre .1 .0), sym (c .before .before .before .before .before .before .before .before .before .before .read-request .ensures) ∙ c .before .before .before .before .before .before .before .before .q .given .1) (c .before .before .before .before .served .ensures)
+    rw (by-request (z .args .s) (z .args .planner .now) (z .args .request .now) (z .args .room .now) (z .pre .1 .0), sym (c .before .before .before .before .before .before .before .before .before .before .read-request .ensures) ∙ c .before .before .before .before .before .before .before .before .q .given .1) (c .before .before .before .before .granted .ensures)
 
 pub asked-spec : {M : Type 1} → statement M
 asked-spec =
@@ -32,7 +32,7 @@ asked-spec =
     (λ c. search needs)
     (λ c κs. search needs)
     (λ c. search needs)
-    served-requires
+    granted-requires
     returns
     (λ c. search needs)
     (λ c. search needs)

@@ -10,7 +10,7 @@ on-lent-requires : tie.Need-on-lent-requires
 on-lent-requires c κs =
     let z = c .before .before .before .before .before in
     let test = c .before .before .if1 .taken in
-    (z .pre .0, (z .pre .1 .0, (sym (z .pre .1 .1 .0) ∙ and-left (z .args .quick) _ test, (z .pre .1 .1 .1, leb-true 1088 _ (and-right (z .args .quick) _ test)))))
+    (z .pre .0, (z .pre .1 .0, (sym (z .pre .1 .1 .0) ∙ and-left (z .args .quick) _ test, (z .pre .1 .1 .1, leb-true 1024 _ (and-right (z .args .quick) _ test)))))
 
 returns : tie.Need-returns
 returns c = c .before .before .before .before .on-lent .ensures

@@ -38,6 +38,11 @@ returns-5 c =
     let z = c .before .before .before in
     rw (c .enum-told4 .given .1) (sym (calm-timely _ _ (calm-plan _ _ (z .pre .0) (λ i l. omega (arith, c .before .before .shared-slice-known .given i)) (z .pre .1 .0) (z .pre .1 .1)) _ tt))
 
+returns-6 : tie.Need-returns-6
+returns-6 c =
+    let z = c .before .before .before in
+    rw (c .enum-told5 .given .1) (sym (calm-timely _ _ (calm-plan _ _ (z .pre .0) (λ i l. omega (arith, c .before .before .shared-slice-known .given i)) (z .pre .1 .0) (z .pre .1 .1)) _ tt))
+
 pub in-time-spec : {M : Type 1} → statement M
 in-time-spec =
     tie.close
@@ -48,8 +53,10 @@ in-time-spec =
     (λ c. search needs)
     ends-by-requires
     (λ c. search needs)
+    (λ c. search needs)
     returns
     returns-2
     returns-3
     returns-4
-    returns-5)
+    returns-5
+    returns-6)

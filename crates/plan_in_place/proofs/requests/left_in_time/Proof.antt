@@ -26,6 +26,9 @@ ends-by-requires-4 c κs =
 ends-by-requires-5 : tie.Need-ends-by-requires-5
 ends-by-requires-5 c κs = left-length _ _ (c .before .before .before .before .pre .1 .1 .1)
 
+ends-by-requires-6 : tie.Need-ends-by-requires-6
+ends-by-requires-6 c κs = left-length _ _ (c .before .before .before .before .pre .1 .1 .1)
+
 returns : tie.Need-returns
 unfolding contextOf
 returns c =
@@ -58,6 +61,12 @@ returns-5 c =
     let r = ready-call _ _ (z .pre .0) (λ i l. omega (arith, c .before .before .before .before .shared-slice-known .given i)) (z .pre .1 .0) in
     c .ends-by5 .ensures ∙ left-timely _ _ r (z .args .q) 0 (rw (c .before .enum-told4 .given .1) (tt, refl)) (z .pre .1 .1 .0) _ (z .pre .1 .1 .1)
 
+returns-6 : tie.Need-returns-6
+returns-6 c =
+    let z = c .before .before .before .before .before in
+    let r = ready-call _ _ (z .pre .0) (λ i l. omega (arith, c .before .before .before .before .shared-slice-known .given i)) (z .pre .1 .0) in
+    c .ends-by6 .ensures ∙ left-timely _ _ r (z .args .q) 0 (rw (c .before .enum-told5 .given .1) (tt, refl)) (z .pre .1 .1 .0) _ (z .pre .1 .1 .1)
+
 pub left-in-time-spec : {M : Type 1} → statement M
 left-in-time-spec =
     tie.close
@@ -72,8 +81,11 @@ left-in-time-spec =
     ends-by-requires-4
     (λ c. search needs)
     ends-by-requires-5
+    (λ c. search needs)
+    ends-by-requires-6
     returns
     returns-2
     returns-3
     returns-4
-    returns-5)
+    returns-5
+    returns-6)

@@ -3,7 +3,7 @@ use mathlib.Core.Path.{refl}
 use native.Mathlib.Omega.{arith}
 use Rattle.plan_bytes.proofs.ReadyLaws.{ready-length}
 use Rattle.plan_bytes.proofs.Again.{ready-call}
-use Rattle.plan_in_place.proofs.Planned.{called-read, called-write, called-refresh, called-wait, called-drain}
+use Rattle.plan_in_place.proofs.Planned.{called-read, called-write, called-refresh, called-wait, called-flush, called-close}
 use borrow.Author.Needs.{needs}
 use Rattle.plan_in_place.proofs.requests.plan.Statement.{statement}
 use Rattle.plan_in_place.proofs.requests.plan.Tie as tie
@@ -12,19 +12,19 @@ read-requires : tie.Need-read-requires
 read-requires c κs =
     let z = c .before .before .before .before .before .before .before in
     let r = ready-call _ _ (z .pre .0) (λ i l. omega (arith, c .before .before .before .before .before .before .slice-known .given i)) (z .pre .1 .0) in
-    (r, (ready-length _ _ _ r, (rw (c .before .before .before .q .given .1) at (z .pre .1 .1 .0), z .pre .1 .1 .1)))
+    (r, (ready-length _ _ _ r, (rw (c .before .before .before .q .given .1) at (z .pre .1 .1 .0), z .pre .1 .1 .1 .1)))
 
 write-requires : tie.Need-write-requires
 write-requires c κs =
     let z = c .before .before .before .before .before .before .before in
     let r = ready-call _ _ (z .pre .0) (λ i l. omega (arith, c .before .before .before .before .before .before .slice-known .given i)) (z .pre .1 .0) in
-    (r, (ready-length _ _ _ r, ((rw (c .before .before .before .q2 .given .1) at (z .pre .1 .1 .0)) .0, z .pre .1 .1 .1)))
+    (r, (ready-length _ _ _ r, ((rw (c .before .before .before .q2 .given .1) at (z .pre .1 .1 .0)) .0, z .pre .1 .1 .1 .1)))
 
 refresh-requires : tie.Need-refresh-requires
 refresh-requires c κs =
     let z = c .before .before .before .before .before .before in
     let r = ready-call _ _ (z .pre .0) (λ i l. omega (arith, c .before .before .before .before .before .slice-known .given i)) (z .pre .1 .0) in
-    (r, (ready-length _ _ _ r, z .pre .1 .1 .1))
+    (r, (ready-length _ _ _ r, z .pre .1 .1 .1 .1))
 
 wait-requires : tie.Need-wait-requires
 wait-requires c κs =
@@ -32,11 +32,17 @@ wait-requires c κs =
     let r = ready-call _ _ (z .pre .0) (λ i l. omega (arith, c .before .before .before .before .before .slice-known .given i)) (z .pre .1 .0) in
     (r, ready-length _ _ _ r)
 
-drain-requires : tie.Need-drain-requires
-drain-requires c κs =
+flush-requires : tie.Need-flush-requires
+flush-requires c κs =
     let z = c .before .before .before .before .before .before in
     let r = ready-call _ _ (z .pre .0) (λ i l. omega (arith, c .before .before .before .before .before .slice-known .given i)) (z .pre .1 .0) in
-    (r, (ready-length _ _ _ r, z .pre .1 .1 .1))
+    (r, (ready-length _ _ _ r, z .pre .1 .1 .1 .1))
+
+close-requires : tie.Need-close-requires
+close-requires c κs =
+    let z = c .before .before .before .before .before .before in
+    let r = ready-call _ _ (z .pre .0) (λ i l. omega (arith, c .before .before .before .before .before .slice-known .given i)) (z .pre .1 .0) in
+    (r, (ready-length _ _ _ r, (rw (c .before .before .enum-told3 .given .1) at (z .pre .1 .1 .1 .0), z .pre .1 .1 .1 .1)))
 
 returns : tie.Need-returns
 returns c = rw (c .before .before .before .before .before .before .before .before .q .given .1) (called-read _ _ _ _ _ _ _ (c .before .before .before .before .read .ensures))
@@ -51,7 +57,10 @@ returns-4 : tie.Need-returns-4
 returns-4 c = rw (c .before .before .before .before .before .q3 .given .1) (called-wait _ _ _ _ _ 0 _ (c .before .before .wait .ensures) refl)
 
 returns-5 : tie.Need-returns-5
-returns-5 c = rw (c .before .before .before .before .before .before .before .enum-told2 .given .1) (called-drain _ _ _ _ _ _ (c .before .before .before .before .drain .ensures))
+returns-5 c = rw (c .before .before .before .before .before .before .before .enum-told2 .given .1) (called-flush _ _ _ _ _ _ (c .before .before .before .before .flush .ensures))
+
+returns-6 : tie.Need-returns-6
+returns-6 c = rw (c .before .before .before .before .before .before .before .enum-told3 .given .1) (called-close _ _ _ _ _ _ (c .before .before .before .before .close .ensures))
 
 pub plan-spec : {M : Type 1} → statement M
 plan-spec =
@@ -66,7 +75,9 @@ plan-spec =
     (λ c. search needs)
     wait-requires
     (λ c. search needs)
-    drain-requires
+    flush-requires
+    (λ c. search needs)
+    close-requires
     (λ c. search needs)
     (λ c. search needs)
     returns
@@ -80,4 +91,7 @@ plan-spec =
     returns-4
     (λ c. search needs)
     (λ c. search needs)
-    returns-5)
+    returns-5
+    (λ c. search needs)
+    (λ c. search needs)
+    returns-6)
