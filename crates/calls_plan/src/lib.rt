@@ -28,7 +28,7 @@ pub fn planner_fresh(planner: &mut [u8]) -> u32
     if planner.len() != PLANNER_BYTES {
         return 1;
     }
-    state_whole::fresh::put_fresh_planner(planner);
+    state_fresh::put_fresh_planner(planner);
     0
 }
 

@@ -71,22 +71,14 @@ pub fn is_near(s: Settings, b: u32, x: u32) -> bool
 pub fn low_of(s: Settings, b: u32) -> u32
     ensures { λ r. ⌜ r ≡ lowOf s b ⌝ }
 {
-    if is_first(s.core, b) {
-        32
-    } else {
-        b - 1
-    }
+    if is_first(s.core, b) { 32 } else { b - 1 }
 }
 
 // The neighbour above a bank.
 pub fn high_of(s: Settings, b: u32) -> u32
     ensures { λ r. ⌜ r ≡ highOf s b ⌝ }
 {
-    if is_last(s.core, b) {
-        32
-    } else {
-        b + 1
-    }
+    if is_last(s.core, b) { 32 } else { b + 1 }
 }
 
 // The neighbour below a bank, or the bank where there is none.
@@ -94,7 +86,11 @@ pub fn first_near(s: Settings, x: usize) -> usize
     requires { ⌜ x < 32 ⌝ }
     ensures { λ r. ⌜ (r ≡ firstNear s x) × (r < 32) ⌝ }
 {
-    if starts_run(s.core, x as u64) { x } else { x - 1 }
+    if starts_run(s.core, x as u64) {
+        x
+    } else {
+        x - 1
+    }
 }
 
 // The neighbour above a bank, or the bank where there is none.

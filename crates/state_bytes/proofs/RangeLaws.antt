@@ -21,9 +21,6 @@ use Rattle.spec_state.proofs.PlaneLaws.{tracks-at}
 use Rattle.spec_state.proofs.EachInstant.{TrackAll, WritesAll}
 use Rattle.spec_state.proofs.Stamps.{Stamp, IsInstant, Stamped}
 use Rattle.spec_state.proofs.NextValid.{valid-sound}
-use Rattle.spec_plan.specs.Planner.{plannerValid}
-use Rattle.spec_plan.specs.PlannerBytes.{plannerLength, plannerIn, plannerRight}
-use Rattle.spec_plan.proofs.Invariant.{valid-tested}
 use Rattle.spec_model.specs.Model.{modelValid}
 use Rattle.spec_model.specs.ModelBytes.{modelLength, modelIn, modelRight}
 use Rattle.state_bytes.specs.form.Stored.{latest, InRange}
@@ -126,19 +123,9 @@ module _ (cx : Context) (b : List ℕ) (v : channelValid cx (channelIn b) ≡ tr
     channel-in-range : InRange b
     channel-in-range = record { planes = planes-most; lasts = lasts-most; write = write-most; second = second-most }
 
--- ---- planners and models
+-- ---- models
 
 module _ (cx : Context) (b : List ℕ) where
-  pub planner-in-range : plannerRight cx b ≡ true → InRange b × (number (part b 752 4) ≤ latest)
-  unfolding plannerRight plannerLength plannerValid plannerIn
-  planner-in-range r =
-      let n : length b ≡ 768 = eqb-true (length b) 768 (and-left (eqb (length b) 768) _ r) in
-      let rest = and-right (eqb (length b) 768) _ r in
-      let zeros : Bool = zeroPart b 758 2 && zeroPart b 764 4 in
-      let v = and-right (channelSpare b && zeros) _ rest in
-      let spare = and-left (channelSpare b) zeros (and-left (channelSpare b && zeros) _ rest) in
-      (channel-in-range cx b (and-left (channelValid cx (channelIn b)) _ v) (omega arith) spare, instant-most (number (part b 752 4)) (valid-tested cx (plannerIn b) v .now-in))
-
   pub model-in-range : modelRight cx b ≡ true → InRange b
   unfolding modelRight modelLength modelValid modelIn
   model-in-range r =

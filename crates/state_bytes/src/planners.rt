@@ -1,22 +1,16 @@
 // A planner's 768 bytes.
 ghost use mathlib.Core.Path.{_≡_};
 ghost use mathlib.Core.Bool.{true, _&&_};
-ghost use Prim.Native.Nat.{_≤_};
 ghost use lib.ListN.{length};
-ghost use Rattle.num.specs.Bytes.{number, part};
 ghost use Rattle.spec_rules.specs.Neighbour.{contextOf};
-ghost use Rattle.spec_plan.specs.PlannerBytes.{plannerIn, plannerRight};
-ghost use Rattle.state_bytes.specs.form.Stored.{latest, InRange};
+ghost use Rattle.spec_plan.specs.PlannerBytes.{plannerRight};
 ghost use Rattle.state_bytes.specs.form.Tested.{allStored, plannerFields};
-use crate::reads::instant_at;
-use crate::reads::read_channel;
 use crate::tested::LATEST;
 use crate::tested::buffer_right;
 use crate::tested::channel_right;
 use crate::tested::tags_right;
 use settings::Settings;
 use spec_plan::PLANNER_BYTES;
-use spec_plan::PlannerState;
 
 // The fields after the channel's.
 fn fields_right(b: &[u8]) -> bool
@@ -44,20 +38,4 @@ pub fn planner_rest_right(s: Settings, b: &[u8]) -> bool
     ensures { λ r. ⌜ r ≡ plannerRight (contextOf s) (now (b .entry)) ⌝ }
 {
     fields_right(b) & tags_right(s, 0, b) & buffer_right(s.columns, 0, b)
-}
-
-// The state that a planner's bytes say.
-pub fn read_planner(b: &[u8]) -> PlannerState
-    requires { ⌜ length (now b) ≡ 768 ⌝ }
-    requires { ⌜ InRange (now b) ⌝ }
-    requires { ⌜ number (part (now b) 752 4) ≤ latest ⌝ }
-    ensures { λ r. ⌜ r ≡ plannerIn (now (b .entry)) ⌝ }
-{
-    PlannerState {
-        channel: read_channel(b),
-        now: instant_at(b, 752),
-        refresh: num::u16_at(b, 756),
-        mask: num::u16_at(b, 760),
-        second: num::u16_at(b, 762),
-    }
 }

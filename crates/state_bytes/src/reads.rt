@@ -4,13 +4,12 @@ ghost use Prim.Native.Nat.{_+_, _*_, _≤_, _<_};
 ghost use lib.Dec.{eqb};
 ghost use lib.ListN.{length, getD};
 ghost use Rattle.num.specs.Bytes.{number, part};
-ghost use Rattle.spec_state.specs.ChannelBytes.{bankIn, instantIn, trackIn, lastsIn, writeIn, bufferIn, channelIn};
+ghost use Rattle.spec_state.specs.ChannelBytes.{bankIn, instantIn, trackIn, lastsIn, writeIn, bufferIn};
 ghost use Rattle.state_bytes.specs.form.Stored.{latest, InRange};
 use settings::PacketAt;
 use spec_rules::Bank;
 use spec_rules::BankTrack;
 use spec_rules::Buffer;
-use spec_rules::Channel;
 use spec_rules::LastInstants;
 use spec_rules::Write;
 
@@ -102,24 +101,4 @@ pub fn due_at(b: &[u8]) -> bool
     ensures { λ r. ⌜ r ≡ eqb (getD (now (b .entry)) 729 0) 1 ⌝ }
 {
     b[729] == 1
-}
-
-// The whole channel.
-pub(crate) fn read_channel(b: &[u8]) -> Channel
-    requires { ⌜ 752 ≤ length (now b) ⌝ }
-    requires { ⌜ InRange (now b) ⌝ }
-    ensures { λ r. ⌜ r ≡ channelIn (now (b .entry)) ⌝ }
-{
-    let mut ch = Channel {
-        banks: [track_at(b, 0); 32],
-        lasts: lasts_at(b),
-        buffer: buffer_at(b),
-        due: due_at(b),
-    };
-    let mut x = 1;
-    while x < 32 {
-        ch.banks[x] = track_at(b, x);
-        x += 1;
-    }
-    ch
 }

@@ -1,8 +1,8 @@
--- `state_whole::fresh::put_fresh_planner` meets its contract: zeros, then now.
-use Rattle.state_whole.proofs.FreshLaws.{planner-put}
+-- `state_fresh::put_fresh_planner` meets its contract: zeros, then now.
+use Rattle.state_fresh.proofs.FreshLaws.{planner-put}
 use borrow.Author.Needs.{needs}
-use Rattle.state_whole.proofs.fresh.put_fresh_planner.Statement.{statement}
-use Rattle.state_whole.proofs.fresh.put_fresh_planner.Tie as tie
+use Rattle.state_fresh.proofs.put_fresh_planner.Statement.{statement}
+use Rattle.state_fresh.proofs.put_fresh_planner.Tie as tie
 
 returns : tie.Need-returns
 returns c =

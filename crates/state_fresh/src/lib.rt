@@ -1,4 +1,4 @@
-// Fresh states: every number is 0 but for now, which is 4 and stored as 1.
+// The bytes of fresh planners and models: every number is 0 but for now, which is 4 and stored as 1.
 ghost use mathlib.Core.Path.{_≡_};
 ghost use lib.ListN.{length};
 ghost use Rattle.spec_plan.specs.Planner.{freshPlanner};

@@ -1,8 +1,8 @@
--- `state_whole::fresh::put_fresh_model` meets its contract: zeros.
-use Rattle.state_whole.proofs.FreshLaws.{model-put}
+-- `state_fresh::put_fresh_model` meets its contract: zeros.
+use Rattle.state_fresh.proofs.FreshLaws.{model-put}
 use borrow.Author.Needs.{needs}
-use Rattle.state_whole.proofs.fresh.put_fresh_model.Statement.{statement}
-use Rattle.state_whole.proofs.fresh.put_fresh_model.Tie as tie
+use Rattle.state_fresh.proofs.put_fresh_model.Statement.{statement}
+use Rattle.state_fresh.proofs.put_fresh_model.Tie as tie
 
 returns : tie.Need-returns
 returns c =
