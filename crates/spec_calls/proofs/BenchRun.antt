@@ -30,6 +30,7 @@ use Rattle.spec_plan.specs.declared.Outcome.the-variants.{Refused, Made}
 use Rattle.spec_plan.specs.Planner.{freshPlanner, plannerValid}
 use Rattle.spec_plan.specs.PlannerBytes.{plannerBytes}
 use Rattle.spec_plan.specs.Plan.{Draft, planned}
+use Rattle.spec_plan.specs.Looked.{lookedBy}
 use Rattle.spec_plan.specs.Call.{listBytes, timely, outcomeOf, unretired, outcomeBy, planOutcome, isMade, accepted, draftBy, planNext, planRecords, planRoom}
 use Rattle.spec_plan.specs.Runs.{Call, OfBytes, plannerAfter, listed}
 use Rattle.spec_plan.proofs.Valid.{fresh-valid, next-valid}
@@ -67,38 +68,38 @@ calls-append (c ∷ a) b = rw (calls-append a b)
 pub refusal-number : (r : Refusal) → eqb (answerOf r .number) 0 ≡ false
 refusal-number r = ne-eqb _ 0 (refused-number r)
 
-answer-accepted : (o : Outcome) → eqb (planAnswer o .number) 0 ≡ isMade o
+answer-accepted : (banks : ℕ) (o : Outcome) → eqb (planAnswer banks o .number) 0 ≡ isMade o
 unfolding planAnswer isMade
-answer-accepted (Refused r) = refusal-number r
-answer-accepted (Made n) = refl
+answer-accepted banks (Refused r) = refusal-number r
+answer-accepted banks (Made n) = refl
 
 -- the number of records is that of the draft of an accepted call
-of-records : (cx : Context) (d : Draft) (room : ℕ) → planAnswer (outcomeOf cx d room) .records ≡ length (cond (isMade (outcomeOf cx d room)) (d .records) [])
+of-records : (banks : ℕ) (cx : Context) (d : Draft) (room : ℕ) → planAnswer banks (outcomeOf cx d room) .records ≡ length (cond (isMade (outcomeOf cx d room)) (d .records) [])
 unfolding outcomeOf planAnswer isMade
-of-records cx d room = go (timely cx d) (leb (length (d .records)) (room / 32))
+of-records banks cx d room = go (timely cx d) (leb (length (d .records)) (room / 32))
   where
     go : (p q : Bool)
-        → planAnswer (cond p (cond q (Made (length (d .records))) (Refused refusal.Full)) (Refused refusal.Horizon)) .records
+        → planAnswer banks (cond p (cond q (Made (length (d .records))) (Refused refusal.Full)) (Refused refusal.Horizon)) .records
         ≡ length (cond (isMade (cond p (cond q (Made (length (d .records))) (Refused refusal.Full)) (Refused refusal.Horizon))) (d .records) [])
     go true true = refl
     go true false = refl
     go false q = refl
 
-by-records : (cx : Context) (p : PlannerState) (q : RequestRead) (room : ℕ)
-    → planAnswer (outcomeBy cx p q room) .records ≡ length (cond (isMade (outcomeBy cx p q room)) (draftBy cx p q .records) [])
+by-records : (banks : ℕ) (cx : Context) (p : PlannerState) (q : RequestRead) (room : ℕ)
+    → planAnswer banks (outcomeBy cx p q room) .records ≡ length (cond (isMade (outcomeBy cx p q room)) (draftBy cx p q .records) [])
 unfolding outcomeBy draftBy planAnswer isMade
-by-records cx p (request.Refused why) room = refl
-by-records cx p (request.Accepted q) room = go (unretired q p)
+by-records banks cx p (request.Refused why) room = refl
+by-records banks cx p (request.Accepted q) room = go (unretired q p)
   where
     go : (u : Bool)
-        → planAnswer (cond u (Refused refusal.Unretired) (outcomeOf cx (planned cx q p) room)) .records
+        → planAnswer banks (cond u (Refused refusal.Unretired) (outcomeOf cx (planned cx q p) room)) .records
         ≡ length (cond (isMade (cond u (Refused refusal.Unretired) (outcomeOf cx (planned cx q p) room))) (planned cx q p .records) [])
     go true = refl
-    go false = of-records cx (planned cx q p) room
+    go false = of-records banks cx (planned cx q p) room
 
-answer-records : (cx : Context) (p : PlannerState) (bytes : List ℕ) (room : ℕ) → planAnswer (planOutcome cx p bytes room) .records ≡ length (planRecords cx p bytes room)
+answer-records : (banks : ℕ) (cx : Context) (p : PlannerState) (bytes : List ℕ) (room : ℕ) → planAnswer banks (planOutcome cx p bytes room) .records ≡ length (planRecords cx p bytes room)
 unfolding planOutcome planRecords
-answer-records cx p bytes room = by-records cx p (requestRead (cx .settings) bytes) room
+answer-records banks cx p bytes room = by-records banks cx p (requestRead (cx .settings) bytes) room
 
 -- ---- one call
 
@@ -111,7 +112,8 @@ fed-same : (request : List ℕ) (p q : Bool) (l m : List Fed) → p ≡ q → l 
 fed-same request p q l m e f = rw (e, f)
 
 -- an outcome's result, field by field
-result-answer : (planner bytes room : List ℕ) (cx : Context) (p : PlannerState) (o : Outcome) → planBy planner bytes room cx p o .answer ≡ planAnswer o
+result-answer : (planner bytes room : List ℕ) (cx : Context) (p : PlannerState) (o : Outcome) → planBy planner bytes room cx p o .answer ≡ planAnswer (lookedBy p (requestRead (cx .settings) bytes)) o
+unfolding planAnswer
 result-answer planner bytes room cx p (Refused why) = refl
 result-answer planner bytes room cx p (Made n) = refl
 
@@ -119,11 +121,15 @@ module _ (settings : List ℕ) (s : Settings) (a : settingsRead settings ≡ Acc
   v : valid s ≡ true
   v = accepted-valid settings s a
 
+  -- how many banks the walk of a request looks at
+  abbrev pub looks : List ℕ → ℕ
+  looks bytes = lookedBy p (requestRead (contextOf s .settings) bytes)
+
   call-result : (bytes room : List ℕ) → planCall settings (plannerBytes p) bytes room ≡ planBy (plannerBytes p) bytes room (contextOf s) p (planOutcome (contextOf s) p bytes (length room))
   unfolding planCall underSettings planUnder contextOf
   call-result bytes room = rw (a, planner-right (contextOf s) v p k, planner-decode-encode (contextOf s) v p k)
 
-  pub call-answer : (bytes room : List ℕ) → planCall settings (plannerBytes p) bytes room .answer ≡ planAnswer (planOutcome (contextOf s) p bytes (length room))
+  pub call-answer : (bytes room : List ℕ) → planCall settings (plannerBytes p) bytes room .answer ≡ planAnswer (looks bytes) (planOutcome (contextOf s) p bytes (length room))
   call-answer bytes room =
       ap (λ (x : PlanResult). x .answer) (call-result bytes room) ∙ result-answer (plannerBytes p) bytes room (contextOf s) p (planOutcome (contextOf s) p bytes (length room))
 
@@ -151,7 +157,7 @@ module _ (settings : List ℕ) (s : Settings) (a : settingsRead settings ≡ Acc
   unfolding planRoom contextOf
   call-list bytes room =
       let l : List Record = planRecords (contextOf s) p bytes (length room) in
-      rw (call-answer bytes room, call-placed bytes room, answer-records (contextOf s) p bytes (length room)) (part-splice room 0 (listBytes s l) (32 * length l) (length-list s l) (omega arith))
+      rw (call-answer bytes room, call-placed bytes room, answer-records (looks bytes) (contextOf s) p bytes (length room)) (part-splice room 0 (listBytes s l) (32 * length l) (length-list s l) (omega arith))
 
   bench-next : (c : PlanCall) (list : List ℕ) →
       benchNext settings c (record { planner = plannerBytes p; list = list })
@@ -192,7 +198,7 @@ module _ (settings : List ℕ) (s : Settings) (a : settingsRead settings ≡ Acc
       let q : PlannerState = planNext (contextOf s) p (c .request) (length (c .room)) in
       let new : List Record = planRecords (contextOf s) p (c .request) (length (c .room)) in
       let made =
-      ap (λ (x : PlanAnswer). eqb (x .number) 0) (call-answer settings s a p k (c .request) (c .room)) ∙ answer-accepted (planOutcome (contextOf s) p (c .request) (length (c .room)))
+      ap (λ (x : PlanAnswer). eqb (x .number) 0) (call-answer settings s a p k (c .request) (c .room)) ∙ answer-accepted (looks settings s a p k (c .request)) (planOutcome (contextOf s) p (c .request) (length (c .room)))
       in
       let rest = fed-from l (b .1) q (next-valid (contextOf s) (core-neighbours s) p (c .request) (length (c .room)) (b .0) k) (list ++ listBytes s new) in
       rw (bench-next settings s a p k c list) (fed-same (c .request) _ _ _ _ made rest)
@@ -216,5 +222,5 @@ module _ (settings : List ℕ) (s : Settings) (a : settingsRead settings ≡ Acc
     answers-accepted bytes room e =
         let p : PlannerState = plannerAfter (contextOf s) freshPlanner (callsOf calls) in
         let k = after-valid calls b freshPlanner (fresh-valid (contextOf s)) in
-        let n : planAnswer (planOutcome (contextOf s) p bytes (length room)) .number ≡ 0 = rw (bench-planner, call-answer settings s a p k bytes room) at e in
-        sym (answer-accepted (planOutcome (contextOf s) p bytes (length room))) ∙ rw n
+        let n : planAnswer (looks settings s a p k bytes) (planOutcome (contextOf s) p bytes (length room)) .number ≡ 0 = rw (bench-planner, call-answer settings s a p k bytes room) at e in
+        sym (answer-accepted (looks settings s a p k bytes) (planOutcome (contextOf s) p bytes (length room))) ∙ rw n

@@ -9,6 +9,7 @@ use Rattle.settings.specs.declared.Settings.{Settings as Figures}
 use Rattle.record.specs.declared.Refusal.{Refusal}
 use Rattle.record.specs.declared.Refusal.the-variants.{Settings}
 use Rattle.record.specs.Refusal.{answerOf}
+use Rattle.record.specs.Request.{requestRead}
 use Rattle.spec_rules.specs.Neighbour.{Context, contextOf}
 use Rattle.spec_plan.specs.declared.PlannerState.{PlannerState}
 use Rattle.spec_plan.specs.declared.Outcome.{Outcome}
@@ -16,6 +17,7 @@ use Rattle.spec_plan.specs.declared.Outcome.the-variants.{Refused, Made}
 use Rattle.spec_plan.specs.Planner.{freshPlanner}
 use Rattle.spec_plan.specs.PlannerBytes.{plannerLength, plannerBytes, plannerIn, plannerRight}
 use Rattle.spec_plan.specs.Call.{planOutcome, planNext, planRoom}
+use Rattle.spec_plan.specs.Looked.{lookedBy}
 use Rattle.spec_calls.specs.declared.PlanAnswer.{PlanAnswer}
 use Rattle.spec_calls.specs.Settings.{underSettings}
 
@@ -32,10 +34,10 @@ freshInto size fresh given =
 unfoldable pub plannerFresh : List ℕ → FreshResult
 plannerFresh planner = freshInto plannerLength (plannerBytes freshPlanner) planner
 
--- a plan call's answer in numbers
-unfoldable pub planAnswer : Outcome → PlanAnswer
-planAnswer (Refused why) = record { number = answerOf why .number; records = 0 }
-planAnswer (Made n) = record { number = 0; records = n }
+-- a plan call's answer in numbers; close hands back "unless refused, a count, one for each bank it looked at"
+unfoldable pub planAnswer : ℕ → Outcome → PlanAnswer
+planAnswer banks (Refused why) = record { number = answerOf why .number; banks = 0; records = 0 }
+planAnswer banks (Made n) = record { number = 0; banks = banks; records = n }
 
 -- the answer, and the bytes of planner and room at exit
 pub record PlanResult : Type 0 where
@@ -47,13 +49,13 @@ pub record PlanResult : Type 0 where
 module _ (planner request room : List ℕ) where
   -- "A refusal returns its number [..], and changes no lent buffer."
   abbrev pub planRefused : Refusal → PlanResult
-  planRefused why = record { answer = planAnswer (Refused why); planner = planner; room = room }
+  planRefused why = record { answer = planAnswer 0 (Refused why); planner = planner; room = room }
 
-  -- an accepted call: the next state, and the records from the room's start on
+  -- an accepted call: how many banks close looked at, the next state, and the records from the room's start on
   abbrev pub planMade : Context → PlannerState → ℕ → PlanResult
   planMade cx p n =
       record {
-        answer = planAnswer (Made n);
+        answer = planAnswer (lookedBy p (requestRead (cx .settings) request)) (Made n);
         planner = plannerBytes (planNext cx p request (length room));
         room = planRoom cx p request room;
       }

@@ -1,10 +1,11 @@
 // What the C calls answer, in numbers. The results of the calls, with every lent buffer, and the theorem of whole runs are in specs/
 // and proofs/.
 
-// What a plan call answers: number is 0 and records what it made, or the refusal's number.
+// What a plan call answers: number is 0 and records what it made, or the refusal's number. banks is how many banks close looked at.
 #[repr(C)]
 pub struct PlanAnswer {
     pub number: u32,
+    pub banks: u32,
     pub records: u64,
 }
 

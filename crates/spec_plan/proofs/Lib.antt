@@ -10,6 +10,7 @@ pub mod Least
 pub mod Refused
 pub mod Bound
 pub mod Timely
+pub mod LookedLaws
 pub mod DataFree
 pub mod PlannerRoundTrip
 pub mod Early

@@ -29,7 +29,8 @@ use Rattle.spec_rules.specs.Earliest.{placedAt, under, earliest, leastFrom}
 use Rattle.spec_plan.specs.Planner.{freshPlanner}
 use Rattle.spec_plan.specs.Plan.{slot, sent, flushed, flushedWhile, closed, closedUpTo, reached, plannedRead, loaded, written, plannedWrite, turned, plannedRefresh, plannedWait, plannedFlush, plannedClose, stepsOf, planned}
 use Rattle.spec_plan.specs.Call.{inTime, timely, outcomeOf, unretired, outcomeBy, planOutcome, isMade, draftBy, planNext, planRecords}
-use Rattle.spec_plan.specs.Runs.{Call, listed}
+use Rattle.spec_plan.specs.Looked.{lookedUpTo, looked, lookedBy}
+use Rattle.spec_plan.specs.Runs.{Call, plannerAfter, listed}
 
 -- ---- the runs in short
 
@@ -138,6 +139,35 @@ coreLists =
 pub listUnder : ℕ → List Request → List Record
 listUnder core l = listed (contextOf (setOf 2 4 core)) freshPlanner (calls l)
 
+-- ---- how many banks close looks at (document 02 e)
+
+-- a request, and those before it
+pub record Last : Type 0 where
+  pub before : List Request
+  pub request : Request
+
+-- close with none open, with bank 0, bank 31, banks 2 and 9; with bank 1 alone, which closed bank 0; then every other kind with bank 0 open
+pub lasts : List Last
+lasts =
+    record { before = []; request = Close }
+    ∷ record { before = read 0 0 1 ∷ []; request = Close }
+    ∷ record { before = read 31 0 0 ∷ []; request = Close }
+    ∷ record { before = read 9 0 0 ∷ read 2 0 0 ∷ []; request = Close }
+    ∷ record { before = read 0 0 1 ∷ read 1 0 0 ∷ []; request = Close }
+    ∷ record { before = read 0 0 1 ∷ Close ∷ []; request = Close }
+    ∷ record { before = read 0 0 1 ∷ []; request = read 0 0 1 }
+    ∷ record { before = read 0 0 1 ∷ []; request = write 0 0 1 full ones }
+    ∷ record { before = read 0 0 1 ∷ []; request = Refresh }
+    ∷ record { before = read 0 0 1 ∷ []; request = Wait 1 }
+    ∷ record { before = read 0 0 1 ∷ []; request = Flush }
+    ∷ []
+
+pub counts : List ℕ
+counts = 0 ∷ 1 ∷ 32 ∷ 10 ∷ 2 ∷ 0 ∷ 0 ∷ 0 ∷ 0 ∷ 0 ∷ 0 ∷ []
+
+pub countOf : Last → ℕ
+countOf l = lookedBy (plannerAfter (contextOf setH) freshPlanner (calls (l .before))) (requestRead setH (requestBytes (l .request)))
+
 pub worked : map listOf runs ≡ lists
 unfolding setOf setH read ones twos write calls row col dat full runs lists listOf bytes number allUpTo usesByte spareRight placed requestOf requestRead requestFields requestBytes runOf inRuns contextOf rowTraits colTraits traits instant isPacket bankBy isClosed isOpen bankCount dataDelay leaving loads fresh waitingOf bufferOf bankNext trackNext afterPacket trackRetired afterRetire afterData after maxUpTo bounds distances retireTraits placedAt under earliest leastFrom freshPlanner slot sent flushed flushedWhile closed closedUpTo reached plannedRead loaded written plannedWrite turned plannedRefresh plannedWait plannedFlush plannedClose stepsOf planned inTime timely outcomeOf unretired outcomeBy planOutcome isMade draftBy planNext planRecords listed
 worked = refl
@@ -145,3 +175,7 @@ worked = refl
 pub core-worked : map (λ (core : ℕ). map (listUnder core) coreRuns) (0 ∷ 1 ∷ 2 ∷ []) ≡ coreLists
 unfolding setOf read calls row col full coreRuns coreLists listUnder bytes number allUpTo usesByte spareRight placed requestOf requestRead requestFields requestBytes runOf inRuns contextOf rowTraits colTraits traits instant isPacket bankBy isClosed isOpen bankCount dataDelay leaving loads fresh waitingOf bufferOf bankNext trackNext afterPacket trackRetired afterRetire afterData after maxUpTo bounds distances retireTraits placedAt under earliest leastFrom freshPlanner slot sent flushed flushedWhile closed closedUpTo reached plannedRead loaded written plannedWrite turned plannedRefresh plannedWait plannedFlush plannedClose stepsOf planned inTime timely outcomeOf unretired outcomeBy planOutcome isMade draftBy planNext planRecords listed
 core-worked = refl
+
+pub counts-worked : map countOf lasts ≡ counts
+unfolding setOf setH read ones twos write calls full lasts counts countOf bytes number allUpTo usesByte spareRight placed requestOf requestRead requestFields requestBytes runOf inRuns contextOf rowTraits colTraits traits instant isPacket bankBy isClosed isOpen bankCount dataDelay leaving loads fresh waitingOf bufferOf bankNext trackNext afterPacket trackRetired afterRetire afterData after maxUpTo bounds distances retireTraits placedAt under earliest leastFrom freshPlanner slot sent flushed flushedWhile closed closedUpTo reached plannedRead loaded written plannedWrite turned plannedRefresh plannedWait plannedFlush plannedClose stepsOf planned inTime timely outcomeOf unretired outcomeBy planOutcome isMade draftBy planNext planRecords plannerAfter lookedUpTo looked lookedBy
+counts-worked = refl
