@@ -163,8 +163,9 @@ typedef struct {
     uint64_t place;
 } rdram_judged;
 
+/* banks: how many banks a close looked at, the highest open bank + 1, 0 to 32; 0 for other kinds. */
 typedef struct {
-    uint32_t number;
+    uint32_t number, banks;
     uint64_t records;
 } rdram_planned;
 
@@ -316,7 +317,8 @@ uint32_t rdram_planner_fresh(uint8_t *planner, size_t planner_len);
  *            rises, modulo 32.
  *   wait     No packet: now rises by the cycles.
  *   flush    NOCOP while a write waits. Rows stay open.
- *   close    PRER to each open bank, in rising order. No write may wait.
+ *   close    PRER to each open bank, in rising order. No write may wait. It looks at no bank after
+ *            the last open one, and `banks` is the number of those that it looked at.
  *
  * NOCOPs stand before a PRER while it would close the bank of a waiting write. Now is the instant
  * of the latest packet, and what waits add to it. Data bytes alter no instant and no word.

@@ -1,6 +1,7 @@
 /*
  * Plans a stream of requests under set H and prints the packets: instant, name,
- * bank, row or column. The stream is run 1 of document 01.
+ * bank, row or column; and how many banks the close looked at. The stream is
+ * run 1 of document 01.
  *
  * cc -std=c11 -O2 -Ihost/c host/c/examples/plan_stream.c target/staticlib/librdram.a -o plan_stream
  */
@@ -41,6 +42,8 @@ int main(void)
             printf("refused %" PRIu32 "\n", made.number);
         for (uint64_t k = 0; k < made.records; k++)
             print(room + k * RDRAM_RECORD_BYTES);
+        if (requests[i][0] == RDRAM_REQUEST_CLOSE)
+            printf("banks looked at %" PRIu32 "\n", made.banks);
         records += made.records;
     }
     printf("records %" PRIu64 "\n", records);

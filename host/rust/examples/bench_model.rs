@@ -31,7 +31,7 @@ fn records(requests: &[[u8; REQUEST_BYTES]]) -> Vec<Record> {
     for request in requests {
         let mut room = [[0; RECORD_BYTES]; REQUEST_RECORDS];
         let made = planner.plan_bytes(&SETTINGS, request, room.as_flattened_mut());
-        list.extend_from_slice(&room[..made.unwrap()]);
+        list.extend_from_slice(&room[..made.unwrap().records]);
     }
     assert_eq!(rdram::check(&SETTINGS, list.as_flattened()), Ok(()));
     list.truncate(requests.len());

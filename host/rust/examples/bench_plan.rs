@@ -146,6 +146,15 @@ fn time_bytes(call: OnBytes, requests: &[Request]) -> Vec<f64> {
     })
 }
 
+/// Each request from a copy of the same planner: the copy is in the times.
+fn time_from(first: &State, call: OnBytes, requests: &[Request]) -> Vec<f64> {
+    let (settings, mut room) = (SETTINGS.to_bytes(), [0; ROOM]);
+    time(requests, |request| {
+        let mut state = *first;
+        call(&settings, &mut state, request, &mut room)
+    })
+}
+
 fn time_kept<P>(mut planner: P, call: Kept<P>, requests: &[Request]) -> Vec<f64> {
     let (f, mut room) = (Figures::of(&SETTINGS.to_bytes()).unwrap(), [0; ROOM]);
     time(requests, |request| {
@@ -178,5 +187,28 @@ fn main() {
             plain_kept,
             Some(tuned_kept),
         );
+    }
+    singles(&size);
+}
+
+/// Single requests, each from a planner in which bank 0 alone is open.
+fn singles(size: &Size) {
+    let open = streams::OPEN.to_bytes();
+    let mut first = fresh();
+    library(&SETTINGS.to_bytes(), &mut first, &open, &mut [0; ROOM]).unwrap();
+    for (name, request) in streams::SINGLES.iter().filter(|(name, _)| size.has(name)) {
+        let request = request.to_bytes();
+        compare(&[open, request]);
+        let requests = vec![request; size.count];
+        let [library, plain, tuned] = best(
+            size.count,
+            size.runs,
+            [
+                &mut || time_from(&first, library, &requests),
+                &mut || time_from(&first, plain_bytes, &requests),
+                &mut || time_from(&first, tuned_bytes, &requests),
+            ],
+        );
+        print_row("`rdram_plan`", name, library, plain, Some(tuned));
     }
 }

@@ -49,7 +49,7 @@ fn main() -> Result<(), Refusal> {
     for i in 0..640 {
         let mut room = [0; rdram::REQUEST_RECORDS * RECORD_BYTES];
         let made = planner.plan(&SET_H, &request(i), &mut room)?;
-        for record in room.chunks(RECORD_BYTES).take(made) {
+        for record in room.chunks(RECORD_BYTES).take(made.records) {
             if let Some(at) = data_instant(record)? {
                 meter.feed(at)?;
                 newest = at;

@@ -15,7 +15,7 @@ fn log() -> Result<Vec<u8>, rdram::Refusal> {
         let mut room = [0; rdram::REQUEST_RECORDS * RECORD_BYTES];
         let request = Request::Read { bank: (i / 3 * 5 % 32) as u8, row: 0, column: (i % 4) as u8 };
         let made = planner.plan(&SET_H, &request, &mut room)?;
-        list.extend_from_slice(&room[..made * RECORD_BYTES]);
+        list.extend_from_slice(&room[..made.records * RECORD_BYTES]);
     }
     let mut log = vec![0; (list.len() / RECORD_BYTES).div_ceil(15) * BLOCK_BYTES];
     log_encode(&SET_H, &list, &mut log)?;

@@ -1,5 +1,5 @@
-//! Plans a stream of requests under set H and prints the packets: instant, then the packet. The
-//! stream is run 1 of document 01. Run with
+//! Plans a stream of requests under set H and prints the packets: instant, then the packet; and how
+//! many banks the close looked at. The stream is run 1 of document 01. Run with
 //! `cargo run --release --offline --manifest-path host/rust/Cargo.toml --example plan_stream`.
 
 use rdram::{word_decode, Kind, Planner, Refusal, Request, Settings, RECORD_BYTES};
@@ -43,10 +43,13 @@ fn main() -> Result<(), Refusal> {
     for request in &stream {
         let mut room = [0; rdram::REQUEST_RECORDS * RECORD_BYTES];
         let made = planner.plan(&SET_H, request, &mut room)?;
-        for record in room.chunks(RECORD_BYTES).take(made) {
+        for record in room.chunks(RECORD_BYTES).take(made.records) {
             println!("{}", text(record)?);
         }
-        records += made;
+        if *request == Request::Close {
+            println!("banks looked at {}", made.banks);
+        }
+        records += made.records;
     }
     println!("records {records}");
     assert_eq!(records, 10, "run 1 has ten records");

@@ -75,6 +75,16 @@ fn place(bytes: &mut [u8; REQUEST_BYTES], kind: u8, bank: u8, row: u16, column: 
     bytes[2..4].copy_from_slice(&row.to_le_bytes());
 }
 
+/// What a planner made of a request.
+#[derive(Clone, Copy, Debug, PartialEq, Eq)]
+pub struct Planned {
+    /// Records at the start of the room.
+    pub records: usize,
+    /// How many banks a close looked at: the highest open bank + 1, or 0 with none open. 0 for the
+    /// other requests.
+    pub banks: u32,
+}
+
 /// A planner between two requests: banks, write buffer, last instants, now and refresh bank.
 ///
 /// It is plain bytes: a copy of it is the same planner at the same point.
@@ -91,8 +101,8 @@ fn place(bytes: &mut [u8; REQUEST_BYTES], kind: u8, bank: u8, row: u16, column: 
 /// let (mut planner, mut list) = (Planner::fresh(), Vec::new());
 /// for request in &requests {
 ///     let mut room = [0; REQUEST_RECORDS * RECORD_BYTES];
-///     let records = planner.plan(&settings, request, &mut room)?;
-///     list.extend_from_slice(&room[..records * RECORD_BYTES]);
+///     let made = planner.plan(&settings, request, &mut room)?;
+///     list.extend_from_slice(&room[..made.records * RECORD_BYTES]);
 /// }
 /// // ACT RD, ACT WR D, NOCOP, PRER PRER
 /// assert_eq!(list.len(), 8 * RECORD_BYTES);
@@ -145,8 +155,8 @@ impl Planner {
     }
 
     /// Plans `request`: writes the records of its packets to the start of `room`, each packet at
-    /// the least instant that the rules of [`check`](crate::check) allow, and answers their number.
-    /// The bytes of `room` after them are unchanged. Room for [`REQUEST_RECORDS`] is enough.
+    /// the least instant that the rules of [`check`](crate::check) allow, and answers their number,
+    /// with how many banks a close looked at: it stops after the last open one. The bytes of `room` after them are unchanged. Room for [`REQUEST_RECORDS`] is enough.
     ///
     /// The records of all accepted calls from a fresh planner on, under the same settings, are a
     /// list that passes [`check`](crate::check). A write waits, alone or beside an older one, until
@@ -166,32 +176,34 @@ impl Planner {
     /// let (mut planner, mut room) = (Planner::fresh(), [0; 3 * 32]);
     /// let read = Request::Read { bank: 0, row: 0, column: 1 };
     /// assert_eq!(planner.plan(&settings, &read, &mut room[..63]), Err(Refusal::Full));
-    /// assert_eq!(planner.plan(&settings, &read, &mut room), Ok(2));
+    /// assert_eq!(planner.plan(&settings, &read, &mut room)?.records, 2);
     /// assert_eq!(room[..32], packet_record(4, Kind::Row, 0x401000)); // ACT
     /// assert_eq!(room[32..64], packet_record(13, Kind::Col, 0x80_0026_0000)); // RD
     /// // The row is open now, so RD alone.
-    /// assert_eq!(planner.plan(&settings, &read, &mut room), Ok(1));
+    /// assert_eq!(planner.plan(&settings, &read, &mut room)?.records, 1);
     /// assert_eq!(planner.now(), 17);
     /// // WR and D, at full rate: tCC is 4.
     /// let write = Request::Write { bank: 0, row: 0, column: 1, mask: 3, data: [9; 16] };
     /// for now in [23, 27, 31] {
-    ///     assert_eq!(planner.plan(&settings, &write, &mut room), Ok(2));
+    ///     assert_eq!(planner.plan(&settings, &write, &mut room)?.records, 2);
     ///     assert_eq!(planner.now(), now);
     /// }
     /// // Two writes wait, the newer one to the place that is read: NOCOP, NOCOP, RD.
-    /// assert_eq!(planner.plan(&settings, &read, &mut room), Ok(3));
-    /// // A write waits again: flush, then close.
-    /// assert_eq!(planner.plan(&settings, &write, &mut room), Ok(2));
+    /// assert_eq!(planner.plan(&settings, &read, &mut room)?.records, 3);
+    /// // A write waits again: flush, then close. Bank 0 alone is open.
+    /// assert_eq!(planner.plan(&settings, &write, &mut room)?.records, 2);
     /// assert_eq!(planner.plan(&settings, &Request::Close, &mut room), Err(Refusal::Unretired));
-    /// assert_eq!(planner.plan(&settings, &Request::Flush, &mut room), Ok(1));
-    /// assert_eq!(planner.plan(&settings, &Request::Close, &mut room), Ok(1));
+    /// assert_eq!(planner.plan(&settings, &Request::Flush, &mut room)?.records, 1);
+    /// let closed = planner.plan(&settings, &Request::Close, &mut room)?;
+    /// assert_eq!((closed.records, closed.banks), (1, 1));
+    /// # Ok::<(), Refusal>(())
     /// ```
     pub fn plan(
         &mut self,
         settings: &Settings,
         request: &Request,
         room: &mut [u8],
-    ) -> Result<usize, Refusal> {
+    ) -> Result<Planned, Refusal> {
         self.plan_bytes(settings, &request.to_bytes(), room)
     }
 
@@ -215,7 +227,7 @@ impl Planner {
         settings: &Settings,
         request: &[u8],
         room: &mut [u8],
-    ) -> Result<usize, Refusal> {
+    ) -> Result<Planned, Refusal> {
         let s = settings.to_bytes();
         // SAFETY: each pointer and length are those of one slice; `self` and `room` are lent by
         // `&mut`, so they overlap neither each other nor `request` nor `s`.
@@ -232,7 +244,10 @@ impl Planner {
             )
         };
         match answer.number {
-            0 => Ok(answer.records as usize), // at most REQUEST_RECORDS
+            0 => Ok(Planned {
+                records: answer.records as usize, // at most REQUEST_RECORDS
+                banks: answer.banks,
+            }),
             number => Err(Refusal::of_plan(number)),
         }
     }

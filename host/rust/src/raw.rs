@@ -53,6 +53,7 @@ pub struct Judged {
 #[derive(Clone, Copy, Debug, PartialEq, Eq)]
 pub struct Planned {
     pub number: u32,
+    pub banks: u32,
     pub records: u64,
 }
 

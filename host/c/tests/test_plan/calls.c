@@ -5,6 +5,7 @@ uint8_t planner[PLANNER + 64], planner_before[sizeof planner];
 uint8_t request[2 * REQUEST], room[ROOM + 64];
 uint8_t list[MOST * RECORD];
 size_t records;
+uint32_t banks;
 static uint8_t request_before[sizeof request], room_before[sizeof room];
 static unsigned writes; /* requests to write so far, from which their data come */
 
@@ -54,7 +55,7 @@ int refuses(uint32_t number, size_t planner_len, size_t request_len, size_t room
     remember();
     rdram_planned made =
         rdram_plan(settings, sizeof settings, planner, planner_len, request, request_len, room, room_len);
-    return made.number == number && made.records == 0 && STAYS(planner) && STAYS(room) && same_inputs();
+    return made.number == number && made.banks == 0 && made.records == 0 && STAYS(planner) && STAYS(room) && same_inputs();
 }
 
 int accepts(size_t room_len)
@@ -66,6 +67,7 @@ int accepts(size_t room_len)
         return 0;
     memcpy(list + RECORD * records, room, used);
     records += made.records;
+    banks = made.banks;
     return memcmp(room + used, room_before + used, sizeof room - used) == 0
         && memcmp(planner + PLANNER, planner_before + PLANNER, sizeof planner - PLANNER) == 0 && same_inputs();
 }

@@ -8,6 +8,7 @@
 #include "test_plan.h"
 
 _Static_assert(sizeof(rdram_planned) == 16, "layout of rdram_planned");
+_Static_assert(offsetof(rdram_planned, banks) == 4, "layout of rdram_planned");
 _Static_assert(offsetof(rdram_planned, records) == 8, "layout of rdram_planned");
 
 int main(void)
@@ -32,5 +33,6 @@ int main(void)
     test_horizon();
     test_cores();
     test_most_records();
+    test_banks();
     return report();
 }

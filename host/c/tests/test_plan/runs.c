@@ -202,3 +202,23 @@ void test_most_records(void)
     for (unsigned core = 0; core < CORES; core++)
         test_longest_close(core);
 }
+
+/* A close looks at the banks up to the last open one; other requests look at none. Refusals: `refuses`. */
+void test_banks(void)
+{
+    static const struct {
+        const char *text;
+        uint32_t banks;
+    } BANKS[] = {
+        {"close", 0}, {"read 0, close", 1}, {"read 31, close", 32}, {"read 9, read 2, close", 10},
+        {"read 0 0 1, read 1, close", 2}, {"read 0, read 31, close", 32}, {"read 31, close, close", 0},
+        {"read 31, read 31", 0}, {"read 31, write 31 0 0 0003", 0}, {"read 31, refresh", 0}, {"read 31, wait 1", 0},
+        {"read 31, flush", 0}, {"wait 999999900, read 31, close", 32}};
+    for (size_t i = 0; i < COUNT(BANKS); i++)
+        check(plan_all(BANKS[i].text) && banks == BANKS[i].banks, "%" PRIu32 " banks of: %s", BANKS[i].banks, BANKS[i].text);
+    /* a room that the records just fit */
+    plan_all("read 31");
+    use_request("close");
+    check(refuses(RDRAM_REFUSED_FULL, PLANNER, REQUEST, RECORD - 1), "no room to close bank 31");
+    check(accepts(RECORD) && banks == 32, "room for one record");
+}

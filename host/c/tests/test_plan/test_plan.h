@@ -17,6 +17,9 @@ extern uint8_t request[2 * REQUEST], room[ROOM + 64];
 extern uint8_t list[MOST * RECORD];
 extern size_t records;
 
+/* How many banks the last accepted call looked at. */
+extern uint32_t banks;
+
 /* Data of the n-th write. */
 void put_data(uint8_t *to, unsigned n);
 
@@ -47,6 +50,7 @@ void test_timings(void);
 void test_refresh_banks(void);
 void test_cores(void);
 void test_most_records(void);
+void test_banks(void);
 
 /* states.c */
 void test_fresh(void);

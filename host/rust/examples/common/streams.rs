@@ -82,6 +82,26 @@ impl Size {
     }
 }
 
+/// A read of row 0 of bank 0, after which that bank alone is open.
+pub const OPEN: Request = Request::Read {
+    bank: 0,
+    row: 0,
+    column: 0,
+};
+
+/// Single requests with their names, for a planner in which row 0 of bank 0 is open.
+pub const SINGLES: [(&str, Request); 2] = [
+    (
+        "read of another row, bank 0 open",
+        Request::Read {
+            bank: 0,
+            row: 1,
+            column: 0,
+        },
+    ),
+    ("close, bank 0 open", Request::Close),
+];
+
 /// Each stream with its name; at least four rows.
 pub fn all(settings: &Settings, requests: usize) -> [(&'static str, Vec<Bytes>); 5] {
     let size = Size {

@@ -1,7 +1,8 @@
 //! Core forms (document 02, c) by hand, under set H: lists and what the rules say of them under each
-//! form, runs of requests and the lists that they make, and states that one form takes and another
-//! refuses.
+//! form, runs of requests and the lists that they make, states that one form takes and another
+//! refuses, and how many banks a close looks at.
 
+use crate::calls::typed;
 use crate::hand_lists::lines;
 use crate::lists::list_bytes;
 use crate::model_calls as model;
@@ -240,4 +241,46 @@ fn states_of_another_form() {
             compare(&case, &want);
         }
     }
+}
+
+/// How many banks a close looks at, under forms 0, 1 and 2, where reads have opened these.
+const LOOKED: [(&[u8], [u32; 3]); 7] = [
+    (&[], [0; 3]),
+    (&[0], [1; 3]),
+    (&[31], [32; 3]),
+    (&[9, 2], [10; 3]),
+    (&[0, 31], [32; 3]),
+    // Opening a bank closes its neighbours.
+    (&[1, 0], [1, 1, 2]),
+    (&[16, 15], [17, 16, 17]),
+];
+
+/// The other kinds look at none, and a refused close hands no count back: `Run` compares each call.
+#[test]
+fn banks_that_close_looks_at() {
+    let mut seen = Seen::default();
+    for (banks, looked) in LOOKED {
+        for (numbers, looked) in forms().into_iter().zip(looked) {
+            let settings = bytes(&numbers);
+            let mut reference = Planner::fresh(&settings).unwrap();
+            let mut run = Run::new(&numbers);
+            for bank in banks {
+                reference.plan(&read(*bank, 0, 0), ENOUGH).unwrap();
+                run.call(&mut seen, &read(*bank, 0, 0), ENOUGH).unwrap();
+            }
+            reference.plan(&bare(CLOSE), ENOUGH).unwrap();
+            assert_eq!(reference.looked(), looked, "by the reference: {banks:?}");
+            let mut planner = rdram::Planner::from_bytes(run.state[..].try_into().unwrap());
+            let close = rdram::Request::Close;
+            let made = planner.plan(&typed(&settings).unwrap(), &close, &mut [0; ENOUGH]);
+            assert_eq!(made.unwrap().banks, looked, "{banks:?}");
+            for kind in [FLUSH, REFRESH] {
+                run.clone().call(&mut seen, &bare(kind), ENOUGH).unwrap();
+            }
+            run.call_short(&mut seen, &bare(CLOSE), 0);
+            // Nothing is open now.
+            assert_eq!(run.call(&mut seen, &bare(CLOSE), 0), Ok(0));
+        }
+    }
+    seen.report("core forms, banks looked at", &[0, 8]);
 }

@@ -166,7 +166,7 @@ fn planned_lists() {
             let Ok(made) = planner.plan_bytes(&settings, &request, &mut room) else {
                 continue;
             };
-            let records = &room[..made * RECORD_BYTES];
+            let records = &room[..made.records * RECORD_BYTES];
             for at in data_instants(&numbers, records) {
                 assert_eq!(history.answer(at), Ok(()));
                 feed(&mut meter, &mut history, at);

@@ -7,9 +7,9 @@ use crate::plan_streams::{CLOSE, FLUSH, READ, REFRESH, WAIT, WRITE};
 use crate::random::bytes;
 use crate::reference::{NOCOP, PRER, RD, WR};
 use crate::reference_plan::{self as reference, STATE_BYTES};
-use crate::reference_state::{instant, WAITING};
+use crate::reference_state::{instant, tag, WAITING};
 use crate::tuned_plan;
-use rdram::{raw, Planner, Refusal, Request};
+use rdram::{raw, Planned, Planner, Refusal, Request};
 use std::collections::BTreeMap;
 
 /// What a call must do: the number of a refusal, or the new records and the next state.
@@ -64,6 +64,18 @@ fn typed_request(request: &[u8]) -> Option<Request> {
     (typed.to_bytes() == *b).then_some(typed)
 }
 
+/// The answer to an accepted call: its records, and for a close the highest open bank + 1.
+fn answer(case: &Case, records: &[u8]) -> Planned {
+    let open = (0..32).rfind(|bank| tag(case.planner, *bank) != 0);
+    Planned {
+        records: records.len() / 32,
+        banks: match case.request[0] {
+            CLOSE => open.map_or(0, |bank| bank as u32 + 1),
+            _ => 0,
+        },
+    }
+}
+
 /// The planner and the room after a call.
 fn buffers(case: &Case, want: &Want) -> (Vec<u8>, Vec<u8>) {
     let mut room = pattern(case.room);
@@ -93,9 +105,20 @@ fn compare_c(case: &Case, want: &Want) {
             r.len(),
         )
     };
-    let answer = raw::Planned {
-        number: want.as_ref().err().copied().unwrap_or(0),
-        records: want.as_ref().map_or(0, |(r, _)| r.len() as u64 / 32),
+    let answer = match want {
+        Ok((records, _)) => {
+            let made = answer(case, records);
+            raw::Planned {
+                number: 0,
+                banks: made.banks,
+                records: made.records as u64,
+            }
+        }
+        Err(number) => raw::Planned {
+            number: *number,
+            banks: 0,
+            records: 0,
+        },
     };
     let context = || {
         let (settings, planner, request) = (case.settings, case.planner, case.request);
@@ -118,7 +141,7 @@ fn compare_wrappers(case: &Case, want: &Want) {
     };
     let answer = want
         .as_ref()
-        .map(|(r, _)| r.len() / 32)
+        .map(|(r, _)| answer(case, r))
         .map_err(|n| refusal(*n));
     let after = buffers(case, want);
     let (mut planner, mut room) = (Planner::from_bytes(state), pattern(case.room));
@@ -170,6 +193,8 @@ pub struct Seen {
     kinds: [u64; 6],
     /// Accepted requests by the number of their records.
     records: BTreeMap<usize, u64>,
+    /// Accepted closes by the number of banks that they looked at.
+    looked: BTreeMap<u32, u64>,
     /// NOCOP before RD, NOCOP before PRER, two PRER before ACT or REFA, a WR with a mask; two NOCOP
     /// before RD, two NOCOP before PRER, a WR that leaves two writes waiting.
     shapes: [u64; 7],
@@ -217,6 +242,7 @@ impl Seen {
              {masked} with a masked WR, {both} with NOCOP NOCOP RD, {both_lost} with NOCOP NOCOP \
              PRER, {beside} writes beside another; most records {most}"
         );
+        println!("{name}: closes by banks looked at: {:?}", self.looked);
     }
 
     /// Fails unless each kind and each shape was seen.
@@ -227,6 +253,11 @@ impl Seen {
             (0..7).all(|n| self.with_records(n) > 0),
             "{:?}",
             self.records
+        );
+        assert!(
+            [0, 1, 31, 32].iter().all(|n| self.looked.contains_key(n)),
+            "{:?}",
+            self.looked
         );
     }
 
@@ -270,7 +301,15 @@ impl Run {
     pub fn call(&mut self, seen: &mut Seen, request: &[u8], room: usize) -> Result<usize, u32> {
         let planned = self.reference.plan(request, room);
         let want = planned.map(|records| (records, self.reference.state()));
-        compare(&self.case(request, room), &want);
+        let case = self.case(request, room);
+        compare(&case, &want);
+        if let Ok((records, _)) = &want {
+            let banks = answer(&case, records).banks;
+            assert_eq!(banks, self.reference.looked(), "{request:?}");
+            if request[0] == CLOSE {
+                *seen.looked.entry(banks).or_default() += 1;
+            }
+        }
         let made = want.as_ref().map_or(0, |(list, _)| list.len() / 32);
         seen.add(request, &want, &self.reference.commands(made));
         let (records, next) = want?;

@@ -1,4 +1,4 @@
-//! The planner as plain Rust, written from documents 01 and 02 (a, c, d) alone, by trying. It keeps every
+//! The planner as plain Rust, written from documents 01 and 02 (a, c, d, e) alone, by trying. It keeps every
 //! record that it has made, reads banks and the waiting writes off that list, and tries each packet
 //! at now, now + 1, .. until it breaks none of the rules of `reference_rules` against all earlier
 //! records.
@@ -29,6 +29,8 @@ pub struct Planner {
     masks: Vec<u32>,
     now: u64,
     refresh: u32,
+    /// How many banks the last accepted request looked at.
+    looked: u32,
 }
 
 // ---- Requests ----
@@ -129,11 +131,16 @@ impl Planner {
             masks: Vec::new(),
             now: 4,
             refresh: 0,
+            looked: 0,
         })
     }
 
     pub fn now(&self) -> u64 {
         self.now
+    }
+
+    pub fn looked(&self) -> u32 {
+        self.looked
     }
 
     /// The mask that a packet carries: that of the write which it retires, or M = 0.
@@ -250,11 +257,17 @@ impl Planner {
         self.nocops(|writes| !writes.is_empty())
     }
 
+    /// Bank after bank while one is open.
     fn close_all(&mut self) -> Result<(), Refused> {
         if !waiting(&self.steps).is_empty() {
             return Err(15);
         }
-        self.close_open(|_| true)
+        while (0..32).any(|bank| open_row(&self.steps, bank).is_some()) {
+            let next = self.looked;
+            self.looked += 1;
+            self.close_open(|bank| bank == next)?;
+        }
+        Ok(())
     }
 
     fn serve(&mut self, request: &[u8], room: usize) -> Result<(), Refused> {
@@ -277,11 +290,12 @@ impl Planner {
     pub fn plan(&mut self, request: &[u8], room: usize) -> Result<Vec<u8>, Refused> {
         let before = (self.steps.len(), self.data.len(), self.masks.len());
         let (now, refresh) = (self.now, self.refresh);
+        self.looked = 0;
         if let Err(number) = self.serve(request, room) {
             self.steps.truncate(before.0);
             self.data.truncate(before.1);
             self.masks.truncate(before.2);
-            (self.now, self.refresh) = (now, refresh);
+            (self.now, self.refresh, self.looked) = (now, refresh, 0);
             return Err(number);
         }
         Ok(self.records(before.0, before.1))

@@ -119,6 +119,7 @@ fn layout_of_answers() {
         (size_of::<raw::Planned>(), offset_of!(raw::Planned, records)),
         (16, 8)
     );
+    assert_eq!(offset_of!(raw::Planned, banks), 4);
     assert_eq!(
         (size_of::<raw::Stepped>(), offset_of!(raw::Stepped, bytes)),
         (16, 12)

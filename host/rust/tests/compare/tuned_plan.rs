@@ -199,9 +199,10 @@ impl Planner {
         }
     }
 
-    /// No write waits.
+    /// No write waits. Stops after the last open bank.
     fn close_all(&mut self, f: &Figures, out: &mut Out) {
-        for bank in 0..32 {
+        let last = self.channel.tags.iter().rposition(|tag| *tag != 0);
+        for bank in 0..last.map_or(0, |bank| bank + 1) {
             self.close(f, out, bank);
         }
     }

@@ -111,7 +111,10 @@ impl Run {
     /// A plan call with a room of so many bytes.
     fn plan(&mut self, seen: &mut Seen, request: &[u8], room: usize) -> Result<usize, Refusal> {
         let (mut room, before) = (vec![0xEE; room], self.planner.clone());
-        let planned = self.planner.plan_bytes(&self.settings, request, &mut room);
+        let planned = self
+            .planner
+            .plan_bytes(&self.settings, request, &mut room)
+            .map(|made| made.records);
         self.answers
             .extend(self.memory.call(request, planned.is_err()));
         match planned {

@@ -200,12 +200,15 @@ impl Planner {
         self.now
     }
 
-    /// None where a write waits.
+    /// None where a write waits. Stops after the last open bank.
     fn close_all(&mut self, f: &Figures, out: &mut Out) -> Option<u32> {
         if self.channel.buffer.older().is_some() {
             return None;
         }
-        self.close(f, out, 0..=31);
+        let open = |bank: &usize| self.channel.banks[*bank].bank != Bank::Closed;
+        if let Some(last) = (0..32).rfind(open) {
+            self.close(f, out, 0..=last);
+        }
         Some(self.now)
     }
 
