@@ -1,3 +1,4 @@
 pub mod Tested
 pub mod Ranges
 pub mod Stepwise
+pub mod Walk

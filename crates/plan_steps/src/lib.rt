@@ -7,9 +7,11 @@ ghost use lib.Dec.{leb};
 ghost use Rattle.packet.specs.declared.RowPacket.the-variants.{Act};
 ghost use Rattle.spec_rules.specs.Neighbour.{bankCount, contextOf, near};
 ghost use Rattle.spec_rules.specs.History.{isClosed, anyWrite};
-ghost use Rattle.spec_plan.specs.Plan.{rowPacket, when, waiting, stateIn, openOn, delays, anyWaits, sent, flushed, flushedWhile, closed, closedUpTo, reached};
+ghost use Rattle.spec_plan.specs.Plan.{rowPacket, when, waiting, stateIn, openOn, delays, anyWaits, sent, flushed, flushedWhile, closed, closedUpTo, reached, plannedClose};
+ghost use Rattle.spec_plan.specs.Looked.{lookedUpTo};
 ghost use Rattle.plan_bytes.specs.form.Numbers.{half};
 ghost use Rattle.plan_bytes.specs.form.Drawn.{drafted, Ready, OpenAt, Fits, Drawn};
+ghost use Rattle.plan_steps.specs.form.Opened.{opened, openUpTo};
 use chan_view::neighbours::first_near;
 use chan_view::neighbours::is_near;
 use chan_view::neighbours::last_near;
@@ -26,6 +28,12 @@ use plan_rows::act;
 use plan_rows::prer;
 use record::Place;
 use settings::Settings;
+
+// Where the next record goes after a close, and how many banks it looked at.
+pub struct Walked {
+    pub to: usize,
+    pub banks: usize,
+}
 
 // The state of a bank as it is stored: 0 closed, 1 + its row where it is open.
 fn tag(b: &[u8], x: usize) -> u32
@@ -164,6 +172,63 @@ pub fn close_from(
         k += 1;
     }
     to
+}
+
+// One where a bank is open.
+fn opened(b: &[u8], x: usize) -> usize
+    requires { ⌜ length (now b) ≡ 768 ⌝ }
+    requires { ⌜ x < 32 ⌝ }
+    ensures { λ r. ⌜ r ≡ opened (stateIn (drafted (now (b .entry))) x) ⌝ }
+{
+    if tag(b, x) == 0 { 0 } else { 1 }
+}
+
+// How many banks are open.
+fn open_banks(b: &[u8]) -> usize
+    requires { ⌜ length (now b) ≡ 768 ⌝ }
+    ensures { λ r. ⌜ r ≡ openUpTo (stateIn (drafted (now (b .entry)))) 32 ⌝ }
+{
+    let mut n: usize = 0;
+    let mut x: usize = 0;
+    while x < 32 {
+        n += opened(b, x);
+        x += 1;
+    }
+    n
+}
+
+// Goes up from bank 0 while some of the open banks, of which there are so many, are left, and closes them. The count is that of its
+// turns.
+fn close_left(s: Settings, b: &mut [u8], count: usize, room: &mut [u8]) -> Walked
+    requires { ⌜ Ready s 999990000 (now b) ⌝ }
+    requires { ⌜ length (now b) ≡ 768 ⌝ }
+    requires { ⌜ count ≡ openUpTo (stateIn (drafted (now b))) 32 ⌝ }
+    requires { ⌜ Fits (plannedClose (contextOf s) (drafted (now b))) (now room) 0 ⌝ }
+    ensures { λ r. ⌜ Drawn s (plannedClose (contextOf s) (drafted (now (b .entry)))) (now (room .entry)) 0 (now (b .exit)) (now (room .exit)) (r .to) ⌝ }
+    ensures { λ r. ⌜ r .banks ≡ lookedUpTo (stateIn (drafted (now (b .entry)))) 32 ⌝ }
+{
+    let mut left = count;
+    let mut to: usize = 0;
+    let mut x: usize = 0;
+    while left != 0 {
+        let one = opened(b, x);
+        to = close_open(s, b, x, room, to);
+        left -= one;
+        x += 1;
+    }
+    Walked { to: to, banks: x }
+}
+
+// "PRER to each open bank in rising order"; "The walk should end as soon as no open bank remains"
+pub fn close_all(s: Settings, b: &mut [u8], room: &mut [u8]) -> Walked
+    requires { ⌜ Ready s 999990000 (now b) ⌝ }
+    requires { ⌜ length (now b) ≡ 768 ⌝ }
+    requires { ⌜ Fits (plannedClose (contextOf s) (drafted (now b))) (now room) 0 ⌝ }
+    ensures { λ r. ⌜ Drawn s (plannedClose (contextOf s) (drafted (now (b .entry)))) (now (room .entry)) 0 (now (b .exit)) (now (room .exit)) (r .to) ⌝ }
+    ensures { λ r. ⌜ r .banks ≡ lookedUpTo (stateIn (drafted (now (b .entry)))) 32 ⌝ }
+{
+    let count = open_banks(b);
+    close_left(s, b, count, room)
 }
 
 // "of the bank and its neighbours, close the open ones"
