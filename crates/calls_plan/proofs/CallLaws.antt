@@ -26,6 +26,7 @@ use Rattle.spec_plan.specs.Planner.{plannerValid}
 use Rattle.spec_plan.specs.PlannerBytes.{plannerLength, plannerBytes, plannerIn, plannerRight}
 use Rattle.spec_plan.specs.Plan.{Draft, planned}
 use Rattle.spec_plan.specs.Call.{listBytes, timely, outcomeOf, unretired, outcomeBy, planOutcome, isMade, draftBy, planNext, planRecords, planRoom}
+use Rattle.spec_plan.specs.Looked.{looked, lookedBy}
 use Rattle.spec_plan.proofs.Bound.{most-any}
 use Rattle.spec_plan.proofs.PlannerRoundTrip.{planner-length}
 use Rattle.plan_bytes.specs.form.Numbers.{word, Tops, Below}
@@ -78,7 +79,7 @@ module _ (s : Settings) (planner : List ℕ) where
       and-right (channelSpare planner && (zeroPart planner 758 2 && zeroPart planner 764 4)) _ (and-right (eqb (length planner) plannerLength) _ h)
 
   module _ (request room : List ℕ) where
-    pub turned-back : plannerRight (contextOf s) planner ≡ false → (r : PlanAnswer) → r ≡ planAnswer (Refused refusal.Settings)
+    pub turned-back : plannerRight (contextOf s) planner ≡ false → (r : PlanAnswer) → r ≡ planAnswer 0 (Refused refusal.Settings)
         → Leaves (planUnder planner request room s) r planner room
     unfolding planUnder
     turned-back h r e = rw h (e, (refl, refl))
@@ -90,43 +91,43 @@ module _ (s : Settings) (planner : List ℕ) where
       where
         go : (o : Outcome) → outcomeBy (contextOf s) (plannerIn planner) (requestRead s request) (length room) ≡ o
             → planBy planner request room (contextOf s) (plannerIn planner) o
-            ≡ servedBy (contextOf s) planner (draftBy (contextOf s) (plannerIn planner) (requestRead s request)) room o
+            ≡ servedBy (contextOf s) planner (lookedBy (plannerIn planner) (requestRead s request)) (draftBy (contextOf s) (plannerIn planner) (requestRead s request)) room o
         go (Refused why) e = refl
         go (Made n) e = rw e
 
     pub request-refused : plannerRight (contextOf s) planner ≡ true → (why : Refusal) → requestRead s request ≡ RefusedRequest why
-        → (r : PlanAnswer) → r ≡ planAnswer (Refused why) → Leaves (planUnder planner request room s) r planner room
+        → (r : PlanAnswer) → r ≡ planAnswer 0 (Refused why) → Leaves (planUnder planner request room s) r planner room
     unfolding served outcomeBy
     request-refused h why e r a = rw (by-request h, e) (a, (refl, refl))
 
   -- a request on the lent bytes, with room for its records, and beside them; 15 first
-  pub not-retired : (q : Request) (room : List ℕ) → unretired q (plannerIn planner) ≡ true → (r : PlanAnswer) → r ≡ planAnswer (Refused refusal.Unretired)
+  pub not-retired : (q : Request) (room : List ℕ) → unretired q (plannerIn planner) ≡ true → (r : PlanAnswer) → r ≡ planAnswer 0 (Refused refusal.Unretired)
       → Leaves (served (contextOf s) planner (Accepted q) room) r planner room
   unfolding served outcomeBy
   not-retired q room u r a = rw u (a, (refl, refl))
 
   module _ (q : Request) (room : List ℕ) (h : plannerRight (contextOf s) planner ≡ true) (u : unretired q (plannerIn planner) ≡ false) where
-    pub late : timely (contextOf s) (planned (contextOf s) q (plannerIn planner)) ≡ false → (r : PlanAnswer) → r ≡ planAnswer (Refused refusal.Horizon)
+    pub late : timely (contextOf s) (planned (contextOf s) q (plannerIn planner)) ≡ false → (r : PlanAnswer) → r ≡ planAnswer 0 (Refused refusal.Horizon)
         → Leaves (served (contextOf s) planner (Accepted q) room) r planner room
     unfolding served outcomeBy outcomeOf
     late t r a = rw (u, t) (a, (refl, refl))
 
     pub in-time : 32 * length (planned (contextOf s) q (plannerIn planner) .records) ≤ length room → timely (contextOf s) (planned (contextOf s) q (plannerIn planner)) ≡ true → (n : ℕ)
-        → n ≡ length (planned (contextOf s) q (plannerIn planner) .records) → (r : PlanAnswer) → r ≡ planAnswer (Made n) → (after left : List ℕ)
+        → n ≡ length (planned (contextOf s) q (plannerIn planner) .records) → (banks : ℕ) → banks ≡ looked q (plannerIn planner) → (r : PlanAnswer) → r ≡ planAnswer banks (Made n) → (after left : List ℕ)
         → after ≡ plannerBytes (planned (contextOf s) q (plannerIn planner) .planner)
         → left ≡ splice room 0 (listBytes s (planned (contextOf s) q (plannerIn planner) .records))
         → Leaves (served (contextOf s) planner (Accepted q) room) r after left
-    unfolding served outcomeBy outcomeOf draftBy contextOf
-    in-time l t n en r a after left ea el =
+    unfolding served outcomeBy outcomeOf draftBy contextOf lookedBy
+    in-time l t n en banks eb r a after left ea el =
         let fits = le-leb (length (planned (contextOf s) q (plannerIn planner) .records)) (length room / 32) (omega arith) in
-        rw (u, t, fits) (rw en at a, (ea, el))
+        rw (u, t, fits) (rw (en, eb) at a, (ea, el))
 
     -- no request makes more than 32 records
     pub enough : (list : List ℕ) → 1024 ≤ length list → 32 * length (planned (contextOf s) q (plannerIn planner) .records) ≤ length list
     enough list l = omega (arith, most-any s (plannerIn planner) (right-valid h) q u)
 
     pub full : timely (contextOf s) (planned (contextOf s) q (plannerIn planner)) ≡ true → length room / 32 < length (planned (contextOf s) q (plannerIn planner) .records)
-        → (r : PlanAnswer) → r ≡ planAnswer (Refused refusal.Full) → Leaves (served (contextOf s) planner (Accepted q) room) r planner room
+        → (r : PlanAnswer) → r ≡ planAnswer 0 (Refused refusal.Full) → Leaves (served (contextOf s) planner (Accepted q) room) r planner room
     unfolding served outcomeBy outcomeOf
     full t l r a = rw (u, t, lt-leb (length (planned (contextOf s) q (plannerIn planner) .records)) (length room / 32) l) (a, (refl, refl))
 
@@ -169,12 +170,12 @@ module _ (s : Settings) (planner : List ℕ) where
         pub next-room : 0 + length next ≤ length planner
         next-room = omega (arith, ap length next-is, planner-length (d .planner), right-length h)
 
-        pub tried-full : timely (contextOf s) d ≡ true → length room / 32 < n → (r : PlanAnswer) → r ≡ planAnswer (Refused refusal.Full)
+        pub tried-full : timely (contextOf s) d ≡ true → length room / 32 < n → (r : PlanAnswer) → r ≡ planAnswer 0 (Refused refusal.Full)
             → Leaves (served (contextOf s) planner (Accepted q) room) r planner room
         tried-full t l = full t (rw count-is at l)
 
-        pub tried-made : timely (contextOf s) d ≡ true → n ≤ length room / 32 → (r : PlanAnswer) → r ≡ planAnswer (Made n) → (after left : List ℕ)
+        pub tried-made : timely (contextOf s) d ≡ true → n ≤ length room / 32 → (banks : ℕ) → banks ≡ looked q (plannerIn copy) → (r : PlanAnswer) → r ≡ planAnswer banks (Made n) → (after left : List ℕ)
             → after ≡ splice planner 0 next → left ≡ splice room 0 (part made 0 (32 * n)) → Leaves (served (contextOf s) planner (Accepted q) room) r after left
-        tried-made t l r a after left ea el =
+        tried-made t l banks eb r a after left ea el =
             let whole : part made 0 (32 * n) ≡ listBytes s (d .records) = ap (λ (v : List ℕ). part v 0 (32 * n)) made-is ∙ part-splice list 0 (listBytes s (d .records)) (32 * n) bytes-are (omega arith) in
-            in-time (omega (arith, count-is)) t n count-is r a after left (ea ∙ next-whole ∙ next-is) (el ∙ ap (splice room 0) whole)
+            in-time (omega (arith, count-is)) t n count-is banks (rw copied at eb) r a after left (ea ∙ next-whole ∙ next-is) (el ∙ ap (splice room 0) whole)

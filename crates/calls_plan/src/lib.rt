@@ -52,11 +52,11 @@ fn plan_under(s: Settings, planner: &mut [u8], request: &[u8], room: &mut [u8]) 
     ensures { λ _. ⌜ now (room .exit) ≡ planUnder (now (planner .entry)) (now (request .entry)) (now (room .entry)) s .room ⌝ }
 {
     if planner.len() != PLANNER_BYTES {
-        return answer(Outcome::Refused(Refusal::Settings));
+        return answer(Outcome::Refused(Refusal::Settings), 0);
     }
     let quick = plan_calm::calm(planner);
     if !right(s, planner, quick) {
-        return answer(Outcome::Refused(Refusal::Settings));
+        return answer(Outcome::Refused(Refusal::Settings), 0);
     }
     asked(s, planner, quick, request, room)
 }
@@ -68,7 +68,7 @@ pub fn plan_call(settings: &[u8], planner: &mut [u8], request: &[u8], room: &mut
     ensures { λ _. ⌜ now (room .exit) ≡ planCall (now (settings .entry)) (now (planner .entry)) (now (request .entry)) (now (room .entry)) .room ⌝ }
 {
     match settings::read::read_settings(settings) {
-        SettingsRead::Refused => answer(Outcome::Refused(Refusal::Settings)),
+        SettingsRead::Refused => answer(Outcome::Refused(Refusal::Settings), 0),
         SettingsRead::Accepted(s) => plan_under(s, planner, request, room),
     }
 }

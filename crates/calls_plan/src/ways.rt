@@ -26,19 +26,22 @@ use spec_plan::MOST_BYTES;
 use spec_plan::Outcome;
 use spec_plan::PLANNER_BYTES;
 
-pub(crate) fn answer(o: Outcome) -> PlanAnswer
-    ensures { λ r. ⌜ r ≡ planAnswer o ⌝ }
+// The answer in numbers, with how many banks a close looked at.
+pub(crate) fn answer(o: Outcome, banks: u32) -> PlanAnswer
+    ensures { λ r. ⌜ r ≡ planAnswer banks o ⌝ }
 {
     match o {
         Outcome::Refused(why) => {
             let a = why.answer();
             PlanAnswer {
                 number: a.number,
+                banks: 0,
                 records: 0,
             }
         }
         Outcome::Made(n) => PlanAnswer {
             number: 0,
+            banks: banks,
             records: n,
         },
     }
@@ -56,10 +59,10 @@ fn on_lent(s: Settings, planner: &mut [u8], q: Request, room: &mut [u8]) -> Plan
     ensures { λ _. ⌜ now (room .exit) ≡ served (contextOf s) (now (planner .entry)) (Accepted q) (now (room .entry)) .room ⌝ }
 {
     if in_time(s, planner, q) {
-        let n = plan(s, planner, q, room);
-        return answer(Outcome::Made(n as u64));
+        let made = plan(s, planner, q, room);
+        return answer(Outcome::Made(made.records as u64), made.banks);
     }
-    answer(Outcome::Refused(Refusal::Horizon))
+    answer(Outcome::Refused(Refusal::Horizon), 0)
 }
 
 // Copies the first n records of a list to the start of a room.
@@ -92,16 +95,17 @@ fn tried(
     ensures { λ _. ⌜ now (room .exit) ≡ served (contextOf s) (now (planner .entry)) (Accepted q) (now (room .entry)) .room ⌝ }
 {
     put_bytes(state, 0, planner);
-    let n = plan(s, state, q, list);
+    let made = plan(s, state, q, list);
+    let n = made.records;
     if !left_in_time(s, planner, q, state) {
-        return answer(Outcome::Refused(Refusal::Horizon));
+        return answer(Outcome::Refused(Refusal::Horizon), 0);
     }
     if room.len() / 32 < n {
-        return answer(Outcome::Refused(Refusal::Full));
+        return answer(Outcome::Refused(Refusal::Full), 0);
     }
     put_bytes(planner, 0, state);
     put_first(room, list, n);
-    answer(Outcome::Made(n as u64))
+    answer(Outcome::Made(n as u64), made.banks)
 }
 
 fn beside(s: Settings, planner: &mut [u8], q: Request, room: &mut [u8]) -> PlanAnswer
@@ -144,7 +148,7 @@ fn granted(s: Settings, planner: &mut [u8], quick: bool, q: Request, room: &mut 
     ensures { λ _. ⌜ now (room .exit) ≡ served (contextOf s) (now (planner .entry)) (Accepted q) (now (room .entry)) .room ⌝ }
 {
     if unretired(planner, q) {
-        return answer(Outcome::Refused(Refusal::Unretired));
+        return answer(Outcome::Refused(Refusal::Unretired), 0);
     }
     served(s, planner, quick, q, room)
 }
@@ -165,7 +169,7 @@ pub(crate) fn asked(
     ensures { λ _. ⌜ now (room .exit) ≡ planUnder (now (planner .entry)) (now (request .entry)) (now (room .entry)) s .room ⌝ }
 {
     match requests::read_request(s, request) {
-        RequestRead::Refused(why) => answer(Outcome::Refused(why)),
+        RequestRead::Refused(why) => answer(Outcome::Refused(why), 0),
         RequestRead::Accepted(q) => granted(s, planner, quick, q, room),
     }
 }

@@ -31,11 +31,13 @@ use Rattle.spec_rules.proofs.NeighbourLaws.{core-neighbours}
 use Rattle.spec_plan.specs.declared.PlannerState.{PlannerState}
 use Rattle.spec_plan.specs.Plan.{Draft, rowPacket, colPacket, stateIn, delays, anyWaits, sent, flushed, flushedWhile, closed, closedUpTo, reached, plannedRead, loaded, written, plannedWrite, turned, plannedRefresh, plannedWait, plannedFlush, plannedClose, stepsOf, planned}
 use Rattle.spec_plan.specs.Call.{listBytes, inTime, timely, unretired}
+use Rattle.spec_plan.specs.Looked.{lookedUpTo, looked}
 use Rattle.spec_plan.specs.PlannerBytes.{plannerBytes, plannerIn, plannerRight}
 use Rattle.spec_plan.proofs.SentLaws.{when-either, sent-refresh, while-keeps}
 use Rattle.spec_plan.proofs.PlanLaws.{Good, good-while, good-reached}
 use Rattle.spec_plan.proofs.Bound.{most-made}
 use Rattle.spec_plan.proofs.CallLaws.{planned-made}
+use Rattle.spec_plan.proofs.LookedLaws.{looked-le}
 use Rattle.spec_plan.proofs.PlannerRoundTrip.{planner-length}
 use Rattle.spec_plan.proofs.Timely.{lastDelay, timely-is}
 use Rattle.plan_bytes.specs.form.Numbers.{word, half}
@@ -230,17 +232,9 @@ module _ (s : Settings) (b : List ℕ) (k : Ready s 999999997 b) (room : List �
   unfolding planned stepsOf plannedFlush unretired
   emptied-fits = enough Flush refl
 
-  -- all banks from the first on
-  all-shut : closedUpTo cx (λ y. leb 0 y) 32 d ≡ plannedClose cx d
-  unfolding bankCount plannedClose
-  all-shut = up-to-ext cx d (λ y. leb 0 y) (λ y. true) 32 (λ y l. le-leb 0 y (omega arith))
-
-  pub close-fits : unretired Close (plannerIn b) ≡ false → Fits (closedUpTo cx (λ y. leb 0 y) 32 d) room 0
+  pub close-fits : unretired Close (plannerIn b) ≡ false → Fits (plannedClose cx d) room 0
   unfolding planned stepsOf
-  close-fits u = rw all-shut (enough Close u)
-
-  pub close-drawn : (b1 room1 : List ℕ) (to : ℕ) → Drawn s (closedUpTo cx (λ y. leb 0 y) 32 d) room 0 b1 room1 to → Drawn s (plannedClose cx d) room 0 b1 room1 to
-  close-drawn b1 room1 to v = rw all-shut at v
+  close-fits u = enough Close u
 
 -- ---- wait
 
@@ -334,36 +328,42 @@ pub calm-plan : (s : Settings) (b : List ℕ) → valid s ≡ true → Bytes b �
 calm-plan s b v w r c = ready-below s 999999997 999990000 b (ready-call s b v w r) (calm-below b c)
 
 module _ (s : Settings) (p : PlannerState) (room b1 room1 : List ℕ) (to : ℕ) where
-  -- what a request hands back
-  abbrev Called : Request → ℕ → Type 0
-  Called q n =
+  -- what a request leaves and counts
+  abbrev Called : Request → ℕ → ℕ → Type 0
+  Called q n banks =
       (b1 ≡ plannerBytes (planned (contextOf s) q p .planner))
-      × ((room1 ≡ splice room 0 (listBytes s (planned (contextOf s) q p .records))) × (n ≡ length (planned (contextOf s) q p .records)))
+      × ((room1 ≡ splice room 0 (listBytes s (planned (contextOf s) q p .records))) × ((n ≡ length (planned (contextOf s) q p .records)) × (banks ≡ looked q p)))
 
-  called : (q : Request) → Drawn s (stepsOf (contextOf s) q (bare p)) room 0 b1 room1 to → Called q (to / 32)
+  called : (q : Request) (n banks : ℕ) → n ≡ to / 32 → banks ≡ looked q p → Drawn s (stepsOf (contextOf s) q (bare p)) room 0 b1 room1 to → Called q n banks
   unfolding planned
-  called q w = (w .planner, (w .records, omega (arith, w .next)))
+  called q n banks e f w = (w .planner, (w .records, (omega (arith, e, w .next), f)))
 
-  pub called-wait : (n : ℕ) → b1 ≡ plannerBytes (plannedWait (contextOf s) n (bare p) .planner) → room1 ≡ room → Called (Wait n) 0
-  unfolding planned stepsOf plannedWait listBytes
-  called-wait n e f = (e, (f ∙ splice-none room 0, refl))
+  module _ (n banks : ℕ) (c : (n ≡ to / 32) × (banks ≡ 0)) where
+    pub called-wait : (cycles : ℕ) → b1 ≡ plannerBytes (plannedWait (contextOf s) cycles (bare p) .planner) → room1 ≡ room → to ≡ 0 → Called (Wait cycles) n banks
+    unfolding planned stepsOf plannedWait listBytes looked
+    called-wait cycles e f z = (e, (f ∙ splice-none room 0, (omega (arith, c .0), c .1)))
 
-  pub called-read : (at : Place) → Drawn s (plannedRead (contextOf s) at (bare p)) room 0 b1 room1 to → Called (Read at) (to / 32)
-  unfolding stepsOf
-  called-read at w = called (Read at) w
+    pub called-read : (at : Place) → Drawn s (plannedRead (contextOf s) at (bare p)) room 0 b1 room1 to → Called (Read at) n banks
+    unfolding stepsOf looked
+    called-read at w = called (Read at) n banks (c .0) (c .1) w
 
-  pub called-write : (at : Place) (mask : ℕ) (d : Dualoct) → Drawn s (plannedWrite (contextOf s) at mask d (bare p)) room 0 b1 room1 to → Called (WriteTo at mask d) (to / 32)
-  unfolding stepsOf
-  called-write at mask d w = called (WriteTo at mask d) w
+    pub called-write : (at : Place) (mask : ℕ) (d : Dualoct) → Drawn s (plannedWrite (contextOf s) at mask d (bare p)) room 0 b1 room1 to → Called (WriteTo at mask d) n banks
+    unfolding stepsOf looked
+    called-write at mask d w = called (WriteTo at mask d) n banks (c .0) (c .1) w
 
-  pub called-refresh : Drawn s (plannedRefresh (contextOf s) (bare p)) room 0 b1 room1 to → Called RefreshBank (to / 32)
-  unfolding stepsOf
-  called-refresh w = called RefreshBank w
+    pub called-refresh : Drawn s (plannedRefresh (contextOf s) (bare p)) room 0 b1 room1 to → Called RefreshBank n banks
+    unfolding stepsOf looked
+    called-refresh w = called RefreshBank n banks (c .0) (c .1) w
 
-  pub called-flush : Drawn s (plannedFlush (contextOf s) (bare p)) room 0 b1 room1 to → Called Flush (to / 32)
-  unfolding stepsOf
-  called-flush w = called Flush w
+    pub called-flush : Drawn s (plannedFlush (contextOf s) (bare p)) room 0 b1 room1 to → Called Flush n banks
+    unfolding stepsOf looked
+    called-flush w = called Flush n banks (c .0) (c .1) w
 
-  pub called-close : Drawn s (plannedClose (contextOf s) (bare p)) room 0 b1 room1 to → Called Close (to / 32)
-  unfolding stepsOf
-  called-close w = called Close w
+  -- the walk of a close, and what it counts
+  module _ (turns : ℕ) (w : Drawn s (plannedClose (contextOf s) (bare p)) room 0 b1 room1 to × (turns ≡ lookedUpTo (stateIn (bare p)) 32)) where
+    pub close-few : turns ≤ 32
+    close-few = omega (arith, w .1, looked-le (stateIn (bare p)) 32)
+
+    pub called-close : (n banks : ℕ) → (n ≡ to / 32) × (banks ≡ turns) → Called Close n banks
+    unfolding stepsOf looked bankCount
+    called-close n banks c = called Close n banks (c .0) (c .1 ∙ w .1) (w .0)

@@ -1,7 +1,7 @@
 // Requests on the bytes of a planner.
 ghost use mathlib.Core.Path.{_≡_};
 ghost use mathlib.Core.Bool.{true, false};
-ghost use Prim.Native.Nat.{_≤_};
+ghost use Prim.Native.Nat.{_/_, _≤_};
 ghost use lib.Dec.{leb};
 ghost use lib.ListN.{length};
 ghost use Rattle.num.specs.Bytes.{splice};
@@ -10,8 +10,9 @@ ghost use Rattle.record.proofs.RequestLaws.{InPlace, InRange};
 ghost use Rattle.record.specs.declared.Request.the-variants.{Close};
 ghost use Rattle.spec_rules.specs.Neighbour.{contextOf};
 ghost use Rattle.spec_rules.specs.Checks.{since};
-ghost use Rattle.spec_plan.specs.Plan.{plannedRead, plannedWrite, plannedRefresh, plannedWait, plannedFlush, plannedClose, planned};
+ghost use Rattle.spec_plan.specs.Plan.{stateIn, plannedRead, plannedWrite, plannedRefresh, plannedWait, plannedFlush, plannedClose, planned};
 ghost use Rattle.spec_plan.specs.Call.{listBytes, timely, unretired};
+ghost use Rattle.spec_plan.specs.Looked.{lookedUpTo, looked};
 ghost use Rattle.spec_plan.specs.PlannerBytes.{plannerBytes, plannerIn, plannerRight};
 ghost use Rattle.plan_bytes.specs.form.Numbers.{word};
 ghost use Rattle.plan_bytes.specs.form.Drawn.{drafted, Ready, Drawn};
@@ -23,7 +24,8 @@ use plan_bytes::waits;
 use plan_cols::rd;
 use plan_cols::wr;
 use plan_rows::refresh_bank;
-use plan_steps::close_from;
+use plan_steps::Walked;
+use plan_steps::close_all;
 use plan_steps::close_near;
 use plan_steps::flush_all;
 use plan_steps::flush_delaying;
@@ -94,14 +96,15 @@ fn flush(s: Settings, b: &mut [u8], room: &mut [u8]) -> usize
 }
 
 // "close: PRER to each open bank in rising order."
-fn close(s: Settings, b: &mut [u8], room: &mut [u8]) -> usize
+fn close(s: Settings, b: &mut [u8], room: &mut [u8]) -> Walked
     requires { ⌜ Ready s 999999997 (now b) ⌝ }
     requires { ⌜ length (now b) ≡ 768 ⌝ }
     requires { ⌜ unretired Close (plannerIn (now b)) ≡ false ⌝ }
     requires { ⌜ 1024 ≤ length (now room) ⌝ }
-    ensures { λ r. ⌜ Drawn s (plannedClose (contextOf s) (drafted (now (b .entry)))) (now (room .entry)) 0 (now (b .exit)) (now (room .exit)) r ⌝ }
+    ensures { λ r. ⌜ Drawn s (plannedClose (contextOf s) (drafted (now (b .entry)))) (now (room .entry)) 0 (now (b .exit)) (now (room .exit)) (r .to) ⌝ }
+    ensures { λ r. ⌜ r .banks ≡ lookedUpTo (stateIn (drafted (now (b .entry)))) 32 ⌝ }
 {
-    close_from(s, b, 0, 32, room, 0)
+    close_all(s, b, room)
 }
 
 // Whether a request is a close while a write waits.
@@ -119,9 +122,36 @@ pub fn unretired(planner: &[u8], q: Request) -> bool
     }
 }
 
-// A request in range from a state that is not refused, no close while a write waits, with room for the most records: the number of
-// records that it makes. They may be late.
-pub fn plan(s: Settings, planner: &mut [u8], q: Request, room: &mut [u8]) -> usize
+// How many records a request made, and how many banks a close looked at.
+pub struct Counts {
+    pub records: usize,
+    pub banks: u32,
+}
+
+// The counts of a request that is no close, whose records end at a place.
+fn no_walk(to: usize) -> Counts
+    ensures { λ r. ⌜ (r .records ≡ to / 32) × (r .banks ≡ 0) ⌝ }
+{
+    Counts {
+        records: to / 32,
+        banks: 0,
+    }
+}
+
+// Those of a close.
+fn walk(w: Walked) -> Counts
+    requires { ⌜ w .banks ≤ 32 ⌝ }
+    ensures { λ r. ⌜ (r .records ≡ w .to / 32) × (r .banks ≡ w .banks) ⌝ }
+{
+    Counts {
+        records: w.to / 32,
+        banks: w.banks as u32,
+    }
+}
+
+// A request in range from a state that is not refused, no close while a write waits, with room for the most records, and what it
+// counts. The records may be late.
+pub fn plan(s: Settings, planner: &mut [u8], q: Request, room: &mut [u8]) -> Counts
     requires { ⌜ valid s ≡ true ⌝ }
     requires { ⌜ plannerRight (contextOf s) (now planner) ≡ true ⌝ }
     requires { ⌜ InRange s q ⌝ }
@@ -129,18 +159,19 @@ pub fn plan(s: Settings, planner: &mut [u8], q: Request, room: &mut [u8]) -> usi
     requires { ⌜ 1024 ≤ length (now room) ⌝ }
     ensures { λ _. ⌜ now (planner .exit) ≡ plannerBytes (planned (contextOf s) q (plannerIn (now (planner .entry))) .planner) ⌝ }
     ensures { λ _. ⌜ now (room .exit) ≡ splice (now (room .entry)) 0 (listBytes s (planned (contextOf s) q (plannerIn (now (planner .entry))) .records)) ⌝ }
-    ensures { λ r. ⌜ r ≡ length (planned (contextOf s) q (plannerIn (now (planner .entry))) .records) ⌝ }
+    ensures { λ r. ⌜ r .records ≡ length (planned (contextOf s) q (plannerIn (now (planner .entry))) .records) ⌝ }
+    ensures { λ r. ⌜ r .banks ≡ looked q (plannerIn (now (planner .entry))) ⌝ }
 {
     match q {
-        Request::Read(at) => read(s, planner, at, room) / 32,
-        Request::Write(at, mask, d) => write(s, planner, at, mask, d, room) / 32,
-        Request::Refresh => refresh(s, planner, room) / 32,
+        Request::Read(at) => no_walk(read(s, planner, at, room)),
+        Request::Write(at, mask, d) => no_walk(write(s, planner, at, mask, d, room)),
+        Request::Refresh => no_walk(refresh(s, planner, room)),
         Request::Wait(cycles) => {
             wait(s, planner, cycles);
-            0
+            no_walk(0)
         }
-        Request::Flush => flush(s, planner, room) / 32,
-        Request::Close => close(s, planner, room) / 32,
+        Request::Flush => no_walk(flush(s, planner, room)),
+        Request::Close => walk(close(s, planner, room)),
     }
 }
 

@@ -110,7 +110,7 @@ pub record Walking (s : Settings) (b room b1 room1 : List ℕ) (left to x : ℕ)
   pub lefts : left + openUpTo (stateIn (drafted b)) x ≡ openUpTo (stateIn (drafted b)) 32
   pub drawn : Drawn s (closedUpTo (contextOf s) (λ y. leb 0 y) x (drafted b)) room 0 b1 room1 to
 
-module _ (s : Settings) (top : ℕ) (b : List ℕ) (k : Ready s top b) (h : top ≤ 999991000) (room : List ℕ) where
+module _ (s : Settings) (top : ℕ) (b : List ℕ) (k : Ready s top b) (h : top ≤ 1000001000) (room : List ℕ) where
   abbrev d : Draft
   d = drafted b
 
@@ -128,7 +128,7 @@ module _ (s : Settings) (top : ℕ) (b : List ℕ) (k : Ready s top b) (h : top 
     pub walk-bank : 0 < left → x < 32
     walk-bank m = omega (arith, walk-more state x 32 left walk-few (w .lefts) m, looked-le state 32)
 
-    pub walk-after : After s 999998000 (closedUpTo (contextOf s) (λ y. leb 0 y) x d) b1
+    pub walk-after : After s 1000008000 (closedUpTo (contextOf s) (λ y. leb 0 y) x d) b1
     walk-after = up-to-after s top b k h 0 32 (omega arith) x walk-few b1 (w .drawn .planner)
 
     pub walk-fits : Fits (plannedClose (contextOf s) d) room 0 → 0 < left → Fits (when (not (isClosed (stateIn (drafted b1) x))) (closed (contextOf s) x) (drafted b1)) room1 to

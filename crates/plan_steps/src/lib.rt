@@ -150,7 +150,7 @@ fn close_open(s: Settings, b: &mut [u8], x: usize, room: &mut [u8], to: usize) -
 }
 
 // Of the banks from the first to before an end, "close the open ones in rising order".
-pub fn close_from(
+fn close_from(
     s: Settings,
     b: &mut [u8],
     first: usize,
@@ -200,7 +200,7 @@ fn open_banks(b: &[u8]) -> usize
 // Goes up from bank 0 while some of the open banks, of which there are so many, are left, and closes them. The count is that of its
 // turns.
 fn close_left(s: Settings, b: &mut [u8], count: usize, room: &mut [u8]) -> Walked
-    requires { ⌜ Ready s 999990000 (now b) ⌝ }
+    requires { ⌜ Ready s 999999997 (now b) ⌝ }
     requires { ⌜ length (now b) ≡ 768 ⌝ }
     requires { ⌜ count ≡ openUpTo (stateIn (drafted (now b))) 32 ⌝ }
     requires { ⌜ Fits (plannedClose (contextOf s) (drafted (now b))) (now room) 0 ⌝ }
@@ -221,7 +221,7 @@ fn close_left(s: Settings, b: &mut [u8], count: usize, room: &mut [u8]) -> Walke
 
 // "PRER to each open bank in rising order"; "The walk should end as soon as no open bank remains"
 pub fn close_all(s: Settings, b: &mut [u8], room: &mut [u8]) -> Walked
-    requires { ⌜ Ready s 999990000 (now b) ⌝ }
+    requires { ⌜ Ready s 999999997 (now b) ⌝ }
     requires { ⌜ length (now b) ≡ 768 ⌝ }
     requires { ⌜ Fits (plannedClose (contextOf s) (drafted (now b))) (now room) 0 ⌝ }
     ensures { λ r. ⌜ Drawn s (plannedClose (contextOf s) (drafted (now (b .entry)))) (now (room .entry)) 0 (now (b .exit)) (now (room .exit)) (r .to) ⌝ }

@@ -16,14 +16,15 @@ use Rattle.spec_plan.specs.declared.Outcome.the-variants.{Refused, Made}
 use Rattle.spec_plan.specs.PlannerBytes.{plannerBytes, plannerIn}
 use Rattle.spec_plan.specs.Plan.{Draft}
 use Rattle.spec_plan.specs.Call.{listBytes, unretired, outcomeBy, draftBy}
+use Rattle.spec_plan.specs.Looked.{lookedBy}
 use Rattle.spec_calls.specs.Plans.{planAnswer, PlanResult}
 
--- a refusal, or a draft that is put to planner and room
-abbrev pub servedBy : Context → List ℕ → Draft → List ℕ → Outcome → PlanResult
-servedBy cx planner d room (Refused why) = record { answer = planAnswer (Refused why); planner = planner; room = room }
-servedBy cx planner d room (Made n) =
+-- a refusal, or a draft that is put to planner and room, with how many banks a close looked at
+abbrev pub servedBy : Context → List ℕ → ℕ → Draft → List ℕ → Outcome → PlanResult
+servedBy cx planner banks d room (Refused why) = record { answer = planAnswer 0 (Refused why); planner = planner; room = room }
+servedBy cx planner banks d room (Made n) =
     record {
-      answer = planAnswer (Made n);
+      answer = planAnswer banks (Made n);
       planner = plannerBytes (d .planner);
       room = splice room 0 (listBytes (cx .settings) (d .records));
     }
@@ -33,4 +34,5 @@ abbrev pub Granted : Settings → List ℕ → Request → Type 0
 Granted s planner q = InRange s q × (unretired q (plannerIn planner) ≡ false)
 
 unfoldable pub served : Context → List ℕ → RequestRead → List ℕ → PlanResult
-served cx planner x room = servedBy cx planner (draftBy cx (plannerIn planner) x) room (outcomeBy cx (plannerIn planner) x (length room))
+served cx planner x room =
+    servedBy cx planner (lookedBy (plannerIn planner) x) (draftBy cx (plannerIn planner) x) room (outcomeBy cx (plannerIn planner) x (length room))

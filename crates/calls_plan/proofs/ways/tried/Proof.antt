@@ -18,7 +18,7 @@ plan-requires c κs =
 left-in-time-requires : tie.Need-left-in-time-requires
 left-in-time-requires c κs =
     let z = c .before .before .before .before .before .before .before .before .before .before .before .before .before .before .before .before .before .before in
-    (z .pre .0, (z .pre .1 .0, (z .pre .1 .1 .0 .0, next-is (z .args .s) (z .args .planner .now) (z .args .q) (z .args .room .now) (z .pre .1 .0) (z .pre .1 .1 .0 .1) (z .args .state .now) (z .args .list .now) (z .pre .1 .1 .1 .0) (z .pre .1 .1 .1 .1) _ (c .before .before .before .before .before .before .before .before .before .before .before .put-bytes .ensures) _ _ _ (c .before .before .before .before .before .before .plan .ensures .0) (c .before .before .before .before .before .before .plan .ensures .1 .0) (c .before .before .before .before .before .before .plan .ensures .1 .1))))
+    (z .pre .0, (z .pre .1 .0, (z .pre .1 .1 .0 .0, next-is (z .args .s) (z .args .planner .now) (z .args .q) (z .args .room .now) (z .pre .1 .0) (z .pre .1 .1 .0 .1) (z .args .state .now) (z .args .list .now) (z .pre .1 .1 .1 .0) (z .pre .1 .1 .1 .1) _ (c .before .before .before .before .before .before .before .before .before .before .before .put-bytes .ensures) _ _ _ (c .before .before .before .before .before .before .plan .ensures .0) (c .before .before .before .before .before .before .plan .ensures .1 .0) (c .before .before .before .before .before .before .plan .ensures .1 .1 .0))))
 
 returns : tie.Need-returns
 returns c =
@@ -28,22 +28,22 @@ returns c =
 returns-2 : tie.Need-returns-2
 returns-2 c =
     let z = c .before .before .before .before .before .before .before .before .before .before .before .before .before .before .before .before .before .before .before .before .before .before in
-    tried-full (z .args .s) (z .args .planner .now) (z .args .q) (z .args .room .now) (z .pre .1 .0) (z .pre .1 .1 .0 .1) (z .args .state .now) (z .args .list .now) (z .pre .1 .1 .1 .0) (z .pre .1 .1 .1 .1) _ (c .before .before .before .before .before .before .before .before .before .before .before .before .before .before .before .put-bytes .ensures) _ _ _ (c .before .before .before .before .before .before .before .before .before .before .plan .ensures .0) (c .before .before .before .before .before .before .before .before .before .before .plan .ensures .1 .0) (c .before .before .before .before .before .before .before .before .before .before .plan .ensures .1 .1) (sym (c .before .before .before .left-in-time .ensures) ∙ not-false _ (c .before .before .if1 .left)) (c .before .if2 .taken) _ (c .answer2 .ensures)
+    tried-full (z .args .s) (z .args .planner .now) (z .args .q) (z .args .room .now) (z .pre .1 .0) (z .pre .1 .1 .0 .1) (z .args .state .now) (z .args .list .now) (z .pre .1 .1 .1 .0) (z .pre .1 .1 .1 .1) _ (c .before .before .before .before .before .before .before .before .before .before .before .before .before .before .before .put-bytes .ensures) _ _ _ (c .before .before .before .before .before .before .before .before .before .before .plan .ensures .0) (c .before .before .before .before .before .before .before .before .before .before .plan .ensures .1 .0) (c .before .before .before .before .before .before .before .before .before .before .plan .ensures .1 .1 .0) (sym (c .before .before .before .left-in-time .ensures) ∙ not-false _ (c .before .before .if1 .left)) (c .before .if2 .taken) _ (c .answer2 .ensures)
 
 put-bytes-requires-2 : tie.Need-put-bytes-requires-2
 put-bytes-requires-2 c κs =
     let z = c .before .before .before .before .before .before .before .before .before .before .before .before .before .before .before .before .before .before .before .before .before .before .before in
-    next-room (z .args .s) (z .args .planner .now) (z .args .q) (z .args .room .now) (z .pre .1 .0) (z .pre .1 .1 .0 .1) (z .args .state .now) (z .args .list .now) (z .pre .1 .1 .1 .0) (z .pre .1 .1 .1 .1) _ (c .before .before .before .before .before .before .before .before .before .before .before .before .before .before .before .before .put-bytes .ensures) _ _ _ (c .before .before .before .before .before .before .before .before .before .before .before .plan .ensures .0) (c .before .before .before .before .before .before .before .before .before .before .before .plan .ensures .1 .0) (c .before .before .before .before .before .before .before .before .before .before .before .plan .ensures .1 .1)
+    next-room (z .args .s) (z .args .planner .now) (z .args .q) (z .args .room .now) (z .pre .1 .0) (z .pre .1 .1 .0 .1) (z .args .state .now) (z .args .list .now) (z .pre .1 .1 .1 .0) (z .pre .1 .1 .1 .1) _ (c .before .before .before .before .before .before .before .before .before .before .before .before .before .before .before .before .put-bytes .ensures) _ _ _ (c .before .before .before .before .before .before .before .before .before .before .before .plan .ensures .0) (c .before .before .before .before .before .before .before .before .before .before .before .plan .ensures .1 .0) (c .before .before .before .before .before .before .before .before .before .before .before .plan .ensures .1 .1 .0)
 
 put-first-requires : tie.Need-put-first-requires
 put-first-requires c κs =
     let z = c .before .before .before .before .before .before .before .before .before .before .before .before .before .before .before .before .before .before .before .before .before .before .before .before .before .before .before .before in
-    (made-room (z .args .s) (z .args .planner .now) (z .args .q) (z .args .room .now) (z .pre .1 .0) (z .pre .1 .1 .0 .1) (z .args .state .now) (z .args .list .now) (z .pre .1 .1 .1 .0) (z .pre .1 .1 .1 .1) _ (c .before .before .before .before .before .before .before .before .before .before .before .before .before .before .before .before .before .before .before .before .before .put-bytes .ensures) _ _ _ (c .before .before .before .before .before .before .before .before .before .before .before .before .before .before .before .before .plan .ensures .0) (c .before .before .before .before .before .before .before .before .before .before .before .before .before .before .before .before .plan .ensures .1 .0) (c .before .before .before .before .before .before .before .before .before .before .before .before .before .before .before .before .plan .ensures .1 .1), omega (arith, c .before .before .before .before .before .before .before .if2 .left))
+    (made-room (z .args .s) (z .args .planner .now) (z .args .q) (z .args .room .now) (z .pre .1 .0) (z .pre .1 .1 .0 .1) (z .args .state .now) (z .args .list .now) (z .pre .1 .1 .1 .0) (z .pre .1 .1 .1 .1) _ (c .before .before .before .before .before .before .before .before .before .before .before .before .before .before .before .before .before .before .before .before .before .put-bytes .ensures) _ _ _ (c .before .before .before .before .before .before .before .before .before .before .before .before .before .before .before .before .plan .ensures .0) (c .before .before .before .before .before .before .before .before .before .before .before .before .before .before .before .before .plan .ensures .1 .0) (c .before .before .before .before .before .before .before .before .before .before .before .before .before .before .before .before .plan .ensures .1 .1 .0), omega (arith, c .before .before .before .before .before .before .before .if2 .left))
 
 returns-3 : tie.Need-returns-3
 returns-3 c =
     let z = c .before .before .before .before .before .before .before .before .before .before .before .before .before .before .before .before .before .before .before .before .before .before .before .before .before .before .before .before .before .before .before .before in
-    tried-made (z .args .s) (z .args .planner .now) (z .args .q) (z .args .room .now) (z .pre .1 .0) (z .pre .1 .1 .0 .1) (z .args .state .now) (z .args .list .now) (z .pre .1 .1 .1 .0) (z .pre .1 .1 .1 .1) _ (c .before .before .before .before .before .before .before .before .before .before .before .before .before .before .before .before .before .before .before .before .before .before .before .before .before .put-bytes .ensures) _ _ _ (c .before .before .before .before .before .before .before .before .before .before .before .before .before .before .before .before .before .before .before .before .plan .ensures .0) (c .before .before .before .before .before .before .before .before .before .before .before .before .before .before .before .before .before .before .before .before .plan .ensures .1 .0) (c .before .before .before .before .before .before .before .before .before .before .before .before .before .before .before .before .before .before .before .before .plan .ensures .1 .1) (sym (c .before .before .before .before .before .before .before .before .before .before .before .before .before .left-in-time .ensures) ∙ not-false _ (c .before .before .before .before .before .before .before .before .before .before .before .before .if1 .left)) (c .before .before .before .before .before .before .before .before .before .before .before .if2 .left) _ (c .answer3 .ensures) _ _ (c .before .before .before .before .before .before .before .before .put-bytes2 .ensures) (c .before .before .before .put-first .ensures)
+    tried-made (z .args .s) (z .args .planner .now) (z .args .q) (z .args .room .now) (z .pre .1 .0) (z .pre .1 .1 .0 .1) (z .args .state .now) (z .args .list .now) (z .pre .1 .1 .1 .0) (z .pre .1 .1 .1 .1) _ (c .before .before .before .before .before .before .before .before .before .before .before .before .before .before .before .before .before .before .before .before .before .before .before .before .before .put-bytes .ensures) _ _ _ (c .before .before .before .before .before .before .before .before .before .before .before .before .before .before .before .before .before .before .before .before .plan .ensures .0) (c .before .before .before .before .before .before .before .before .before .before .before .before .before .before .before .before .before .before .before .before .plan .ensures .1 .0) (c .before .before .before .before .before .before .before .before .before .before .before .before .before .before .before .before .before .before .before .before .plan .ensures .1 .1 .0) (sym (c .before .before .before .before .before .before .before .before .before .before .before .before .before .left-in-time .ensures) ∙ not-false _ (c .before .before .before .before .before .before .before .before .before .before .before .before .if1 .left)) (c .before .before .before .before .before .before .before .before .before .before .before .if2 .left) _ (c .before .before .before .before .before .before .before .before .before .before .before .before .before .before .before .before .before .before .before .before .plan .ensures .1 .1 .1) _ (c .answer3 .ensures) _ _ (c .before .before .before .before .before .before .before .before .put-bytes2 .ensures) (c .before .before .before .put-first .ensures)
 
 pub tried-spec : {M : Type 1} → statement M
 tried-spec =

@@ -3,7 +3,7 @@ use mathlib.Core.Path.{refl}
 use native.Mathlib.Omega.{arith}
 use Rattle.plan_bytes.proofs.ReadyLaws.{ready-length}
 use Rattle.plan_bytes.proofs.Again.{ready-call}
-use Rattle.plan_in_place.proofs.Planned.{called-read, called-write, called-refresh, called-wait, called-flush, called-close}
+use Rattle.plan_in_place.proofs.Planned.{called-read, called-write, called-refresh, called-wait, called-flush, close-few, called-close}
 use borrow.Author.Needs.{needs}
 use Rattle.plan_in_place.proofs.requests.plan.Statement.{statement}
 use Rattle.plan_in_place.proofs.requests.plan.Tie as tie
@@ -44,23 +44,26 @@ close-requires c κs =
     let r = ready-call _ _ (z .pre .0) (λ i l. omega (arith, c .before .before .before .before .before .slice-known .given i)) (z .pre .1 .0) in
     (r, (ready-length _ _ _ r, (rw (c .before .before .enum-told3 .given .1) at (z .pre .1 .1 .1 .0), z .pre .1 .1 .1 .1)))
 
+walk-requires : tie.Need-walk-requires
+walk-requires c κs = close-few _ _ _ _ _ _ _ (c .before .before .before .before .close .ensures)
+
 returns : tie.Need-returns
-returns c = rw (c .before .before .before .before .before .before .before .before .q .given .1) (called-read _ _ _ _ _ _ _ (c .before .before .before .before .read .ensures))
+returns c = rw (c .before .before .before .before .before .before .before .before .before .q .given .1) (called-read _ _ _ _ _ _ _ _ (c .no-walk .ensures) _ (c .before .before .before .before .before .read .ensures))
 
 returns-2 : tie.Need-returns-2
-returns-2 c = rw (c .before .before .before .before .before .before .before .before .q2 .given .1) (called-write _ _ _ _ _ _ _ _ _ (c .before .before .before .before .write .ensures))
+returns-2 c = rw (c .before .before .before .before .before .before .before .before .before .q2 .given .1) (called-write _ _ _ _ _ _ _ _ (c .no-walk2 .ensures) _ _ _ (c .before .before .before .before .before .write .ensures))
 
 returns-3 : tie.Need-returns-3
-returns-3 c = rw (c .before .before .before .before .before .before .before .enum-told .given .1) (called-refresh _ _ _ _ _ _ (c .before .before .before .before .refresh .ensures))
+returns-3 c = rw (c .before .before .before .before .before .before .before .before .enum-told .given .1) (called-refresh _ _ _ _ _ _ _ _ (c .no-walk3 .ensures) (c .before .before .before .before .before .refresh .ensures))
 
 returns-4 : tie.Need-returns-4
-returns-4 c = rw (c .before .before .before .before .before .q3 .given .1) (called-wait _ _ _ _ _ 0 _ (c .before .before .wait .ensures) refl)
+returns-4 c = rw (c .before .before .before .before .before .before .q3 .given .1) (called-wait _ _ _ _ _ 0 _ _ (c .no-walk4 .ensures) _ (c .before .before .before .wait .ensures) refl refl)
 
 returns-5 : tie.Need-returns-5
-returns-5 c = rw (c .before .before .before .before .before .before .before .enum-told2 .given .1) (called-flush _ _ _ _ _ _ (c .before .before .before .before .flush .ensures))
+returns-5 c = rw (c .before .before .before .before .before .before .before .before .enum-told2 .given .1) (called-flush _ _ _ _ _ _ _ _ (c .no-walk5 .ensures) (c .before .before .before .before .before .flush .ensures))
 
 returns-6 : tie.Need-returns-6
-returns-6 c = rw (c .before .before .before .before .before .before .before .enum-told3 .given .1) (called-close _ _ _ _ _ _ (c .before .before .before .before .close .ensures))
+returns-6 c = rw (c .before .before .before .before .before .before .before .before .enum-told3 .given .1) (called-close _ _ _ _ _ _ _ (c .before .before .before .before .before .close .ensures) _ _ (c .walk .ensures))
 
 pub plan-spec : {M : Type 1} → statement M
 plan-spec =
@@ -68,16 +71,22 @@ plan-spec =
     (tie.spec
     (λ c. search needs)
     read-requires
+    (λ c κs. search needs)
     (λ c. search needs)
     write-requires
+    (λ c κs. search needs)
     (λ c. search needs)
     refresh-requires
+    (λ c κs. search needs)
     (λ c. search needs)
     wait-requires
+    (λ c κs. search needs)
     (λ c. search needs)
     flush-requires
+    (λ c κs. search needs)
     (λ c. search needs)
     close-requires
+    walk-requires
     (λ c. search needs)
     (λ c. search needs)
     returns
