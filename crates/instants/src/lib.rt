@@ -1,7 +1,7 @@
 // The sums that turn a packet instant into a data instant.
 ghost use mathlib.Core.Path.{_≡_};
 ghost use Prim.Native.Nat.{_+_, _<_, _^_};
-ghost use Rattle.settings.specs.Instants.{arrival};
+ghost use Rattle.settings.specs.Instants.{arrival, arrivalNumber, horizonNumber};
 use settings::Arrival;
 use settings::DataAt;
 use settings::HORIZON_WIDE;
@@ -11,6 +11,7 @@ use settings::Settings;
 // The data instant `delay` cycles after a packet; the sum is made in 64 bits.
 fn arrival_after(t: PacketAt, delay: u32) -> Arrival
     ensures { λ r. ⌜ r ≡ arrival t delay ⌝ }
+    ensures { λ r. ⌜ arrivalNumber r ≡ horizonNumber t delay ⌝ }
 {
     let sum = num::wide32(t.0) + num::wide32(delay);
     if sum <= HORIZON_WIDE {
@@ -23,6 +24,7 @@ fn arrival_after(t: PacketAt, delay: u32) -> Arrival
 // Read data come tCAC after their RD.
 pub fn read_arrival(s: Settings, t: PacketAt) -> Arrival
     ensures { λ r. ⌜ r ≡ arrival t (s .cac) ⌝ }
+    ensures { λ r. ⌜ arrivalNumber r ≡ horizonNumber t (s .cac) ⌝ }
 {
     arrival_after(t, s.cac)
 }
@@ -30,6 +32,7 @@ pub fn read_arrival(s: Settings, t: PacketAt) -> Arrival
 // Write data go tCWD after their WR.
 pub fn write_arrival(s: Settings, t: PacketAt) -> Arrival
     ensures { λ r. ⌜ r ≡ arrival t (s .cwd) ⌝ }
+    ensures { λ r. ⌜ arrivalNumber r ≡ horizonNumber t (s .cwd) ⌝ }
 {
     arrival_after(t, s.cwd)
 }

@@ -11,7 +11,7 @@ returns c =
       c .before .unless .ensures,
       c .before .before .in-range .ensures,
       c .before .before .before .before .comes-at .ensures,
-      c .before .before .before .before .before .write-arrival .ensures,
+      c .before .before .before .before .before .write-arrival .ensures .0,
     ) (data-rule-is _ _ _)
 
 pub data-rule-spec : {M : Type 1} → statement M

@@ -12,12 +12,12 @@ long c = search (length-of-map, c .good .1 .1 .1 .0)
 
 returns : tie.Need-returns
 returns c e k = let z = c .before .before .before .before .before in
-    rw (c .moved .ensures) (draws-unloaded (z .args .s) (z .args .d) e (z .args .mask) (z .args .bytes) k (sym (c .before .before .before .write-arrival .ensures) ∙ c .before .enum-told .given .1))
+    rw (c .moved .ensures) (draws-unloaded (z .args .s) (z .args .d) e (z .args .mask) (z .args .bytes) k (sym (c .before .before .before .write-arrival .ensures .0) ∙ c .before .enum-told .given .1))
 
 returns-2 : tie.Need-returns-2
 returns-2 c e k = let z = c .before .before .before .before .before .before .before .before .before .before .before .before in
     rw (c .added .ensures, c .before .before .pick2 .ensures, c .before .before .before .pick .ensures, c .before .before .before .before .after .ensures, c .before .before .before .before .before .two-wait .ensures)
-    (draws-loaded (z .args .s) (z .args .d) e (z .args .mask) (z .args .bytes) _ (long z) k (sym (c .before .before .before .before .before .before .before .before .before .before .write-arrival .ensures) ∙ c .before .before .before .before .before .before .before .before .t .given .1))
+    (draws-loaded (z .args .s) (z .args .d) e (z .args .mask) (z .args .bytes) _ (long z) k (sym (c .before .before .before .before .before .before .before .before .before .before .write-arrival .ensures .0) ∙ c .before .before .before .before .before .before .before .before .t .given .1))
 
 pub loaded-spec : {M : Type 1} → statement M
 loaded-spec = tie.close (tie.spec (λ c κs. search needs) (λ c. search needs) (λ c. search needs) (λ c κs. search needs) returns (λ c κs. search needs) (λ c κs. search needs) (λ c κs. search needs) (λ c κs. search needs) (λ c κs. search needs) returns-2)
