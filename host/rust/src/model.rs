@@ -35,8 +35,8 @@ pub enum Event {
 /// let (mut read, mut written) = ([0; 16], 0);
 /// for request in &requests {
 ///     let mut room = [0; REQUEST_RECORDS * RECORD_BYTES];
-///     let records = planner.plan(&settings, request, &mut room)?;
-///     for record in room.chunks(RECORD_BYTES).take(records) {
+///     let made = planner.plan(&settings, request, &mut room)?;
+///     for record in room.chunks(RECORD_BYTES).take(made.records) {
 ///         if let Event::Retired(bytes) = model.step(&settings, &mut store, record, &mut read)? {
 ///             written += bytes;
 ///         }

@@ -13,7 +13,7 @@ use crate::SETTINGS_BYTES;
 ///     let (mut planner, mut room) = (Planner::fresh(), [0; 96]);
 ///     let read = |bank| Request::Read { bank, row: 0, column: 0 };
 ///     planner.plan(&settings, &read(15), &mut room)?;
-///     assert_eq!(planner.plan(&settings, &read(16), &mut room), Ok(records));
+///     assert_eq!(planner.plan(&settings, &read(16), &mut room)?.records, records);
 /// }
 /// # Ok::<(), rdram::Refusal>(())
 /// ```

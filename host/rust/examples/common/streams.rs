@@ -90,7 +90,15 @@ pub const OPEN: Request = Request::Read {
 };
 
 /// Single requests with their names, for a planner in which row 0 of bank 0 is open.
-pub const SINGLES: [(&str, Request); 2] = [
+pub const SINGLES: [(&str, Request); 3] = [
+    (
+        "read of bank 4, bank 0 open",
+        Request::Read {
+            bank: 4,
+            row: 0,
+            column: 0,
+        },
+    ),
     (
         "read of another row, bank 0 open",
         Request::Read {

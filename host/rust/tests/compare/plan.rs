@@ -39,6 +39,7 @@ fn random_streams() {
     // 7 where damage made a long wait.
     seen.report(name, &[0, 2, 3, 4, 5, 6, 7, 8, 13, 15]);
     seen.all_kinds();
+    seen.all_counts();
     settings_seen.report(name);
 }
 

@@ -254,11 +254,11 @@ impl Seen {
             "{:?}",
             self.records
         );
-        assert!(
-            [0, 1, 31, 32].iter().all(|n| self.looked.contains_key(n)),
-            "{:?}",
-            self.looked
-        );
+    }
+
+    /// Fails unless closes looked at each number of banks.
+    pub fn all_counts(&self) {
+        assert!(self.looked.keys().copied().eq(0..=32), "{:?}", self.looked);
     }
 
     /// Accepted requests of so many records.
