@@ -23,7 +23,7 @@ use Rattle.log_index.specs.declared.Indexed.{Indexed}
 use Rattle.log_index.specs.declared.Indexed.the-variants.{Refused, Differs, Count}
 use Rattle.log_index.specs.Touched.{touchedWord}
 use Rattle.marks.specs.Marks.{countUpTo}
-use Rattle.log_index.specs.Index.{wordsIn, wordsUpTo, indexOf}
+use Rattle.log_index.specs.Index.{indexWords, wordsUpTo, indexOf}
 use Rattle.log_index.specs.Query.{queried, scanned, hasBit}
 use Rattle.log_index.specs.Answers.{lentAfter, addAnswer, besideAnswer, queryAnswer}
 use Rattle.log_index.proofs.IndexLaws.{length-words, kept-are, kept-most, passes-is}
@@ -81,9 +81,9 @@ words-front word log (suc n) k h =
     (λ m. let l = length-words word log n in part-left (wordsUpTo word log n) (bytes 4 (word (blockAt log n))) 0 (4 * k) (omega arith) ∙ words-front word log n k (le-of-suc-le-suc m))
     (eq-or-lt-of-le h)
 
-queried-length : (index : List ℕ) (bank : ℕ) → length (queried index bank) ≡ 4 * countUpTo (hasBit index bank) (wordsIn index)
+queried-length : (index : List ℕ) (bank : ℕ) → length (queried index bank) ≡ 4 * countUpTo (hasBit index bank) (indexWords index)
 unfolding queried
-queried-length index bank = length-listed (hasBit index bank) (wordsIn index)
+queried-length index bank = length-listed (hasBit index bank) (indexWords index)
 
 module _ (settings : List ℕ) (s : Settings) (says : settingsRead settings ≡ read.Accepted s) where
   add-is : (log : List ℕ) (kept : ℕ) (index : List ℕ) → indexAddCall settings log kept index ≡ indexBy index (addAnswer s log kept index) (indexOf s log)

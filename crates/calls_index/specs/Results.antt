@@ -15,7 +15,7 @@ use Rattle.spec_calls.specs.Settings.{underSettings}
 use Rattle.blocks.specs.Block.{listOf}
 use Rattle.log_index.specs.declared.Indexed.{Indexed}
 use Rattle.log_index.specs.declared.Indexed.the-variants.{Refused, Differs, Count}
-use Rattle.log_index.specs.Index.{wordsIn, indexOf}
+use Rattle.log_index.specs.Index.{indexWords, indexOf}
 use Rattle.log_index.specs.Query.{queried}
 use Rattle.log_index.specs.Answers.{lentAfter, addAnswer, besideAnswer, queryAnswer}
 use Rattle.calls_index.specs.declared.IndexAnswer.{IndexAnswer}
@@ -57,7 +57,7 @@ judgedAs (Broken why) words = Refused why
 
 -- a log with its index under the rules: 13 (log, then index), 12, 10, 14, 11
 unfoldable pub checkedAnswer : Settings → List ℕ → List ℕ → Indexed
-checkedAnswer s log index = besideAnswer s log index (judgedAs (ruleAnswer (contextOf s) (recordsOf s (listOf log))) (wordsIn index))
+checkedAnswer s log index = besideAnswer s log index (judgedAs (ruleAnswer (contextOf s) (recordsOf s (listOf log))) (indexWords index))
 
 unfoldable pub indexCheckCall : List ℕ → List ℕ → List ℕ → IndexAnswer
 indexCheckCall settings log index = underSettings settings (λ why. indexAnswer (Refused why)) (λ s. indexAnswer (checkedAnswer s log index))

@@ -24,8 +24,8 @@ use Rattle.log_right.specs.Right.{rightLog}
 use Rattle.log_index.specs.declared.Indexed.{Indexed}
 use Rattle.log_index.specs.declared.Indexed.the-variants.{Refused, Differs, Count}
 use Rattle.log_index.specs.Touched.{touchedWord}
-use Rattle.log_index.specs.Index.{wordsIn, wordsUpTo, wordRight, indexOf, firstWrong}
-use Rattle.log_index.specs.Answers.{indexRight, fits, addAnswer}
+use Rattle.log_index.specs.Index.{indexWords, wordsUpTo, wordRight, indexOf, firstWrong}
+use Rattle.log_index.specs.Answers.{indexRight, countOrFull, addAnswer}
 use Rattle.log_index.proofs.IndexLaws.{words-next, length-words, words-by, right-by, kept-are, kept-most}
 use Rattle.index_words.specs.form.Fields.{fieldsWord}
 use Rattle.index_words.proofs.FieldLaws.{word-said}
@@ -90,7 +90,7 @@ module _ (s : Settings) (log : List ℕ) (w : Bytes log) (p : Passed s log) wher
       first-same (wordRight fieldsWord log index) (wordRight (touchedWord s) log index) n
       (λ k h. right-by fieldsWord (touchedWord s) log index k (λ l. word-said s log w (p .right) (p .good) k l))
 
-  pub room-said : (kept : ℕ) (index : List ℕ) → roomAnswer log kept index ≡ indexRight s log index kept (fits (blocksIn log) (length index))
+  pub room-said : (kept : ℕ) (index : List ℕ) → roomAnswer log kept index ≡ indexRight s log index kept (countOrFull (blocksIn log) (length index))
   unfolding roomAnswer
   room-said kept index = rw (wrong-said index kept)
 

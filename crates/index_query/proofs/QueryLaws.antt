@@ -19,9 +19,9 @@ use Rattle.blocks.specs.Block.{blocksIn, firstBadBlock, listOf}
 use Rattle.log_right.specs.Right.{rightLog}
 use Rattle.log_index.specs.declared.Indexed.{Indexed}
 use Rattle.log_index.specs.declared.Indexed.the-variants.{Refused, Differs, Count}
-use Rattle.log_index.specs.Index.{wordsIn, wordsOf, firstWrong}
-use Rattle.log_index.specs.Query.{listed, hasBit}
-use Rattle.log_index.specs.Answers.{indexRight, rightBeside, fits, queryAnswer}
+use Rattle.log_index.specs.Index.{indexWords, wordsOf, firstWrong}
+use Rattle.log_index.specs.Query.{numbersWhere, hasBit}
+use Rattle.log_index.specs.Answers.{indexRight, rightBeside, countOrFull, queryAnswer}
 use Rattle.log_index.proofs.ListLaws.{listed-next, length-listed}
 use Rattle.index_make.proofs.MakeLaws.{Passed, pick, pick-same, wrong-said}
 use Rattle.index_query.specs.form.Beside.{besideFields}
@@ -29,11 +29,11 @@ use Rattle.index_query.specs.form.Beside.{besideFields}
 -- ---- numbers listed in turn
 
 module _ (f : ℕ → Bool) (l : List ℕ) where
-  pub listed-turn : (k : ℕ) → 4 * countUpTo f k ≤ length l → splice (splice l 0 (listed f k)) (4 * countUpTo f k) (cond (f k) (bytes 4 k) []) ≡ splice l 0 (listed f (k + 1))
-  listed-turn k h = rw (listed-next f k) (splice-next l (listed f k) (cond (f k) (bytes 4 k) []) (4 * countUpTo f k) (length-listed f k) h)
+  pub listed-turn : (k : ℕ) → 4 * countUpTo f k ≤ length l → splice (splice l 0 (numbersWhere f k)) (4 * countUpTo f k) (cond (f k) (bytes 4 k) []) ≡ splice l 0 (numbersWhere f (k + 1))
+  listed-turn k h = rw (listed-next f k) (splice-next l (numbersWhere f k) (cond (f k) (bytes 4 k) []) (4 * countUpTo f k) (length-listed f k) h)
 
-  pub listed-held : (k : ℕ) → 4 * countUpTo f k ≤ length l → length (splice l 0 (listed f k)) ≡ length l
-  listed-held k h = let n = length-listed f k in length-splice l 0 (listed f k) (omega arith)
+  pub listed-held : (k : ℕ) → 4 * countUpTo f k ≤ length l → length (splice l 0 (numbersWhere f k)) ≡ length l
+  listed-held k h = let n = length-listed f k in length-splice l 0 (numbersWhere f k) (omega arith)
 
 -- ---- the tests before a query
 
@@ -74,7 +74,7 @@ pub beside-next : (s : Settings) (log index : List ℕ) (next : Indexed) → Bes
 beside-next s log index next b = rw (eq-eqb _ _ (b .passed .right), eq-eqb _ _ (b .passed .good), eq-eqb _ _ (b .same))
 
 pub beside-said : (s : Settings) (log index : List ℕ) → Bytes log → Passed s log
-    → besideFields log index ≡ indexRight s log index (wordsOf log index) (Count (wordsIn index))
+    → besideFields log index ≡ indexRight s log index (wordsOf log index) (Count (indexWords index))
 unfolding besideFields
 beside-said s log index w p = rw (wrong-said s log w p index (wordsOf log index))
 
@@ -84,17 +84,17 @@ pub record Queried (s : Settings) (log index : List ℕ) (bank room n : ℕ) : T
   pub words : length index % 4 ≡ 0
   pub bank-right : bank < 32
   pub beside : Beside s log index
-  pub room-enough : 4 * countUpTo (hasBit index bank) (wordsIn index) ≤ room
-  pub count-is : n ≡ countUpTo (hasBit index bank) (wordsIn index)
+  pub room-enough : 4 * countUpTo (hasBit index bank) (indexWords index) ≤ room
+  pub count-is : n ≡ countUpTo (hasBit index bank) (indexWords index)
 
 pub query-passed : (s : Settings) (log index : List ℕ) (bank room n : ℕ) → queryAnswer s log index bank room ≡ Count n → Queried s log index bank room n
 unfolding queryAnswer
 query-passed s log index bank room n e =
-    let many : ℕ = countUpTo (hasBit index bank) (wordsIn index) in
+    let many : ℕ = countUpTo (hasBit index bank) (indexWords index) in
     let a = pick (eqb (length log % 512) 0) _ Length n e in
     let b = pick (eqb (length index % 4) 0) _ Length n (a .1) in
     let c = pick (ltb bank 32) _ Bank n (b .1) in
-    let d = beside-passed s log index (fits many room) n (c .1) in
+    let d = beside-passed s log index (countOrFull many room) n (c .1) in
     let f = pick (leb many (room / 4)) (Count many) Full n (d .1) in
     let g : many ≤ room / 4 = leb-true _ _ (f .0) in
     record {

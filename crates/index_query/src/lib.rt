@@ -8,9 +8,9 @@ ghost use Rattle.num.specs.Bytes.{bytes, splice};
 ghost use Rattle.marks.specs.Marks.{countUpTo};
 ghost use Rattle.blocks.specs.Block.{blocksIn, firstBadBlock};
 ghost use Rattle.log_index.specs.declared.Indexed.the-variants.{Count};
-ghost use Rattle.log_index.specs.Index.{wordsIn};
+ghost use Rattle.log_index.specs.Index.{indexWords};
 ghost use Rattle.log_index.specs.Query.{hasBit, queried};
-ghost use Rattle.log_index.specs.Answers.{lentAfter, rightBeside, fits, queryAnswer};
+ghost use Rattle.log_index.specs.Answers.{lentAfter, rightBeside, countOrFull, queryAnswer};
 ghost use Rattle.index_query.specs.form.Beside.{besideFields};
 use index_make::first_wrong;
 use index_make::right;
@@ -21,7 +21,7 @@ use settings::Settings;
 
 // Whether word k of an index has the bit of a bank.
 fn has_bit(index: &[u8], bank: u32, k: usize) -> bool
-    requires { ⌜ (bank < 32) × (k < wordsIn (now index)) ⌝ }
+    requires { ⌜ (bank < 32) × (k < indexWords (now index)) ⌝ }
     ensures { λ r. ⌜ r ≡ hasBit (now (index .entry)) bank k ⌝ }
 {
     (num::u32_at(index, 4 * k) >> bank) % 2 == 1
@@ -29,7 +29,7 @@ fn has_bit(index: &[u8], bank: u32, k: usize) -> bool
 
 // 1 where word k of an index has the bit of a bank, else 0.
 fn one_at(index: &[u8], bank: u32, k: usize) -> usize
-    requires { ⌜ (bank < 32) × (k < wordsIn (now index)) ⌝ }
+    requires { ⌜ (bank < 32) × (k < indexWords (now index)) ⌝ }
     ensures { λ r. ⌜ r ≡ cond (hasBit (now (index .entry)) bank k) 1 0 ⌝ }
 {
     if has_bit(index, bank, k) { 1 } else { 0 }
@@ -38,7 +38,7 @@ fn one_at(index: &[u8], bank: u32, k: usize) -> usize
 // How many words of an index have the bit of a bank.
 fn found(index: &[u8], bank: u32) -> usize
     requires { ⌜ bank < 32 ⌝ }
-    ensures { λ r. ⌜ r ≡ countUpTo (hasBit (now (index .entry)) bank) (wordsIn (now (index .entry))) ⌝ }
+    ensures { λ r. ⌜ r ≡ countUpTo (hasBit (now (index .entry)) bank) (indexWords (now (index .entry))) ⌝ }
 {
     let words = index.len() / 4;
     let mut n = 0;
@@ -52,7 +52,7 @@ fn found(index: &[u8], bank: u32) -> usize
 
 // Lists block k after n others where its word has the bit of a bank: how many are listed then.
 fn put_found(index: &[u8], bank: u32, k: usize, n: usize, out: &mut [u8]) -> usize
-    requires { ⌜ (bank < 32) × (k < wordsIn (now index)) × (4 * (n + cond (hasBit (now index) bank k) 1 0) ≤ length (now out)) ⌝ }
+    requires { ⌜ (bank < 32) × (k < indexWords (now index)) × (4 * (n + cond (hasBit (now index) bank k) 1 0) ≤ length (now out)) ⌝ }
     ensures { λ r. ⌜ (r ≡ n + cond (hasBit (now (index .entry)) bank k) 1 0) × (now (out .exit) ≡ splice (now (out .entry)) (4 * n) (cond (hasBit (now (index .entry)) bank k) (bytes 4 k) [])) ⌝ }
 {
     if has_bit(index, bank, k) {
@@ -64,7 +64,7 @@ fn put_found(index: &[u8], bank: u32, k: usize, n: usize, out: &mut [u8]) -> usi
 
 // Lists the blocks whose words have the bit of a bank.
 fn list_found(index: &[u8], bank: u32, out: &mut [u8])
-    requires { ⌜ (bank < 32) × (4 * countUpTo (hasBit (now index) bank) (wordsIn (now index)) ≤ length (now out)) ⌝ }
+    requires { ⌜ (bank < 32) × (4 * countUpTo (hasBit (now index) bank) (indexWords (now index)) ≤ length (now out)) ⌝ }
     ensures { λ _. ⌜ now (out .exit) ≡ splice (now (out .entry)) 0 (queried (now (index .entry)) bank) ⌝ }
 {
     let words = index.len() / 4;
@@ -101,7 +101,7 @@ fn compared(log: &[u8], index: &[u8]) -> Indexed
 
 // Tests a log of whole blocks and an index of whole words for 12, 10 and 14: a refusal, or the number of words.
 pub fn beside(s: Settings, log: &[u8], index: &[u8]) -> Indexed
-    ensures { λ r. ⌜ r ≡ rightBeside s (now (log .entry)) (now (index .entry)) (Count (wordsIn (now (index .entry)))) ⌝ }
+    ensures { λ r. ⌜ r ≡ rightBeside s (now (log .entry)) (now (index .entry)) (Count (indexWords (now (index .entry)))) ⌝ }
 {
     match right(s, log) {
         Copied::Refused(why) => Indexed::Refused(why),
@@ -111,7 +111,7 @@ pub fn beside(s: Settings, log: &[u8], index: &[u8]) -> Indexed
 
 // So many words into so many bytes: 8, or their number.
 fn fits(n: usize, room: usize) -> Indexed
-    ensures { λ r. ⌜ r ≡ fits n room ⌝ }
+    ensures { λ r. ⌜ r ≡ countOrFull n room ⌝ }
 {
     if n <= room / 4 {
         Indexed::Count(n as u64)

@@ -21,7 +21,7 @@ use Rattle.settings.specs.declared.Settings.{Settings}
 use Rattle.blocks.specs.Block.{wordAt, blocksIn, blockAt}
 use Rattle.marks.proofs.BitLaws.{word-below}
 use Rattle.log_index.specs.Touched.{touches, touchedWord}
-use Rattle.log_index.specs.Index.{wordsUpTo, indexOf, wordsIn, wordRight, firstWrong, wordsOf}
+use Rattle.log_index.specs.Index.{wordsUpTo, indexOf, indexWords, wordRight, firstWrong, wordsOf}
 
 -- ---- the words of an index
 
@@ -51,9 +51,9 @@ unfolding wordRight
 right-by word other log index k h = go (ltb k (blocksIn log)) refl
   where
     go : (b : Bool) → ltb k (blocksIn log) ≡ b
-        → ((ltb k (wordsIn index) && b) && eqb (wordAt index k) (word (blockAt log k))) ≡ ((ltb k (wordsIn index) && b) && eqb (wordAt index k) (other (blockAt log k)))
+        → ((ltb k (indexWords index) && b) && eqb (wordAt index k) (word (blockAt log k))) ≡ ((ltb k (indexWords index) && b) && eqb (wordAt index k) (other (blockAt log k)))
     go true e = rw (h (ltb-true k (blocksIn log) e))
-    go false e = rw (and-false (ltb k (wordsIn index)))
+    go false e = rw (and-false (ltb k (indexWords index)))
 
 -- a word that is put after n others
 pub word-last : (l : List ℕ) (n x : ℕ) → length l ≡ 4 * n → x < 2 ^ 32 → wordAt (l ++ bytes 4 x) n ≡ x
@@ -79,20 +79,20 @@ index-word s log (suc n) k h =
 
 -- what a right word says
 record Right (s : Settings) (log index : List ℕ) (k : ℕ) : Type 0 where
-  there : k < wordsIn index
+  there : k < indexWords index
   block : k < blocksIn log
   same : wordAt index k ≡ touchedWord s (blockAt log k)
 
 right-says : (s : Settings) (log index : List ℕ) (k : ℕ) → wordRight (touchedWord s) log index k ≡ true → Right s log index k
 unfolding wordRight
 right-says s log index k e =
-    let a = and-eq-true-iff (ltb k (wordsIn index) && ltb k (blocksIn log)) (eqb (wordAt index k) (touchedWord s (blockAt log k))) .0 e in
-    let b = and-eq-true-iff (ltb k (wordsIn index)) (ltb k (blocksIn log)) .0 (a .0) in
+    let a = and-eq-true-iff (ltb k (indexWords index) && ltb k (blocksIn log)) (eqb (wordAt index k) (touchedWord s (blockAt log k))) .0 e in
+    let b = and-eq-true-iff (ltb k (indexWords index)) (ltb k (blocksIn log)) .0 (a .0) in
     record { there = ltb-true _ _ (b .0); block = ltb-true _ _ (b .1); same = eqb-true _ _ (a .1) }
 
 says-right : (s : Settings) (log index : List ℕ) (k : ℕ) → Right s log index k → wordRight (touchedWord s) log index k ≡ true
 unfolding wordRight
-says-right s log index k r = rw (lt-ltb k (wordsIn index) (r .there), lt-ltb k (blocksIn log) (r .block), eq-eqb _ _ (r .same))
+says-right s log index k r = rw (lt-ltb k (indexWords index) (r .there), lt-ltb k (blocksIn log) (r .block), eq-eqb _ _ (r .same))
 
 -- words that are right are the words of the first blocks
 words-are : (s : Settings) (log index : List ℕ) → Bytes index → (n : ℕ) → ((k : ℕ) → k < n → Right s log index k) → part index 0 (4 * n) ≡ wordsUpTo (touchedWord s) log n
@@ -125,21 +125,21 @@ unfolding firstWrong
 all-right s log index e k h = right-says s log index k (first-before (wordRight (touchedWord s) log index) (wordsOf log index) k (omega arith))
 
 -- an index that passes has a word for each block
-pub as-many : (s : Settings) (log index : List ℕ) → firstWrong s log index (wordsOf log index) ≡ wordsOf log index → wordsIn index ≡ blocksIn log
-as-many s log index e = go (ltb (wordsIn index) (blocksIn log)) refl (ltb (blocksIn log) (wordsIn index)) refl
+pub as-many : (s : Settings) (log index : List ℕ) → firstWrong s log index (wordsOf log index) ≡ wordsOf log index → indexWords index ≡ blocksIn log
+as-many s log index e = go (ltb (indexWords index) (blocksIn log)) refl (ltb (blocksIn log) (indexWords index)) refl
   where
     right : (k : ℕ) → k < wordsOf log index → Right s log index k
     right k h = all-right s log index e k h
 
-    go : (a : Bool) → ltb (wordsIn index) (blocksIn log) ≡ a → (b : Bool) → ltb (blocksIn log) (wordsIn index) ≡ b → wordsIn index ≡ blocksIn log
+    go : (a : Bool) → ltb (indexWords index) (blocksIn log) ≡ a → (b : Bool) → ltb (blocksIn log) (indexWords index) ≡ b → indexWords index ≡ blocksIn log
     go true p b q =
-        let h = ltb-true (wordsIn index) (blocksIn log) p in
-        let m = le-max-right (wordsIn index) (blocksIn log) in
-        let t = right (wordsIn index) (omega arith) .there in
+        let h = ltb-true (indexWords index) (blocksIn log) p in
+        let m = le-max-right (indexWords index) (blocksIn log) in
+        let t = right (indexWords index) (omega arith) .there in
         absurd (omega arith)
     go false p true q =
-        let h = ltb-true (blocksIn log) (wordsIn index) q in
-        let m = le-max-left (wordsIn index) (blocksIn log) in
+        let h = ltb-true (blocksIn log) (indexWords index) q in
+        let m = le-max-left (indexWords index) (blocksIn log) in
         let t = right (blocksIn log) (omega arith) .block in
         absurd (omega arith)
     go false p false q = omega (arith, ltb-false)
@@ -150,7 +150,7 @@ pub passes-is : (s : Settings) (log index : List ℕ) → Bytes index → length
 unfolding indexOf
 passes-is s log index w h e =
     let m = as-many s log index e in
-    let a = le-max-right (wordsIn index) (blocksIn log) in
+    let a = le-max-right (indexWords index) (blocksIn log) in
     let l : length index ≤ 4 * blocksIn log = omega arith in
     sym (part-all index (4 * blocksIn log) l)
     ∙ words-are s log index w (blocksIn log) (λ k b. all-right s log index e k (omega arith))
@@ -160,7 +160,7 @@ pub index-passes : (s : Settings) (log : List ℕ) → firstWrong s log (indexOf
 unfolding firstWrong indexOf
 index-passes s log =
     let l = length-words (touchedWord s) log (blocksIn log) in
-    let n : wordsIn (indexOf s log) ≡ blocksIn log = omega arith in
+    let n : indexWords (indexOf s log) ≡ blocksIn log = omega arith in
     let m : wordsOf log (indexOf s log) ≤ blocksIn log = max-le (omega arith) (omega arith) in
     first-none (wordRight (touchedWord s) log (indexOf s log)) (wordsOf log (indexOf s log))
     (λ k h. says-right s log (indexOf s log) k (record { there = omega arith; block = omega arith; same = index-word s log (blocksIn log) k (omega arith) }))

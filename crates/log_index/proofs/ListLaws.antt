@@ -15,15 +15,15 @@ use Rattle.num.specs.Bytes.{bytes}
 use Rattle.num.proofs.ByteLaws.{length-bytes}
 use Rattle.blocks.specs.Block.{wordAt}
 use Rattle.marks.specs.Marks.{countUpTo}
-use Rattle.log_index.specs.Query.{listed, Lists}
+use Rattle.log_index.specs.Query.{numbersWhere, Lists}
 use Rattle.log_index.proofs.IndexLaws.{word-last, word-before}
 
-pub listed-next : (f : ℕ → Bool) (n : ℕ) → listed f (n + 1) ≡ listed f n ++ cond (f n) (bytes 4 n) []
-unfolding listed
+pub listed-next : (f : ℕ → Bool) (n : ℕ) → numbersWhere f (n + 1) ≡ numbersWhere f n ++ cond (f n) (bytes 4 n) []
+unfolding numbersWhere
 listed-next f n = rw add-one
 
-pub listed-same : (f g : ℕ → Bool) (n : ℕ) → ((k : ℕ) → k < n → f k ≡ g k) → listed f n ≡ listed g n
-unfolding listed
+pub listed-same : (f g : ℕ → Bool) (n : ℕ) → ((k : ℕ) → k < n → f k ≡ g k) → numbersWhere f n ≡ numbersWhere g n
+unfolding numbersWhere
 listed-same f g zero h = refl
 listed-same f g (suc n) h = ap₂ (λ (l : List ℕ) (b : Bool). l ++ cond b (bytes 4 n) []) (listed-same f g n (λ k l. h k (omega arith))) (h n (omega arith))
 
@@ -31,8 +31,8 @@ length-one : (b : Bool) (n : ℕ) → length (cond b (bytes 4 n) []) ≡ 4 * con
 length-one true n = length-bytes 4 n
 length-one false n = refl
 
-pub length-listed : (f : ℕ → Bool) (n : ℕ) → length (listed f n) ≡ 4 * countUpTo f n
-unfolding listed countUpTo
+pub length-listed : (f : ℕ → Bool) (n : ℕ) → length (numbersWhere f n) ≡ 4 * countUpTo f n
+unfolding numbersWhere countUpTo
 length-listed f zero = refl
 length-listed f (suc n) = simp (length-append, length-listed f n, length-one (f n) n) (omega arith)
 
@@ -51,19 +51,19 @@ count-more f n k h e =
     omega arith
 
 -- a number at which f holds stands after as many as there are below it
-placed : (f : ℕ → Bool) (n k : ℕ) → n ≤ 2 ^ 32 → k < n → f k ≡ true → wordAt (listed f n) (countUpTo f k) ≡ k
-unfolding listed
+placed : (f : ℕ → Bool) (n k : ℕ) → n ≤ 2 ^ 32 → k < n → f k ≡ true → wordAt (numbersWhere f n) (countUpTo f k) ≡ k
+unfolding numbersWhere
 placed f zero k m h e = absurd (omega arith)
 placed f (suc n) k m h e =
     ⊎-elim
     last
-    (λ l. word-before (listed f n) (cond (f n) (bytes 4 n) []) (countUpTo f n) (countUpTo f k) (length-listed f n) (count-more f n k l e) ∙ placed f n k (omega arith) l e)
+    (λ l. word-before (numbersWhere f n) (cond (f n) (bytes 4 n) []) (countUpTo f n) (countUpTo f k) (length-listed f n) (count-more f n k l e) ∙ placed f n k (omega arith) l e)
     (eq-or-lt-of-le (le-of-suc-le-suc h))
   where
-    last : k ≡ n → wordAt (listed f n ++ cond (f n) (bytes 4 n) []) (countUpTo f k) ≡ k
+    last : k ≡ n → wordAt (numbersWhere f n ++ cond (f n) (bytes 4 n) []) (countUpTo f k) ≡ k
     last q =
         let t : f n ≡ true = sym (ap f q) ∙ e in
-        rw (q, t) (word-last (listed f n) (countUpTo f n) n (length-listed f n) (omega arith))
+        rw (q, t) (word-last (numbersWhere f n) (countUpTo f n) n (length-listed f n) (omega arith))
 
 -- the number with i others below it
 record Found (f : ℕ → Bool) (n i : ℕ) : Type 0 where
@@ -87,13 +87,13 @@ found f (suc n) i h = go (λ l. found f n i l) (f n) refl h
         (eq-or-lt-of-le (le-of-suc-le-suc (let m : suc i ≤ suc (countUpTo f n) = omega arith in m)))
 
 -- the list of up to 2^32 numbers, of which four bytes are enough
-pub lists : (f : ℕ → Bool) (n : ℕ) → n ≤ 2 ^ 32 → Lists f n (listed f n)
+pub lists : (f : ℕ → Bool) (n : ℕ) → n ≤ 2 ^ 32 → Lists f n (numbersWhere f n)
 lists f n m = record { whole = length-listed f n; each = each; every = λ k h e. (countUpTo f k, count-more f n k h e, placed f n k m h e); rising = rising }
   where
-    is-at : (i : ℕ) (x : Found f n i) → wordAt (listed f n) i ≡ x .at
-    is-at i x = ap (wordAt (listed f n)) (sym (x .others)) ∙ placed f n (x .at) m (x .below) (x .holds)
+    is-at : (i : ℕ) (x : Found f n i) → wordAt (numbersWhere f n) i ≡ x .at
+    is-at i x = ap (wordAt (numbersWhere f n)) (sym (x .others)) ∙ placed f n (x .at) m (x .below) (x .holds)
 
-    each : (i : ℕ) → i < countUpTo f n → (wordAt (listed f n) i < n) × (f (wordAt (listed f n) i) ≡ true)
+    each : (i : ℕ) → i < countUpTo f n → (wordAt (numbersWhere f n) i < n) × (f (wordAt (numbersWhere f n) i) ≡ true)
     each i h = let x = found f n i h in rw (is-at i x) (x .below, x .holds)
 
     order : (i j : ℕ) → i < j → (x : Found f n i) (y : Found f n j) → (b : Bool) → ltb (x .at) (y .at) ≡ b → x .at < y .at
@@ -104,7 +104,7 @@ lists f n m = record { whole = length-listed f n; each = each; every = λ k h e.
         let q = y .others in
         absurd (omega arith)
 
-    rising : (i j : ℕ) → i < j → j < countUpTo f n → wordAt (listed f n) i < wordAt (listed f n) j
+    rising : (i j : ℕ) → i < j → j < countUpTo f n → wordAt (numbersWhere f n) i < wordAt (numbersWhere f n) j
     rising i j h l =
         let x = found f n i (omega arith) in
         let y = found f n j l in

@@ -16,8 +16,8 @@ use Rattle.marks.specs.Marks.{bit, countUpTo}
 use Rattle.marks.proofs.BitLaws.{bit-word}
 use Rattle.marks.proofs.CountLaws.{count-same}
 use Rattle.log_index.specs.Touched.{touches, touchedWord}
-use Rattle.log_index.specs.Index.{wordsUpTo, indexOf, wordsIn}
-use Rattle.log_index.specs.Query.{listed, hasBit, queried, scanned, Lists}
+use Rattle.log_index.specs.Index.{wordsUpTo, indexOf, indexWords}
+use Rattle.log_index.specs.Query.{numbersWhere, hasBit, queried, scanned, Lists}
 use Rattle.log_index.proofs.IndexLaws.{length-words, index-word, words-next}
 use Rattle.log_index.proofs.ListLaws.{listed-same, lists}
 
@@ -35,8 +35,8 @@ pub query-is-scan : (s : Settings) (log : List ℕ) (b : ℕ) → b < 32 → que
 unfolding queried scanned indexOf
 query-is-scan s log b h =
     let l = length-words (touchedWord s) log (blocksIn log) in
-    let n : wordsIn (indexOf s log) ≡ blocksIn log = omega arith in
-    ap (listed (hasBit (indexOf s log) b)) n
+    let n : indexWords (indexOf s log) ≡ blocksIn log = omega arith in
+    ap (numbersWhere (hasBit (indexOf s log) b)) n
     ∙ listed-same (hasBit (indexOf s log) b) (λ k. touches s (blockAt log k) b) (blocksIn log) (λ k m. index-bit s log b k h m)
 
 -- what the scan lists, of a log whose blocks are right: the blocks with a packet that names the bank, and no others

@@ -13,7 +13,7 @@ use Rattle.marks.specs.Marks.{countUpTo}
 use Rattle.log_right.specs.Right.{wholeIn, rightLog}
 use Rattle.log_index.specs.declared.Indexed.{Indexed}
 use Rattle.log_index.specs.declared.Indexed.the-variants.{Refused, Differs, Count}
-use Rattle.log_index.specs.Index.{wordsIn, wordsOf, firstWrong}
+use Rattle.log_index.specs.Index.{indexWords, wordsOf, firstWrong}
 use Rattle.log_index.specs.Query.{hasBit}
 
 -- the lent buffer after a call: what was made goes to its start, and "a refusal changes no lent buffer"
@@ -27,13 +27,13 @@ abbrev pub indexRight : Settings → List ℕ → List ℕ → ℕ → Indexed �
 indexRight s log index n next = cond (eqb (firstWrong s log index n) n) next (Differs (firstWrong s log index n))
 
 -- "8 full": n words of four bytes in so many bytes
-abbrev pub fits : ℕ → ℕ → Indexed
-fits n room = cond (leb n (room / 4)) (Count n) (Refused Full)
+abbrev pub countOrFull : ℕ → ℕ → Indexed
+countOrFull n room = cond (leb n (room / 4)) (Count n) (Refused Full)
 
 -- the index of a log into a lent buffer whose first `kept` words are there already and stay: 13, 12, 10, 14 of those words, 8
 unfoldable pub addAnswer : Settings → List ℕ → ℕ → List ℕ → Indexed
 addAnswer s log kept index =
-    wholeIn Refused 512 log (rightLog Refused s log (indexRight s log index kept (fits (blocksIn log) (length index))))
+    wholeIn Refused 512 log (rightLog Refused s log (indexRight s log index kept (countOrFull (blocksIn log) (length index))))
 
 -- 12 and 10 of a log of whole blocks, then 14 of an index beside it
 abbrev pub rightBeside : Settings → List ℕ → List ℕ → Indexed → Indexed
@@ -49,5 +49,5 @@ queryAnswer s log index bank room =
     wholeIn Refused 512 log
     (wholeIn Refused 4 index
     (cond (ltb bank 32)
-    (rightBeside s log index (fits (countUpTo (hasBit index bank) (wordsIn index)) room))
+    (rightBeside s log index (countOrFull (countUpTo (hasBit index bank) (indexWords index)) room))
     (Refused Bank)))

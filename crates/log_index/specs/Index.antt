@@ -12,8 +12,8 @@ use Rattle.blocks.specs.Block.{wordAt, blocksIn, blockAt}
 use Rattle.log_index.specs.Touched.{touchedWord}
 
 -- how many whole words an index has
-abbrev pub wordsIn : List ℕ → ℕ
-wordsIn index = length index / 4
+abbrev pub indexWords : List ℕ → ℕ
+indexWords index = length index / 4
 
 -- of what the word of a block is
 module _ (word : List ℕ → ℕ) where
@@ -24,7 +24,7 @@ module _ (word : List ℕ → ℕ) where
 
   -- whether word k of an index is there, and is that of block k of the log, which is there
   unfoldable pub wordRight : List ℕ → List ℕ → ℕ → Bool
-  wordRight log index k = (ltb k (wordsIn index) && ltb k (blocksIn log)) && eqb (wordAt index k) (word (blockAt log k))
+  wordRight log index k = (ltb k (indexWords index) && ltb k (blocksIn log)) && eqb (wordAt index k) (word (blockAt log k))
 
 -- "Beside the log goes an index, one 32-bit word per block"
 unfoldable pub indexOf : Settings → List ℕ → List ℕ
@@ -36,4 +36,4 @@ firstWrong s log index n = firstFalse (wordRight (touchedWord s) log index) n
 
 -- as many words as index or log have
 abbrev pub wordsOf : List ℕ → List ℕ → ℕ
-wordsOf log index = max (wordsIn index) (blocksIn log)
+wordsOf log index = max (indexWords index) (blocksIn log)

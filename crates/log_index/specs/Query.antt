@@ -10,12 +10,12 @@ use Rattle.settings.specs.declared.Settings.{Settings}
 use Rattle.blocks.specs.Block.{wordAt, blocksIn, blockAt}
 use Rattle.marks.specs.Marks.{bit, countUpTo}
 use Rattle.log_index.specs.Touched.{touches}
-use Rattle.log_index.specs.Index.{wordsIn}
+use Rattle.log_index.specs.Index.{indexWords}
 
 -- the numbers below n at which f holds, "four bytes as in a block, in rising order"
-unfoldable pub listed : (ℕ → Bool) → ℕ → List ℕ
-listed f zero = []
-listed f (suc n) = listed f n ++ cond (f n) (bytes 4 n) []
+unfoldable pub numbersWhere : (ℕ → Bool) → ℕ → List ℕ
+numbersWhere f zero = []
+numbersWhere f (suc n) = numbersWhere f n ++ cond (f n) (bytes 4 n) []
 
 -- whether word k of an index has the bit of a bank
 unfoldable pub hasBit : List ℕ → ℕ → ℕ → Bool
@@ -23,11 +23,11 @@ hasBit index bank k = bit (wordAt index k) bank
 
 -- "A query by bank lists block numbers"
 unfoldable pub queried : List ℕ → ℕ → List ℕ
-queried index bank = listed (hasBit index bank) (wordsIn index)
+queried index bank = numbersWhere (hasBit index bank) (indexWords index)
 
 -- the numbers of the blocks with a packet that names a bank: "a scan of the log"
 unfoldable pub scanned : Settings → List ℕ → ℕ → List ℕ
-scanned s log bank = listed (λ k. touches s (blockAt log k) bank) (blocksIn log)
+scanned s log bank = numbersWhere (λ k. touches s (blockAt log k) bank) (blocksIn log)
 
 -- what such a list says: each of its numbers is one at which f holds, each such number is there, and they rise
 pub record Lists (f : ℕ → Bool) (n : ℕ) (list : List ℕ) : Type 0 where

@@ -2,7 +2,7 @@
 use mathlib.Core.Path.{_∙_, sym}
 use borrow.Author.Tests.{eq-eqb, ne-eqb}
 use Rattle.log_index.specs.declared.Indexed.the-variants.{Count}
-use Rattle.log_index.specs.Index.{wordsIn}
+use Rattle.log_index.specs.Index.{indexWords}
 use Rattle.log_index.specs.Answers.{besideAnswer}
 use Rattle.index_query.proofs.QueryLaws.{beside-refused, beside-differs, beside-passed, beside-next}
 use Rattle.calls_index.specs.Results.{checkedAnswer}
@@ -43,7 +43,7 @@ returns-3 c =
     let d = c .before .before .before in
     let a = d .before .before .before .before .before .args in
     rw (eq-eqb _ 0 (d .before .before .if1 .left), eq-eqb _ 0 (d .before .if2 .left))
-    (sym (beside-refused (a .s) (a .log .now) (a .index .now) (wordsIn (a .index .now)) _ _ (sym (d .beside .ensures) ∙ c .before .why .given .1)))
+    (sym (beside-refused (a .s) (a .log .now) (a .index .now) (indexWords (a .index .now)) _ _ (sym (d .beside .ensures) ∙ c .before .why .given .1)))
 
 returns-4 : tie.Need-returns-4
 unfolding checkedAnswer besideAnswer
@@ -51,14 +51,14 @@ returns-4 c =
     let d = c .before .before .before in
     let a = d .before .before .before .before .before .args in
     rw (eq-eqb _ 0 (d .before .before .if1 .left), eq-eqb _ 0 (d .before .if2 .left))
-    (sym (beside-differs (a .s) (a .log .now) (a .index .now) (wordsIn (a .index .now)) _ _ (sym (d .beside .ensures) ∙ c .before .k .given .1)))
+    (sym (beside-differs (a .s) (a .log .now) (a .index .now) (indexWords (a .index .now)) _ _ (sym (d .beside .ensures) ∙ c .before .k .given .1)))
 
 returns-5 : tie.Need-returns-5
 unfolding checkedAnswer besideAnswer
 returns-5 c =
     let d = c .before .before .before .before in
     let a = d .before .before .before .before .before .args in
-    let b = beside-passed (a .s) (a .log .now) (a .index .now) (Count (wordsIn (a .index .now))) _ (sym (d .beside .ensures) ∙ c .before .before .enum-told .given .1) .0 in
+    let b = beside-passed (a .s) (a .log .now) (a .index .now) (Count (indexWords (a .index .now))) _ (sym (d .beside .ensures) ∙ c .before .before .enum-told .given .1) .0 in
     let j = c .before .check-log .ensures ∙ rules-after (a .s) (a .log .now) (d .before .before .if1 .left) (b .passed) in
     rw (eq-eqb _ 0 (d .before .before .if1 .left), eq-eqb _ 0 (d .before .if2 .left))
     (rw j at (c .judged .ensures) ∙ sym (beside-next (a .s) (a .log .now) (a .index .now) _ b))

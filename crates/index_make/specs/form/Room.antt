@@ -10,10 +10,10 @@ use Rattle.blocks.specs.Block.{blocksIn}
 use Rattle.log_index.specs.declared.Indexed.{Indexed}
 use Rattle.log_index.specs.declared.Indexed.the-variants.{Differs}
 use Rattle.log_index.specs.Index.{wordRight}
-use Rattle.log_index.specs.Answers.{fits}
+use Rattle.log_index.specs.Answers.{countOrFull}
 use Rattle.index_words.specs.form.Fields.{fieldsWord}
 
 unfoldable pub roomAnswer : List ℕ → ℕ → List ℕ → Indexed
 roomAnswer log kept index =
     let wrong : ℕ = firstFalse (wordRight fieldsWord log index) kept in
-    cond (eqb wrong kept) (fits (blocksIn log) (length index)) (Differs wrong)
+    cond (eqb wrong kept) (countOrFull (blocksIn log) (length index)) (Differs wrong)

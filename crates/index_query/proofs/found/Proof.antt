@@ -4,7 +4,7 @@ use mathlib.Core.Path.{_≡_, refl, sym}
 use native.Mathlib.Omega.{arith}
 use Rattle.marks.specs.Marks.{countUpTo}
 use Rattle.marks.proofs.CountLaws.{count-next, count-le, at-most-1}
-use Rattle.log_index.specs.Index.{wordsIn}
+use Rattle.log_index.specs.Index.{indexWords}
 use Rattle.log_index.specs.Query.{hasBit}
 use borrow.Author.Needs.{needs}
 use Rattle.index_query.proofs.found.Statement.{statement}
@@ -44,7 +44,7 @@ loop-again c =
 
 returns : tie.Need-returns Inv-loop μ-loop
 returns c =
-    let e : c .before .loop .k ≡ wordsIn (c .before .before .before .args .index .now) = omega arith in
+    let e : c .before .loop .k ≡ indexWords (c .before .before .before .args .index .now) = omega arith in
     rw e at (c .before .loop .inv .1)
 
 pub found-spec : {M : Type 1} → statement M

@@ -7,8 +7,8 @@ use Rattle.num.specs.Bytes.{splice}
 use Rattle.num.proofs.SpliceLaws.{splice-none}
 use Rattle.marks.specs.Marks.{countUpTo}
 use Rattle.marks.proofs.CountLaws.{count-next}
-use Rattle.log_index.specs.Index.{wordsIn}
-use Rattle.log_index.specs.Query.{hasBit, listed, queried}
+use Rattle.log_index.specs.Index.{indexWords}
+use Rattle.log_index.specs.Query.{hasBit, numbersWhere, queried}
 use Rattle.log_index.proofs.ListLaws.{count-mono}
 use Rattle.index_query.proofs.QueryLaws.{listed-turn, listed-held}
 use borrow.Author.Needs.{needs}
@@ -16,7 +16,7 @@ use Rattle.index_query.proofs.list_found.Statement.{statement}
 use Rattle.index_query.proofs.list_found.Tie as tie
 
 abbrev Inv-loop : tie.InvT-loop
-Inv-loop index bank out₀ words n₀ k₀ out n k = (k ≤ words) × (n ≡ countUpTo (hasBit index bank) k) × (out ≡ splice out₀ 0 (listed (hasBit index bank) k))
+Inv-loop index bank out₀ words n₀ k₀ out n k = (k ≤ words) × (n ≡ countUpTo (hasBit index bank) k) × (out ≡ splice out₀ 0 (numbersWhere (hasBit index bank) k))
 
 abbrev μ-loop : tie.MeasureT-loop
 μ-loop index bank out₀ words n₀ k₀ out n k = words - k
@@ -26,11 +26,11 @@ held : (c : tie.At-loop Inv-loop μ-loop) → length (c .loop .out) ≡ length (
 held c =
     let a = c .before .before .before in
     let f = hasBit (a .args .index .now) (a .args .bank) in
-    let m = count-mono f (wordsIn (a .args .index .now)) (c .loop .k) (c .loop .inv .0) in
+    let m = count-mono f (indexWords (a .args .index .now)) (c .loop .k) (c .loop .inv .0) in
     ap length (c .loop .inv .2) ∙ listed-held f (a .args .out .now) (c .loop .k) (omega (arith, a .pre .1))
 
 loop-holds : tie.Need-loop-holds Inv-loop μ-loop
-unfolding countUpTo listed
+unfolding countUpTo numbersWhere
 loop-holds c = (omega arith, refl, splice-none (c .before .before .args .out .now) 0)
 
 put-found-requires : tie.Need-put-found-requires Inv-loop μ-loop
@@ -39,7 +39,7 @@ put-found-requires c κs =
     let a = l .before .before .before in
     let f = hasBit (a .args .index .now) (a .args .bank) in
     let k = l .loop .k in
-    let m = count-mono f (wordsIn (a .args .index .now)) (k + 1) (omega (arith, c .before .loop-test .taken)) in
+    let m = count-mono f (indexWords (a .args .index .now)) (k + 1) (omega (arith, c .before .loop-test .taken)) in
     let h = held l in
     let n = count-next f k in
     (a .pre .0, c .before .loop-test .taken, omega (arith, a .pre .1, l .loop .inv .1))
@@ -56,7 +56,7 @@ loop-again c =
     let a = l .before .before .before in
     let f = hasBit (a .args .index .now) (a .args .bank) in
     let k = l .loop .k in
-    let m = count-mono f (wordsIn (a .args .index .now)) k (l .loop .inv .0) in (
+    let m = count-mono f (indexWords (a .args .index .now)) k (l .loop .inv .0) in (
       search needs,
       rw (c .before .before .put-found .ensures .0, l .loop .inv .1) (sym (count-next f k)),
       rw (c .before .before .put-found .ensures .1, l .loop .inv .2, l .loop .inv .1) (listed-turn f (a .args .out .now) k (omega (arith, a .pre .1))),
@@ -68,7 +68,7 @@ same-length c = held (c .before)
 returns : tie.Need-returns Inv-loop μ-loop
 unfolding queried
 returns c =
-    let e : c .before .loop .k ≡ wordsIn (c .before .before .before .before .args .index .now) = omega arith in
+    let e : c .before .loop .k ≡ indexWords (c .before .before .before .before .args .index .now) = omega arith in
     rw e at (c .before .loop .inv .2)
 
 pub list-found-spec : {M : Type 1} → statement M

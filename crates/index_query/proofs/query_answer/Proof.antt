@@ -2,7 +2,7 @@
 use mathlib.Core.Path.{_∙_, sym}
 use borrow.Author.Tests.{eq-eqb, ne-eqb, lt-ltb, le-ltb}
 use Rattle.log_index.specs.declared.Indexed.the-variants.{Count}
-use Rattle.log_index.specs.Index.{wordsIn}
+use Rattle.log_index.specs.Index.{indexWords}
 use Rattle.log_index.specs.Answers.{queryAnswer}
 use Rattle.index_query.proofs.QueryLaws.{beside-refused, beside-differs, beside-passed, beside-next}
 use borrow.Author.Needs.{needs}
@@ -45,7 +45,7 @@ returns-4 c =
     let d = c .before .before .before in
     let a = d .before .before .before .before .before .before .args in
     rw (eq-eqb _ 0 (d .before .before .before .if1 .left), eq-eqb _ 0 (d .before .before .if2 .left), lt-ltb _ _ (d .before .if3 .left))
-    (sym (beside-refused (a .s) (a .log .now) (a .index .now) (wordsIn (a .index .now)) _ _ (sym (d .beside .ensures) ∙ c .before .why .given .1)))
+    (sym (beside-refused (a .s) (a .log .now) (a .index .now) (indexWords (a .index .now)) _ _ (sym (d .beside .ensures) ∙ c .before .why .given .1)))
 
 returns-5 : tie.Need-returns-5
 unfolding queryAnswer
@@ -53,14 +53,14 @@ returns-5 c =
     let d = c .before .before .before in
     let a = d .before .before .before .before .before .before .args in
     rw (eq-eqb _ 0 (d .before .before .before .if1 .left), eq-eqb _ 0 (d .before .before .if2 .left), lt-ltb _ _ (d .before .if3 .left))
-    (sym (beside-differs (a .s) (a .log .now) (a .index .now) (wordsIn (a .index .now)) _ _ (sym (d .beside .ensures) ∙ c .before .k .given .1)))
+    (sym (beside-differs (a .s) (a .log .now) (a .index .now) (indexWords (a .index .now)) _ _ (sym (d .beside .ensures) ∙ c .before .k .given .1)))
 
 returns-6 : tie.Need-returns-6
 unfolding queryAnswer
 returns-6 c =
     let d = c .before .before .before .before in
     let a = d .before .before .before .before .before .before .args in
-    let b = beside-passed (a .s) (a .log .now) (a .index .now) (Count (wordsIn (a .index .now))) _ (sym (d .beside .ensures) ∙ c .before .before .enum-told .given .1) .0 in
+    let b = beside-passed (a .s) (a .log .now) (a .index .now) (Count (indexWords (a .index .now))) _ (sym (d .beside .ensures) ∙ c .before .before .enum-told .given .1) .0 in
     rw (eq-eqb _ 0 (d .before .before .before .if1 .left), eq-eqb _ 0 (d .before .before .if2 .left), lt-ltb _ _ (d .before .if3 .left))
     (rw (c .before .found .ensures) at (c .fits2 .ensures) ∙ sym (beside-next (a .s) (a .log .now) (a .index .now) _ b))
 

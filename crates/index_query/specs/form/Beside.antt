@@ -7,10 +7,10 @@ use lib.Dec.{eqb}
 use Rattle.num.specs.Search.{firstFalse}
 use Rattle.log_index.specs.declared.Indexed.{Indexed}
 use Rattle.log_index.specs.declared.Indexed.the-variants.{Differs, Count}
-use Rattle.log_index.specs.Index.{wordsIn, wordsOf, wordRight}
+use Rattle.log_index.specs.Index.{indexWords, wordsOf, wordRight}
 use Rattle.index_words.specs.form.Fields.{fieldsWord}
 
 unfoldable pub besideFields : List ℕ → List ℕ → Indexed
 besideFields log index =
     let wrong : ℕ = firstFalse (wordRight fieldsWord log index) (wordsOf log index) in
-    cond (eqb wrong (wordsOf log index)) (Count (wordsIn index)) (Differs wrong)
+    cond (eqb wrong (wordsOf log index)) (Count (indexWords index)) (Differs wrong)
