@@ -152,9 +152,9 @@ module _ (settings : List ℕ) (s : Settings) (a : settingsRead settings ≡ Acc
           takes-all = λ wide. ap (λ (x : Device). x .next) (device-end rooms) ∙ all-taken wide ∙ sym count;
           so-far = ap (λ (x : Device). x .answers) (device-end rooms) ∙ rw (fed-is, done-is) (whole .so-far);
           reads = λ e. ap (λ (x : Device). x .answers) (device-end rooms) ∙ rw fed-is (whole .reads (none-waits rooms e));
-          flushed = λ e d. ap (λ (x : Device). x .store) (device-end rooms) ∙ rw fed-is (whole .flushed (none-waits rooms e) (flushes d));
+          flat-after-flush = λ e d. ap (λ (x : Device). x .store) (device-end rooms) ∙ rw fed-is (whole .flat-after-flush (none-waits rooms e) (flushes d));
           counted = ap (λ (x : Device). x .written) (device-end rooms) ∙ rw done-is (whole .counted);
-          flushed-count = λ e d. ap (λ (x : Device). x .written) (device-end rooms) ∙ rw fed-is (whole .flushed-count (none-waits rooms e) (flushes d));
+          count-after-flush = λ e d. ap (λ (x : Device). x .written) (device-end rooms) ∙ rw fed-is (whole .count-after-flush (none-waits rooms e) (flushes d));
         }
       where
         all-taken : length list / 32 ≤ wideBuffers rooms → length l - length (end rooms .pending) ≡ length l

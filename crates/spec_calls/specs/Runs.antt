@@ -150,8 +150,8 @@ module _ (settings : List ℕ) (s : Settings) (calls : List PlanCall) (store : L
     -- and all of them where every record is taken
     pub reads : deviceAtEnd .next ≡ records → deviceAtEnd .answers ≡ flatAnswers (contextOf s) callsFed store
     -- "The store must equal flat memory after any accepted flush."
-    pub flushed : deviceAtEnd .next ≡ records → FlushesLast settings s calls → deviceAtEnd .store ≡ flatAfter (contextOf s) callsFed store
+    pub flat-after-flush : deviceAtEnd .next ≡ records → FlushesLast settings s calls → deviceAtEnd .store ≡ flatAfter (contextOf s) callsFed store
     -- "the number of bytes a retire wrote [..]; their sum over a run is the ones in all retired masks", of the records taken
     pub counted : deviceAtEnd .written ≡ onesOf (retiredMasks (contextOf s) takenRecords)
     -- and after an accepted flush the ones in the masks of all accepted writes
-    pub flushed-count : deviceAtEnd .next ≡ records → FlushesLast settings s calls → deviceAtEnd .written ≡ onesOf (flatMasks (contextOf s) callsFed)
+    pub count-after-flush : deviceAtEnd .next ≡ records → FlushesLast settings s calls → deviceAtEnd .written ≡ onesOf (flatMasks (contextOf s) callsFed)

@@ -159,9 +159,9 @@ module _ (cx : Context) (v : valid (cx .settings) ≡ true) (ns : Neighbours cx)
         takes-all = driven-takes-all cx rooms freshModel store list r;
         so-far = driven-so-far cx rooms freshModel store list r ∙ rw answered;
         reads = λ e. driven-answers cx rooms freshModel store list r e ∙ answered;
-        flushed = λ e d. driven-store cx rooms freshModel store list r e ∙ sym (rw (flushed-empty d) at flat);
+        flat-after-flush = λ e d. driven-store cx rooms freshModel store list r e ∙ sym (rw (flushed-empty d) at flat);
         counted = written ∙ ap onesOf (fresh-masks _);
-        flushed-count = λ e d. driven-written-all cx rooms freshModel store list r e ∙ ap onesOf (flushed-masks d);
+        count-after-flush = λ e d. driven-written-all cx rooms freshModel store list r e ∙ ap onesOf (flushed-masks d);
       }
 
 pub whole-run : (cx : Context) → valid (cx .settings) ≡ true → Neighbours cx → (calls : List Call) → OfBytes calls

@@ -66,8 +66,8 @@ module _ (cx : Context) (calls : List Call) (store rooms : List ℕ) where
     -- and all of them where every record is taken
     pub reads : end .pending ≡ [] → end .answers ≡ flatAnswers cx feed store
     -- "The store must equal flat memory after any accepted flush."
-    pub flushed : end .pending ≡ [] → EndsInFlush cx calls → end .store ≡ flatAfter cx feed store
+    pub flat-after-flush : end .pending ≡ [] → EndsInFlush cx calls → end .store ≡ flatAfter cx feed store
     -- "the number of bytes a retire wrote [..]; their sum over a run is the ones in all retired masks", of the records taken
     pub counted : end .written ≡ onesOf (retiredMasks cx recordsTaken)
     -- and after an accepted flush the ones in the masks of all accepted writes
-    pub flushed-count : end .pending ≡ [] → EndsInFlush cx calls → end .written ≡ onesOf (flatMasks cx feed)
+    pub count-after-flush : end .pending ≡ [] → EndsInFlush cx calls → end .written ≡ onesOf (flatMasks cx feed)
