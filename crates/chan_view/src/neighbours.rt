@@ -25,7 +25,7 @@ fn starts_run(core: u32, b: u64) -> bool
 }
 
 // The same by cases: a loop over all banks is then made once for each form, with numbers that are known beforehand.
-fn is_first(core: u32, b: u32) -> bool
+pub fn is_first(core: u32, b: u32) -> bool
     ensures { λ r. ⌜ r ≡ isFirst core b ⌝ }
 {
     if core == 0 {

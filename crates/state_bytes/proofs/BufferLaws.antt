@@ -210,7 +210,7 @@ module _ (s : Settings) (b : List ℕ) where
       ap₂ (λ p q. p && (apart (contextOf s) (stateOf (channelIn b)) && q)) (ap₂ _&&_ n (ap₂ _&&_ (tracks-tested s b) (ap (λ q. q && waits-valid s b) (lasts-tested s b)))) refl
 
   -- where data may be due or not, and the test of tags asks more
-  pub channel-as : (may : Bool) (also : ℕ) (more : Bool) → Bytes b → 752 ≤ length b → tagsRight s also b ≡ (rows-in s b && more) && apart (contextOf s) (stateOf (channelIn b))
+  pub channel-as : (may : Bool) (also : ℕ) (more : Bool) → Bytes b → 752 ≤ length b → tagsRight (s .rows) (s .core) also b ≡ (rows-in s b && more) && apart (contextOf s) (stateOf (channelIn b))
       → channelTested s also (256 * cond may 1 0) b ≡ (channelSpare b && channelValid (contextOf s) (channelIn b)) && (more && (may || not (eqb (getD b 729 0) 1)))
   unfolding channelTested channelSpare
   channel-as may also more w l h =

@@ -59,9 +59,9 @@ module _ (s : Settings) (b : List ℕ) where
       (channelSpare b) (channelValid (contextOf s) (channelIn b)) (none-refreshed s b) (not (eqb (getD b 729 0) 1)))
 
   -- the same where the stored instants are in range
-  pub planner-rest : Bytes b → length b ≡ 768 → allStored b 0 160 && allStored b 704 5 ≡ true → (plannerFields b && tagsRight s 0 b) && bufferRight (s .columns) 0 b ≡ plannerRight (contextOf s) b
+  pub planner-rest : Bytes b → length b ≡ 768 → allStored b 0 160 && allStored b 704 5 ≡ true → (plannerFields b && tagsRight (s .rows) (s .core) 0 b) && bufferRight (s .columns) 0 b ≡ plannerRight (contextOf s) b
   unfolding channelTested
-  planner-rest w l h = and-assoc (plannerFields b) (tagsRight s 0 b) (bufferRight (s .columns) 0 b) ∙ rw h at (planner-tested w l)
+  planner-rest w l h = and-assoc (plannerFields b) (tagsRight (s .rows) (s .core) 0 b) (bufferRight (s .columns) 0 b) ∙ rw h at (planner-tested w l)
 
   pub planner-length-wrong : (length b ≡ 768 → ⊥) → plannerRight (contextOf s) b ≡ false
   unfolding plannerRight plannerLength

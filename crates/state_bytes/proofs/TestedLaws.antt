@@ -23,7 +23,7 @@ use Rattle.spec_state.specs.Valid.{bankValid, trackValid, writeValid, lastsVali
 use Rattle.spec_state.specs.ChannelBytes.{bankIn, trackIn, tracksIn, lastsIn, writeIn, bufferIn, channelIn, zeroPart, channelSpare}
 use Rattle.spec_state.proofs.PlaneLaws.{length-tracks, tracks-at}
 use Rattle.spec_plan.specs.Planner.{notRefresh}
-use Rattle.chan_view.specs.form.Beside.{lowOf}
+use Rattle.chan_view.specs.form.Beside.{isFirst, lowOf}
 use Rattle.chan_view.proofs.NearLaws.{Beside, own, low, high, Below, no-low, one-low, Above, no-high, one-high, below, above, near-beside, near-low, or-right}
 use Rattle.state_bytes.specs.form.Stored.{latest}
 use Rattle.state_bytes.specs.form.Tested.{allStored, mostTag, tagsRight, writeRight, bufferRight, channelTested}
@@ -51,6 +51,15 @@ module _ (s : Settings) (state : ℕ → Bank) where
       go : Below s x → lowOf s x + 1 ≡ x
       go (no-low p q) = absurd (eqb-false (lowOf s x) 32 e p)
       go (one-low p q) = p
+
+  -- the first bank of a run has none below it
+  low-first : (x : ℕ) → x < 32 → eqb (lowOf s x) 32 ≡ isFirst (s .core) x
+  unfolding lowOf
+  low-first x l = go (isFirst (s .core) x)
+    where
+      go : (q : Bool) → eqb (cond q 32 (x - 1)) 32 ≡ q
+      go true = refl
+      go false = ne-eqb (x - 1) 32 (λ z. omega arith)
 
   low-pair : (x y : ℕ) → x < 32 → y < 32 → y ≡ lowOf s x → lowRight x ≡ true → pair y x ≡ true
   low-pair x y lx ly e h = rw e (rw (ne-eqb (lowOf s x) 32 (λ z. omega arith)) at h)
@@ -181,10 +190,10 @@ module _ (s : Settings) (b : List ℕ) where
 
   -- the bank before bank x, by its tag
   abbrev besideRight : ℕ → Bool
-  besideRight x = (eqb (lowOf s x) 32 || eqb (number (part b (638 + 2 * x) 2)) 0) || eqb (tagIn x) 0
+  besideRight x = (isFirst (s .core) x || eqb (number (part b (638 + 2 * x) 2)) 0) || eqb (tagIn x) 0
 
   beside-at : (x : ℕ) → x < 32 → lowRight s (stateOf (channelIn b)) x ≡ besideRight x
-  beside-at x l = go (eqb (lowOf s x) 32) refl
+  beside-at x l = rw (sym (low-first s (stateOf (channelIn b)) x l)) (go (eqb (lowOf s x) 32) refl)
     where
       go : (q : Bool) → eqb (lowOf s x) 32 ≡ q → q || pair s (stateOf (channelIn b)) (lowOf s x) x ≡ (q || eqb (number (part b (638 + 2 * x) 2)) 0) || eqb (tagIn x) 0
       go true e = refl
@@ -198,7 +207,7 @@ module _ (s : Settings) (b : List ℕ) where
 
   -- the tags, where the test of a bank's own tag is another
   tags-as : (also : ℕ) (test : ℕ → Bool) → ((x : ℕ) → x < 32 → leb (tagIn x) (mostTag (s .rows)) || eqb (tagIn x) also ≡ test x)
-      → tagsRight s also b ≡ allUpTo test 32 && apart cx (stateOf (channelIn b))
+      → tagsRight (s .rows) (s .core) also b ≡ allUpTo test 32 && apart cx (stateOf (channelIn b))
   tags-as also test h =
       all-and (λ x. leb (tagIn x) (mostTag (s .rows)) || eqb (tagIn x) also) besideRight 32
       ∙ ap₂ _&&_ (all-ext _ test 32 h) (sym apart-tested)
@@ -210,13 +219,13 @@ module _ (s : Settings) (b : List ℕ) where
     tag-fits : (x : ℕ) → x < 32 → tagIn x < 0x10000
     tag-fits x m = number-fits b (640 + 2 * x) 2 w (omega arith)
 
-    pub model-tags : tagsRight s 0xFFFF b ≡ (rows-in && true) && apart cx (stateOf (channelIn b))
+    pub model-tags : tagsRight (s .rows) (s .core) 0xFFFF b ≡ (rows-in && true) && apart cx (stateOf (channelIn b))
     unfolding contextOf
     model-tags =
         tags-as 0xFFFF (λ x. bankValid cx (bankIn (tagIn x))) (λ x m. tag-valid cx (tagIn x) (tag-fits x m))
         ∙ ap (λ t. t && apart cx (stateOf (channelIn b))) (sym (and-true rows-in))
 
-    pub planner-tags : tagsRight s 0 b ≡ (rows-in && none-refreshed) && apart cx (stateOf (channelIn b))
+    pub planner-tags : tagsRight (s .rows) (s .core) 0 b ≡ (rows-in && none-refreshed) && apart cx (stateOf (channelIn b))
     unfolding contextOf
     planner-tags =
         tags-as 0 (λ x. bankValid cx (bankIn (tagIn x)) && notRefresh (stateOf (channelIn b) x))

@@ -37,5 +37,5 @@ pub fn planner_rest_right(s: Settings, b: &[u8]) -> bool
     requires { ⌜ allStored (now b) 0 160 && allStored (now b) 704 5 ≡ true ⌝ }
     ensures { λ r. ⌜ r ≡ plannerRight (contextOf s) (now (b .entry)) ⌝ }
 {
-    fields_right(b) & tags_right(s, 0, b) & buffer_right(s.columns, 0, b)
+    fields_right(b) & tags_right(s.rows, s.core, 0, b) & buffer_right(s.columns, 0, b)
 }

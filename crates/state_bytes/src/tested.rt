@@ -6,7 +6,7 @@ ghost use Prim.Native.Nat.{ℕ, _+_, _*_, _≤_, _<_};
 ghost use lib.ListN.{length};
 ghost use Rattle.num.specs.Bytes.{number, part};
 ghost use Rattle.state_bytes.specs.form.Tested.{allStored, mostTag, tagRight, tagsRight, writeRight, bufferRight, channelTested};
-use chan_view::neighbours::low_of;
+use chan_view::neighbours::is_first;
 use settings::Settings;
 
 // The last stored instant: 1,000,000,000 less 3.
@@ -67,24 +67,25 @@ fn most_tag(rows: u32) -> u16
 }
 
 // Whether a tag is at most the highest or the other one that is allowed, and bank x or its neighbour below is closed.
-fn tag_right(s: Settings, most: u16, also: u16, x: u32, below: u16, tag: u16) -> bool
-    ensures { λ r. ⌜ r ≡ tagRight s most also x below tag ⌝ }
+fn tag_right(core: u32, most: u16, also: u16, x: u32, below: u16, tag: u16) -> bool
+    ensures { λ r. ⌜ r ≡ tagRight core most also x below tag ⌝ }
 {
-    ((tag <= most) | (tag == also)) & ((low_of(s, x) == 32) | (below == 0) | (tag == 0))
+    ((tag <= most) | (tag == also)) & (is_first(core, x) | (below == 0) | (tag == 0))
 }
 
-pub(crate) fn tags_right(s: Settings, also: u16, b: &[u8]) -> bool
+// Whether each tag is right. Of the settings it takes two numbers: all of them would be copied.
+pub(crate) fn tags_right(rows: u32, core: u32, also: u16, b: &[u8]) -> bool
     requires { ⌜ 752 ≤ length (now b) ⌝ }
-    ensures { λ r. ⌜ r ≡ tagsRight s also (now (b .entry)) ⌝ }
+    ensures { λ r. ⌜ r ≡ tagsRight rows core also (now (b .entry)) ⌝ }
 {
-    let most = most_tag(s.rows);
+    let most = most_tag(rows);
     let mut right = true;
     let mut x: u32 = 0;
     while x < 32 {
         let i = x as usize;
         let below = tag_at(b, 638 + 2 * i);
         let tag = tag_at(b, 640 + 2 * i);
-        right = right & tag_right(s, most, also, x, below, tag);
+        right = right & tag_right(core, most, also, x, below, tag);
         x += 1;
     }
     right
@@ -128,5 +129,5 @@ pub(crate) fn channel_right(s: Settings, also: u16, due: u64, b: &[u8]) -> bool
     requires { ⌜ due ≤ 256 ⌝ }
     ensures { λ r. ⌜ r ≡ channelTested s also due (now (b .entry)) ⌝ }
 {
-    instants_right(b) & tags_right(s, also, b) & buffer_right(s.columns, due, b)
+    instants_right(b) & tags_right(s.rows, s.core, also, b) & buffer_right(s.columns, due, b)
 }

@@ -10,7 +10,7 @@ use Rattle.num.specs.Bytes.{number, part}
 use Rattle.num.specs.Search.{allUpTo}
 use Rattle.settings.specs.declared.Settings.{Settings}
 use Rattle.spec_state.specs.ChannelBytes.{zeroPart}
-use Rattle.chan_view.specs.form.Beside.{lowOf}
+use Rattle.chan_view.specs.form.Beside.{isFirst}
 use Rattle.state_bytes.specs.form.Stored.{latest}
 
 -- ---- stored instants
@@ -26,11 +26,11 @@ abbrev pub mostTag : ℕ → ℕ
 mostTag rows = cond (ltb rows 0xFFFF) rows 0xFFFE
 
 -- what is tested of the tag of bank x and of the one before it; a planner allows no other tag (also is 0), a model that of a refresh
-abbrev pub tagRight : Settings → ℕ → ℕ → ℕ → ℕ → ℕ → Bool
-tagRight s most also x below tag = (leb tag most || eqb tag also) && ((eqb (lowOf s x) 32 || eqb below 0) || eqb tag 0)
+abbrev pub tagRight : ℕ → ℕ → ℕ → ℕ → ℕ → ℕ → Bool
+tagRight core most also x below tag = (leb tag most || eqb tag also) && ((isFirst core x || eqb below 0) || eqb tag 0)
 
-abbrev pub tagsRight : Settings → ℕ → List ℕ → Bool
-tagsRight s also b = allUpTo (λ x. tagRight s (mostTag (s .rows)) also x (number (part b (638 + 2 * x) 2)) (number (part b (640 + 2 * x) 2))) 32
+abbrev pub tagsRight : ℕ → ℕ → ℕ → List ℕ → Bool
+tagsRight rows core also b = allUpTo (λ x. tagRight core (mostTag rows) also x (number (part b (638 + 2 * x) 2)) (number (part b (640 + 2 * x) 2))) 32
 
 -- ---- the buffer
 
@@ -56,7 +56,7 @@ bufferRight columns due b =
 -- ---- the channel
 
 unfoldable pub channelTested : Settings → ℕ → ℕ → List ℕ → Bool
-channelTested s also due b = ((allStored b 0 160 && allStored b 704 5) && tagsRight s also b) && bufferRight (s .columns) due b
+channelTested s also due b = ((allStored b 0 160 && allStored b 704 5) && tagsRight (s .rows) (s .core) also b) && bufferRight (s .columns) due b
 
 -- ---- the fields after the channel's
 

@@ -11,11 +11,11 @@ use Rattle.state_bytes.proofs.tested.tags_right.Statement.{statement}
 use Rattle.state_bytes.proofs.tested.tags_right.Tie as tie
 
 abbrev Inv-loop : tie.InvT-loop
-Inv-loop s also b most right₀ x₀ right x =
-    (x ≤ 32) × (right ≡ allUpTo (λ k. tagRight s most also k (number (part b (638 + 2 * k) 2)) (number (part b (640 + 2 * k) 2))) x)
+Inv-loop rows core also b most right₀ x₀ right x =
+    (x ≤ 32) × (right ≡ allUpTo (λ k. tagRight core most also k (number (part b (638 + 2 * k) 2)) (number (part b (640 + 2 * k) 2))) x)
 
 abbrev μ-loop : tie.MeasureT-loop
-μ-loop s also b most right₀ x₀ right x = 32 - x
+μ-loop rows core also b most right₀ x₀ right x = 32 - x
 
 loop-holds : tie.Need-loop-holds Inv-loop μ-loop
 unfolding allUpTo
