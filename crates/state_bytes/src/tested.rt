@@ -51,14 +51,6 @@ fn instants_right(b: &[u8]) -> bool
     all_stored(b, 0, 160) & all_stored(b, 704, 5)
 }
 
-// A bank's tag.
-fn tag_at(b: &[u8], at: usize) -> u16
-    requires { ⌜ at + 2 ≤ length (now b) ⌝ }
-    ensures { λ r. ⌜ r ≡ number (part (now (b .entry)) at 2) ⌝ }
-{
-    (b[at] as u16) + 256 * (b[at + 1] as u16)
-}
-
 // The highest tag of an open bank.
 fn most_tag(rows: u32) -> u16
     ensures { λ r. ⌜ r ≡ mostTag rows ⌝ }
@@ -83,8 +75,8 @@ pub(crate) fn tags_right(rows: u32, core: u32, also: u16, b: &[u8]) -> bool
     let mut x: u32 = 0;
     while x < 32 {
         let i = x as usize;
-        let below = tag_at(b, 638 + 2 * i);
-        let tag = tag_at(b, 640 + 2 * i);
+        let below = num::half_at(b, 638 + 2 * i);
+        let tag = num::half_at(b, 640 + 2 * i);
         right = right & tag_right(core, most, also, x, below, tag);
         x += 1;
     }

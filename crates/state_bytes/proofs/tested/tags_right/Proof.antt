@@ -22,7 +22,7 @@ unfolding allUpTo
 loop-holds c = (omega arith, refl)
 
 loop-again : tie.Need-loop-again Inv-loop μ-loop
-loop-again c = (search needs, rw (c .tag-right .ensures, c .before .tag-at2 .ensures, c .before .before .tag-at .ensures, c .before .before .before .before .loop .inv .1) (sym (all-next _ _)))
+loop-again c = (search needs, rw (c .tag-right .ensures, c .before .half-at2 .ensures, c .before .before .half-at .ensures, c .before .before .before .before .loop .inv .1) (sym (all-next _ _)))
 
 returns : tie.Need-returns Inv-loop μ-loop
 returns c =

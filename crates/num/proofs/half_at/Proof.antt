@@ -1,10 +1,10 @@
--- `state_bytes::tested::tag_at` meets its contract: a number of two bytes is its first and its second.
+-- `num::half_at` meets its contract: a number of two bytes is its first and its second.
 use Prim.Native.Nat.{_+_}
 use native.Mathlib.Omega.{arith}
 use Rattle.num.proofs.ByteLaws.{number-part, number-one}
 use borrow.Author.Needs.{needs}
-use Rattle.state_bytes.proofs.tested.tag_at.Statement.{statement}
-use Rattle.state_bytes.proofs.tested.tag_at.Tie as tie
+use Rattle.num.proofs.half_at.Statement.{statement}
+use Rattle.num.proofs.half_at.Tie as tie
 
 cast-result : tie.Need-cast-result
 cast-result c = omega (arith, c .shared-slice-known .given (c .before .args .at))
@@ -25,5 +25,5 @@ returns c =
     let a = c .before .before .args in
     omega (arith, number-part (a .b .now) (a .at) 1 1 (omega arith), number-one (a .b .now) (a .at) (omega arith), number-one (a .b .now) (a .at + 1) (omega arith))
 
-pub tag-at-spec : {M : Type 1} → statement M
-tag-at-spec = tie.close (tie.spec (λ c. search needs) cast-result (λ c. search needs) (λ c. search needs) cast-result-2 mul-result add-result-2 returns)
+pub half-at-spec : {M : Type 1} → statement M
+half-at-spec = tie.close (tie.spec (λ c. search needs) cast-result (λ c. search needs) (λ c. search needs) cast-result-2 mul-result add-result-2 returns)
