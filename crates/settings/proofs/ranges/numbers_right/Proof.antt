@@ -1,14 +1,13 @@
 -- `settings::ranges::numbers_right` meets its contract: right says whether each number passed so far is in its range; the last one is, as
 -- every number of two bytes.
 use mathlib.Core.Path.{_≡_, refl, sym, _∙_}
-use mathlib.Core.Bool.{true, and-true}
-use Prim.Native.Nat.{ℕ, _-_, _≤_}
+use Prim.Native.Nat.{_-_, _≤_}
 use native.Mathlib.Omega.{arith}
 use borrow.Author.Tests.{eq-eqb, ne-eqb}
 use Rattle.num.specs.Search.{allUpTo}
 use Rattle.num.proofs.SearchLaws.{all-next}
 use Rattle.settings.specs.Settings.{lows, highs, half}
-use Rattle.settings.specs.form.Numbers.{leasts, mosts, numberRight, numbersRight}
+use Rattle.settings.specs.form.Numbers.{leasts, mosts, numbersRight}
 use Rattle.settings.proofs.NumberLaws.{last-right}
 use borrow.Author.Needs.{needs}
 use Rattle.settings.proofs.ranges.numbers_right.Statement.{statement}
