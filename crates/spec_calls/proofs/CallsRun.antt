@@ -1,13 +1,13 @@
--- Demand 3 of the C calls (document 01, "Flat memory and whole runs"): every list of rdram_plan calls from a fresh planner makes a
--- list that rdram_check passes and that rdram_model_step takes from a fresh model, with flat memory's answers in order, and after
--- an accepted flush with flat memory as store; the numbers of bytes written sum to the ones in the masks.
+-- Demand 3 of the C calls (document 01, "Flat memory and whole runs"): every list of calls of rdram_plan and rdram_plan_all from a fresh
+-- planner makes a list that rdram_check passes and that rdram_model_step takes from a fresh model, with flat memory's answers in order,
+-- and after an accepted flush with flat memory as store; the numbers of bytes written sum to the ones in the masks.
 -- Assumes nothing.
 use Prim.Native.Nat.{ℕ, _+_, _-_, _/_, _<_, _≤_}
 use mathlib.Core.Path.{_≡_, refl, sym, ap, _∙_}
 use mathlib.Core.Bool.{true, cond}
 use lib.Dec.{leb}
 use mathlib.Core.List.{List, [], _∷_, _++_}
-use lib.ListN.{length, take, drop, length-drop}
+use lib.ListN.{length, take, drop, length-append, length-drop}
 use native.Mathlib.Omega.{arith}
 use Rattle.num.specs.Bytes.{Bytes}
 use Rattle.settings.specs.declared.Settings.{Settings}
@@ -15,22 +15,25 @@ use Rattle.settings.specs.declared.SettingsRead.the-variants.{Accepted}
 use Rattle.settings.specs.Settings.{settingsRead, valid}
 use Rattle.settings.proofs.SettingsLaws.{accepted-valid}
 use Rattle.record.specs.declared.Record.{Record}
+use Rattle.record.specs.Request.{requestRead}
 use Rattle.spec_rules.specs.Neighbour.{Context, contextOf}
 use Rattle.spec_rules.proofs.NeighbourLaws.{core-neighbours}
+use Rattle.spec_plan.specs.declared.PlannerState.{PlannerState}
 use Rattle.spec_plan.specs.Planner.{freshPlanner}
-use Rattle.spec_plan.specs.Call.{listBytes}
-use Rattle.spec_plan.specs.Runs.{OfBytes, listed}
+use Rattle.spec_plan.specs.Call.{listBytes, accepted, planNext}
+use Rattle.spec_plan.specs.Runs.{Call, OfBytes, plannerAfter, listed}
 use Rattle.spec_model.specs.Store.{storeLength}
 use Rattle.spec_model.specs.Model.{freshModel}
 use Rattle.spec_model.proofs.NextValid.{fresh-model-valid}
 use Rattle.spec_runs.specs.Drive.{Drive, started, called, driven, wideCalls}
-use Rattle.spec_runs.specs.WholeRun.{EndsInFlush, WholeRun}
+use Rattle.spec_runs.specs.Flat.{Fed}
+use Rattle.spec_runs.specs.WholeRun.{fed, EndsInFlush, WholeRun}
 use Rattle.spec_runs.proofs.DriveLaws.{Ready, driven-within, driven-none-left}
 use Rattle.spec_runs.proofs.Demand.{run-fits, run-data, run-ready, whole-run-core}
 use Rattle.spec_check.specs.Check.{recordsUpTo}
-use Rattle.spec_calls.specs.Runs.{PlanCall, Device, freshBench, benchAfter, freshDevice, deviceNext, deviceAfter, wideBuffers, BytesIn, FlushesLast, CallsRun}
+use Rattle.spec_calls.specs.Runs.{PlanCall, Device, freshBench, benchAfter, benchFed, freshDevice, deviceNext, deviceAfter, wideBuffers, BytesIn, FlushesLast, CallsRun}
 use Rattle.spec_calls.proofs.ListOf.{length-list, list-count, records-up-to, list-checked}
-use Rattle.spec_calls.proofs.BenchRun.{callOf, callsOf, calls-bytes, calls-append, bench-list, bench-fed, answers-accepted}
+use Rattle.spec_calls.proofs.BenchRun.{callsOf, calls-bytes, bench-list, bench-fed}
 use Rattle.spec_calls.proofs.DeviceRun.{lengths, like, Stands, device-is}
 
 -- the rooms by their lengths
@@ -38,12 +41,6 @@ wide-lengths : (rooms : List (List ℕ)) → wideCalls (lengths rooms) ≡ wideB
 unfolding lengths wideCalls wideBuffers
 wide-lengths [] = refl
 wide-lengths (room ∷ rooms) = ap (λ (n : ℕ). cond (leb 16 (length room)) 1 0 + n) (wide-lengths rooms)
-
--- the first of calls of bytes
-bytes-first : (calls rest : List PlanCall) → BytesIn (calls ++ rest) → BytesIn calls
-unfolding BytesIn
-bytes-first [] rest b = tt
-bytes-first (c ∷ calls) rest b = (b .0, bytes-first calls rest (b .1))
 
 -- one call more
 device-more : (settings list : List ℕ) (rooms : List (List ℕ)) (room : List ℕ) (x : Device)
@@ -58,14 +55,45 @@ unfolding lengths driven
 driven-more cx [] room x = refl
 driven-more cx (first ∷ rooms) room x = driven-more cx rooms room (called cx (length first) x (x .pending))
 
+-- ---- the last request that flat memory is fed
+
+-- the last of calls on states, by the last of what they feed
+record LastCall (cx : Context) (p : PlannerState) (calls : List Call) (last : Fed) : Type 0 where
+  first : List Call
+  call : Call
+  ends : calls ≡ first ++ (call ∷ [])
+  request : last .request ≡ call .request
+  taken : last .accepted ≡ accepted cx (plannerAfter cx p first) (call .request) (call .room)
+
+nothing-fed : (cx : Context) (p : PlannerState) (calls : List Call) → fed cx p calls ≡ [] → calls ≡ []
+unfolding fed
+nothing-fed cx p [] e = refl
+nothing-fed cx p (c ∷ l) e = absurd (omega (arith, ap length e))
+
+one-before : (cx : Context) (p : PlannerState) (c : Call) (calls : List Call) (last : Fed) → LastCall cx (planNext cx p (c .request) (c .room)) calls last → LastCall cx p (c ∷ calls) last
+unfolding plannerAfter
+one-before cx p c calls last z = record { first = c ∷ z .first; call = z .call; ends = rw (z .ends); request = z .request; taken = z .taken }
+
+last-call : (cx : Context) (p : PlannerState) (calls : List Call) (before : List Fed) (last : Fed) → fed cx p calls ≡ before ++ (last ∷ []) → LastCall cx p calls last
+unfolding fed plannerAfter
+last-call cx p [] before last e = absurd (omega (arith, ap length e, length-append before (last ∷ [])))
+last-call cx p (c ∷ l) [] last e =
+    let none : l ≡ [] = nothing-fed cx (planNext cx p (c .request) (c .room)) l cc in
+    let same : last ≡ record { request = c .request; accepted = accepted cx p (c .request) (c .room) } = cc in
+    record { first = []; call = c; ends = rw none; request = rw same; taken = rw same }
+last-call cx p (c ∷ l) (f ∷ before) last e = one-before cx p c l last (last-call cx (planNext cx p (c .request) (c .room)) l before last cc)
+
 module _ (settings : List ℕ) (s : Settings) (a : settingsRead settings ≡ Accepted s) (calls : List PlanCall) (b : BytesIn calls)
     (store : List ℕ) (stored : length store ≡ storeLength (contextOf s)) (w : Bytes store) where
   v : valid s ≡ true
   v = accepted-valid settings s a
 
-  -- the records of the calls, and the model calls on them
+  -- the calls on states, their records, and the model calls on them
+  abbrev asked : List Call
+  asked = callsOf settings s calls freshBench
+
   abbrev l : List Record
-  l = listed (contextOf s) freshPlanner (callsOf calls)
+  l = listed (contextOf s) freshPlanner asked
 
   abbrev end : List (List ℕ) → Drive
   end rooms = driven (contextOf s) (lengths rooms) (started store l)
@@ -76,8 +104,8 @@ module _ (settings : List ℕ) (s : Settings) (a : settingsRead settings ≡ Acc
   abbrev device : List (List ℕ) → Device
   device rooms = deviceAfter settings list rooms (freshDevice store)
 
-  of-bytes : OfBytes (callsOf calls)
-  of-bytes = calls-bytes calls b
+  of-bytes : OfBytes asked
+  of-bytes = calls-bytes settings s calls b freshBench
 
   list-is : list ≡ listBytes s l
   list-is = bench-list settings s a calls b
@@ -87,7 +115,7 @@ module _ (settings : List ℕ) (s : Settings) (a : settingsRead settings ≡ Acc
 
   ready : Ready (contextOf s) freshModel store l
   unfolding contextOf
-  ready = run-ready (contextOf s) v (core-neighbours s) (callsOf calls) of-bytes store stored
+  ready = run-ready (contextOf s) v (core-neighbours s) asked of-bytes store stored
 
   stands : Stands s (listBytes s l) (length l) freshModel store l
   unfolding freshModel contextOf
@@ -99,8 +127,8 @@ module _ (settings : List ℕ) (s : Settings) (a : settingsRead settings ≡ Acc
         within = omega arith;
         model-valid = fresh-model-valid (contextOf s) v;
         data-held = ((omega arith, omega arith), (omega arith, omega arith));
-        fits = run-fits (contextOf s) v (core-neighbours s) (callsOf calls) of-bytes;
-        data-in = run-data (contextOf s) v (core-neighbours s) (callsOf calls) of-bytes;
+        fits = run-fits (contextOf s) v (core-neighbours s) asked of-bytes;
+        data-in = run-data (contextOf s) v (core-neighbours s) asked of-bytes;
         ready = ready;
       }
 
@@ -123,21 +151,15 @@ module _ (settings : List ℕ) (s : Settings) (a : settingsRead settings ≡ Acc
       let next : length l - length (end rooms .pending) ≡ length l = sym (ap (λ (x : Device). x .next) (device-end rooms)) ∙ e ∙ count in
       driven-none-left (contextOf s) (lengths rooms) freshModel store l ready (omega (arith, within rooms, next))
 
-  flushes : FlushesLast settings s calls → EndsInFlush (contextOf s) (callsOf calls)
-  unfolding callsOf contextOf
+  flushes : FlushesLast s (benchFed settings calls freshBench) → EndsInFlush (contextOf s) asked
+  unfolding contextOf
   flushes d =
-      let first-bytes : BytesIn (d .first) = bytes-first (d .first) (d .last ∷ []) (rw (d .ends) at b) in
-      record {
-        first = callsOf (d .first);
-        last = callOf (d .last);
-        ends = ap callsOf (d .ends) ∙ calls-append (d .first) (d .last ∷ []);
-        flush = d .flush;
-        taken = answers-accepted settings s a (d .first) first-bytes (d .last .request) (d .last .room) (d .taken);
-      }
+      let z = last-call (contextOf s) freshPlanner asked (d .first) (d .last) (sym (bench-fed settings s a calls b) ∙ d .ends) in
+      record { first = z .first; last = z .call; ends = z .ends; flush = ap (requestRead s) (sym (z .request)) ∙ d .flush; taken = sym (z .taken) ∙ d .taken }
 
   module _ (rooms : List (List ℕ)) where
-    whole : WholeRun (contextOf s) (callsOf calls) store (lengths rooms)
-    whole = whole-run-core s v (callsOf calls) of-bytes store stored w (lengths rooms)
+    whole : WholeRun (contextOf s) asked store (lengths rooms)
+    whole = whole-run-core s v asked of-bytes store stored w (lengths rooms)
 
     done-is : recordsUpTo s list (device rooms .next) ≡ take (length l - length (end rooms .pending)) l
     done-is = rw (device-end rooms, list-is) (records-up-to s l (ready .coded) (length l - length (end rooms .pending)) (omega arith))

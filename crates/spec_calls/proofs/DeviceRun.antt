@@ -56,7 +56,7 @@ use Rattle.spec_calls.specs.Settings.{underSettings}
 use Rattle.spec_calls.specs.Models.{steppedAnswer, StepResult, stepBy, stepUnder, stepCall}
 use Rattle.spec_calls.specs.Runs.{Device, deviceBy, deviceNext, deviceAfter}
 use Rattle.spec_calls.proofs.ListOf.{list-next}
-use Rattle.spec_calls.proofs.BenchRun.{refusal-number}
+use Rattle.spec_calls.proofs.OneCall.{refusal-number}
 
 -- ---- a model call's answer in numbers
 

@@ -39,7 +39,7 @@ use Rattle.spec_calls.specs.declared.StepAnswer.{StepAnswer}
 use Rattle.spec_calls.specs.Settings.{underSettings}
 use Rattle.spec_calls.specs.Models.{steppedAnswer, stepCall}
 use Rattle.spec_calls.specs.Judges.{modelLeft, recordsAccepted, GivenBytes}
-use Rattle.spec_calls.proofs.BenchRun.{refusal-number}
+use Rattle.spec_calls.proofs.OneCall.{refusal-number}
 use Rattle.spec_calls.proofs.DeviceRun.{step-answer, step-model, bytes-held}
 
 -- ---- the answer in numbers

@@ -1,5 +1,9 @@
 pub mod ListOf
+pub mod OneCall
+pub mod PlanAllLaws
+pub mod AllCall
 pub mod BenchRun
+pub mod AllInTurn
 pub mod DeviceRun
 pub mod CallsRun
 pub mod Refused

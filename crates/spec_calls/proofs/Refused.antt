@@ -36,6 +36,7 @@ use Rattle.spec_calls.specs.Plans.{FreshResult, freshInto, plannerFresh,
 use Rattle.spec_calls.specs.Models.{modelFresh, steppedAnswer, stepRefused, stepBy, stepUnder, stepCall}
 use Rattle.spec_calls.specs.Logs.{copyAnswer, CopyResult, copyBy, copyCall, logEncodeCall, logDecodeCall}
 use Rattle.spec_calls.specs.Refused.{PlanKept, StepKept, RefusedCalls}
+use Rattle.spec_calls.proofs.AllInTurn.{all-in-turn}
 
 -- what holds of both results of a test
 either : {R : Type 0} (P : R → Type 0) (t : Bool) {x y : R} → P x → P y → P (cond t x y)
@@ -101,6 +102,7 @@ refused-changes-nothing =
     record {
       planner-fresh = fresh-kept _ _;
       plan = plan-kept;
+      plan-all = λ settings planner requests room v w o. let z = all-in-turn settings planner requests room v w .refused o in (z .2, z .3);
       model-fresh = fresh-kept _ _;
       model-step = step-kept;
       log-encode = λ settings list log. copy-kept _ log _ settings;

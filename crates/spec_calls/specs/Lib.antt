@@ -1,9 +1,11 @@
 pub mod Settings
 pub mod Plans
+pub mod PlanAll
 pub mod Models
 pub mod Checks
 pub mod Logs
 pub mod Refused
 pub mod Judges
 pub mod Runs
+pub mod AllInTurn
 pub mod RoundTrip

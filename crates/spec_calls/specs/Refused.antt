@@ -5,10 +5,12 @@
 use Prim.Native.Nat.{ℕ}
 use mathlib.Core.Path.{_≡_}
 use mathlib.Core.List.{List}
-use mathlib.Core.Logic.{_≢_}
+use mathlib.Core.Logic.{_≢_, _⊎_}
+use Rattle.num.specs.Bytes.{Bytes}
 use Rattle.meter.specs.declared.Meter.{Meter}
 use Rattle.meter.specs.Calls.{fedAnswered}
 use Rattle.spec_calls.specs.Plans.{PlanResult, plannerFresh, planCall}
+use Rattle.spec_calls.specs.PlanAll.{planAllCall}
 use Rattle.spec_calls.specs.Models.{StepResult, modelFresh, stepCall}
 use Rattle.spec_calls.specs.Logs.{logEncodeCall, logDecodeCall}
 
@@ -25,6 +27,10 @@ pub record RefusedCalls : Type 0 where
   pub planner-fresh : (planner : List ℕ) → plannerFresh planner .number ≢ 0 → plannerFresh planner .state ≡ planner
   -- rdram_plan
   pub plan : (settings planner request room : List ℕ) → PlanKept planner room (planCall settings planner request room)
+  -- rdram_plan_all: 1 and 13 refuse the call. Another number "refuses the request and is not a refused call"
+  pub plan-all : (settings planner requests room : List ℕ) → Bytes planner → Bytes requests
+      → (planAllCall settings planner requests room .answer .number ≡ 1) ⊎ (planAllCall settings planner requests room .answer .number ≡ 13)
+      → (planAllCall settings planner requests room .planner ≡ planner) × (planAllCall settings planner requests room .room ≡ room)
   -- rdram_model_fresh
   pub model-fresh : (model : List ℕ) → modelFresh model .number ≢ 0 → modelFresh model .state ≡ model
   -- rdram_model_step

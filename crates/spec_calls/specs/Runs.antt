@@ -1,8 +1,8 @@
 -- Whole runs as a C caller drives them (document 01, "Flat memory and whole runs"): state bytes, record bytes, answers in numbers.
 -- Assumes nothing.
-use Prim.Native.Nat.{ℕ, _+_, _*_, _/_, _<_, _≤_}
+use Prim.Native.Nat.{ℕ, zero, suc, _+_, _*_, _/_, _<_, _≤_}
 use mathlib.Core.Path.{_≡_}
-use mathlib.Core.Bool.{Bool, false, not, _||_, cond}
+use mathlib.Core.Bool.{Bool, true, false, not, _||_, cond}
 use mathlib.Core.List.{List, [], _∷_, _++_}
 use lib.Dec.{eqb, leb, ltb}
 use lib.ListN.{length, take}
@@ -23,14 +23,16 @@ use Rattle.spec_runs.specs.Drive.{readsIn}
 use Rattle.spec_check.specs.Check.{recordsUpTo}
 use Rattle.spec_calls.specs.Checks.{checkCall}
 use Rattle.spec_calls.specs.Plans.{PlanResult, planCall}
+use Rattle.spec_calls.specs.PlanAll.{PlanAllResult, requestAt, planAllCall}
 use Rattle.spec_calls.specs.Models.{StepResult, stepCall}
 
 -- ---- plan calls
 
--- one call of rdram_plan: the bytes of its request, and a lent room of any bytes
-pub record PlanCall : Type 0 where
-  pub request : List ℕ
-  pub room : List ℕ
+-- one call of the planner, with a lent room of any bytes: of rdram_plan with the bytes of a request, or of rdram_plan_all with those
+-- of many
+pub data PlanCall : Type 0 where
+  One : (request room : List ℕ) → PlanCall
+  Many : (requests room : List ℕ) → PlanCall
 
 -- the planner's bytes, and the packet list so far
 pub record Bench : Type 0 where
@@ -42,20 +44,36 @@ unfoldable pub freshBench : Bench
 freshBench = record { planner = plannerBytes freshPlanner; list = [] }
 
 -- the caller adds the records of the call to its list: "each plan call gets the planner and the packet list that the last one left"
+abbrev pub benchBy : Bench → List ℕ → ℕ → List ℕ → Bench
+benchBy x planner records room = record { planner = planner; list = x .list ++ take (32 * records) room }
+
 unfoldable pub benchNext : List ℕ → PlanCall → Bench → Bench
-benchNext settings c x =
-    let made : PlanResult = planCall settings (x .planner) (c .request) (c .room) in
-    record { planner = made .planner; list = x .list ++ take (32 * made .answer .records) (made .room) }
+benchNext settings (One request room) x =
+    let made : PlanResult = planCall settings (x .planner) request room in
+    benchBy x (made .planner) (made .answer .records) (made .room)
+benchNext settings (Many requests room) x =
+    let made : PlanAllResult = planAllCall settings (x .planner) requests room in
+    benchBy x (made .planner) (made .answer .records) (made .room)
 
 unfoldable pub benchAfter : List ℕ → List PlanCall → Bench → Bench
 benchAfter settings [] x = x
 benchAfter settings (c ∷ l) x = benchAfter settings l (benchNext settings c x)
 
--- what flat memory is fed: "each request, and whether the answer was a refusal"
+-- the first n of many requests, as accepted ones
+unfoldable pub requestsFed : List ℕ → ℕ → List Fed
+requestsFed requests zero = []
+requestsFed requests (suc n) = requestsFed requests n ++ (record { request = requestAt requests n; accepted = true } ∷ [])
+
+-- what flat memory is fed: "each request, and whether the answer was a refusal". Of many these are the ones before the place that the
+-- call answers: the request there is refused, and those after it are not asked, so that flat memory takes notice of none of them
+unfoldable pub callFed : List ℕ → PlanCall → Bench → List Fed
+callFed settings (One request room) x =
+    record { request = request; accepted = eqb (planCall settings (x .planner) request room .answer .number) 0 } ∷ []
+callFed settings (Many requests room) x = requestsFed requests (planAllCall settings (x .planner) requests room .answer .place)
+
 unfoldable pub benchFed : List ℕ → List PlanCall → Bench → List Fed
 benchFed settings [] x = []
-benchFed settings (c ∷ l) x =
-    record { request = c .request; accepted = eqb (planCall settings (x .planner) (c .request) (c .room) .answer .number) 0 } ∷ benchFed settings l (benchNext settings c x)
+benchFed settings (c ∷ l) x = callFed settings c x ++ benchFed settings l (benchNext settings c x)
 
 -- ---- model calls
 
@@ -103,21 +121,25 @@ wideBuffers (room ∷ rooms) = cond (leb 16 (length room)) 1 0 + wideBuffers roo
 -- ---- the claim
 
 -- every request is of bytes
+abbrev pub BytesOf : PlanCall → Type 0
+BytesOf (One request room) = Bytes request
+BytesOf (Many requests room) = Bytes requests
+
 unfoldable pub BytesIn : List PlanCall → Type 0
 BytesIn [] = Unit {0}
-BytesIn (c ∷ l) = Bytes (c .request) × BytesIn l
+BytesIn (c ∷ l) = BytesOf c × BytesIn l
 
--- "any accepted flush" as the last call
-pub record FlushesLast (settings : List ℕ) (s : Settings) (calls : List PlanCall) : Type 0 where
-  pub first : List PlanCall
-  pub last : PlanCall
-  pub ends : calls ≡ first ++ (last ∷ [])
+-- "any accepted flush" as the last request that flat memory is fed
+pub record FlushesLast (s : Settings) (requests : List Fed) : Type 0 where
+  pub first : List Fed
+  pub last : Fed
+  pub ends : requests ≡ first ++ (last ∷ [])
   pub flush : requestRead s (last .request) ≡ Accepted Flush
-  pub taken : planCall settings (benchAfter settings first freshBench .planner) (last .request) (last .room) .answer .number ≡ 0
+  pub taken : last .accepted ≡ true
 
 -- demand 3 of the C calls: of settings bytes that say s, plan calls, the bytes of a store, and the answer buffers of the model calls
 module _ (settings : List ℕ) (s : Settings) (calls : List PlanCall) (store : List ℕ) (rooms : List (List ℕ)) where
-  -- the packet list that the rdram_plan calls leave, and the number of its records
+  -- the packet list that the plan calls leave, and the number of its records
   abbrev pub packetBytes : List ℕ
   packetBytes = benchAfter settings calls freshBench .list
 
@@ -150,8 +172,8 @@ module _ (settings : List ℕ) (s : Settings) (calls : List PlanCall) (store : L
     -- and all of them where every record is taken
     pub reads : deviceAtEnd .next ≡ records → deviceAtEnd .answers ≡ flatAnswers (contextOf s) callsFed store
     -- "The store must equal flat memory after any accepted flush."
-    pub flat-after-flush : deviceAtEnd .next ≡ records → FlushesLast settings s calls → deviceAtEnd .store ≡ flatAfter (contextOf s) callsFed store
+    pub flat-after-flush : deviceAtEnd .next ≡ records → FlushesLast s callsFed → deviceAtEnd .store ≡ flatAfter (contextOf s) callsFed store
     -- "the number of bytes a retire wrote [..]; their sum over a run is the ones in all retired masks", of the records taken
     pub counted : deviceAtEnd .written ≡ onesOf (retiredMasks (contextOf s) takenRecords)
     -- and after an accepted flush the ones in the masks of all accepted writes
-    pub count-after-flush : deviceAtEnd .next ≡ records → FlushesLast settings s calls → deviceAtEnd .written ≡ onesOf (flatMasks (contextOf s) callsFed)
+    pub count-after-flush : deviceAtEnd .next ≡ records → FlushesLast s callsFed → deviceAtEnd .written ≡ onesOf (flatMasks (contextOf s) callsFed)

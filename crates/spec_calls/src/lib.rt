@@ -9,6 +9,15 @@ pub struct PlanAnswer {
     pub records: u64,
 }
 
+// What a call with many requests answers: number is 0, or that of the refusal; place is how many requests were planned, which is the
+// position from 0 of the refused one, and records what they made.
+#[repr(C)]
+pub struct PlanAllAnswer {
+    pub number: u32,
+    pub place: u64,
+    pub records: u64,
+}
+
 // What a model call answers: number is 0, or the refusal's with its rule; event is 0 where nothing was read or retired, 1
 // where the dualoct is in the answer buffer, 2 where a write was retired, and bytes is how many bytes that wrote.
 #[repr(C)]
