@@ -4,9 +4,9 @@ use Prim.Native.Nat.{ℕ, zero, suc, _+_, _*_, _/_, _≤_, _<_}
 use mathlib.Core.Path.{_≡_, refl, sym, ap, _∙_}
 use mathlib.Core.Bool.{Bool, true, false, _&&_}
 use mathlib.Core.List.{List}
-use lib.Dec.{eqb, leb}
+use lib.Dec.{leb}
 use lib.ListN.{length}
-use borrow.Author.Tests.{eqb-true, le-leb, lt-leb}
+use borrow.Author.Tests.{le-leb, lt-leb}
 use native.Mathlib.Omega.{arith}
 use Rattle.num.specs.Bytes.{number, part, splice}
 use Rattle.num.proofs.SearchLaws.{all-intro}
@@ -18,12 +18,9 @@ use Rattle.record.specs.declared.Refusal.the-variants as refusal
 use Rattle.record.specs.declared.RequestRead.the-variants.{Refused as RefusedRequest, Accepted}
 use Rattle.record.specs.Request.{requestRead}
 use Rattle.spec_rules.specs.Neighbour.{contextOf}
-use Rattle.spec_rules.proofs.Bools.{and-left, and-right}
-use Rattle.spec_state.specs.ChannelBytes.{zeroPart, channelSpare}
 use Rattle.spec_plan.specs.declared.Outcome.{Outcome}
 use Rattle.spec_plan.specs.declared.Outcome.the-variants.{Refused, Made}
-use Rattle.spec_plan.specs.Planner.{plannerValid}
-use Rattle.spec_plan.specs.PlannerBytes.{plannerLength, plannerBytes, plannerIn, plannerRight}
+use Rattle.spec_plan.specs.PlannerBytes.{plannerBytes, plannerIn, plannerRight}
 use Rattle.spec_plan.specs.Plan.{Draft, planned}
 use Rattle.spec_plan.specs.Call.{listBytes, timely, outcomeOf, unretired, outcomeBy, planOutcome, isMade, draftBy, planNext, planRecords, planRoom}
 use Rattle.spec_plan.specs.Looked.{looked, lookedBy}
@@ -36,6 +33,7 @@ use Rattle.state_bytes.specs.form.Stored.{latest}
 use Rattle.state_bytes.specs.form.Tested.{allStored}
 use Rattle.spec_calls.specs.declared.PlanAnswer.{PlanAnswer}
 use Rattle.spec_calls.proofs.ListOf.{length-list}
+use Rattle.spec_calls.proofs.OneCall.{right-length, right-valid}
 use Rattle.spec_calls.specs.Plans.{planAnswer, PlanResult, planBy, planUnder}
 use Rattle.calls_plan.specs.form.Served.{servedBy, served}
 
@@ -69,15 +67,6 @@ calm-stored b h = rw (all-intro (test 0) 160 banks, all-intro (test 704) 5 lasts
     lasts (suc (suc (suc (suc (suc k))))) l = absurd (omega arith)
 
 module _ (s : Settings) (planner : List ℕ) where
-  pub right-length : plannerRight (contextOf s) planner ≡ true → length planner ≡ 768
-  unfolding plannerRight plannerLength
-  right-length h = eqb-true (length planner) 768 (and-left (eqb (length planner) 768) _ h)
-
-  pub right-valid : plannerRight (contextOf s) planner ≡ true → plannerValid (contextOf s) (plannerIn planner) ≡ true
-  unfolding plannerRight
-  right-valid h =
-      and-right (channelSpare planner && (zeroPart planner 758 2 && zeroPart planner 764 4)) _ (and-right (eqb (length planner) plannerLength) _ h)
-
   module _ (request room : List ℕ) where
     pub turned-back : plannerRight (contextOf s) planner ≡ false → (r : PlanAnswer) → r ≡ planAnswer 0 (Refused refusal.Settings)
         → Leaves (planUnder planner request room s) r planner room
@@ -124,7 +113,7 @@ module _ (s : Settings) (planner : List ℕ) where
 
     -- no request makes more than 32 records
     pub enough : (list : List ℕ) → 1024 ≤ length list → 32 * length (planned (contextOf s) q (plannerIn planner) .records) ≤ length list
-    enough list l = omega (arith, most-any s (plannerIn planner) (right-valid h) q u)
+    enough list l = omega (arith, most-any s (plannerIn planner) (right-valid (contextOf s) planner h) q u)
 
     pub full : timely (contextOf s) (planned (contextOf s) q (plannerIn planner)) ≡ true → length room / 32 < length (planned (contextOf s) q (plannerIn planner) .records)
         → (r : PlanAnswer) → r ≡ planAnswer 0 (Refused refusal.Full) → Leaves (served (contextOf s) planner (Accepted q) room) r planner room
@@ -135,7 +124,7 @@ module _ (s : Settings) (planner : List ℕ) where
     -- is copied back
     module _ (state list : List ℕ) (e : length state ≡ 768) (m : 1024 ≤ length list) (copy : List ℕ) (ec : copy ≡ splice state 0 planner) where
       copied : copy ≡ planner
-      copied = ec ∙ splice-whole state planner (right-length h ∙ sym e)
+      copied = ec ∙ splice-whole state planner (right-length (contextOf s) planner h ∙ sym e)
 
       pub copy-right : plannerRight (contextOf s) copy ≡ true
       copy-right = rw copied h
@@ -165,10 +154,10 @@ module _ (s : Settings) (planner : List ℕ) where
         made-room = let l = enough list m in let k = bytes-are in omega (arith, count-is, ap length made-is, length-splice list 0 (listBytes s (d .records)) (omega (arith, count-is)))
 
         next-whole : splice planner 0 next ≡ next
-        next-whole = splice-whole planner next (ap length next-is ∙ planner-length (d .planner) ∙ sym (right-length h))
+        next-whole = splice-whole planner next (ap length next-is ∙ planner-length (d .planner) ∙ sym (right-length (contextOf s) planner h))
 
         pub next-room : 0 + length next ≤ length planner
-        next-room = omega (arith, ap length next-is, planner-length (d .planner), right-length h)
+        next-room = omega (arith, ap length next-is, planner-length (d .planner), right-length (contextOf s) planner h)
 
         pub tried-full : timely (contextOf s) d ≡ true → length room / 32 < n → (r : PlanAnswer) → r ≡ planAnswer 0 (Refused refusal.Full)
             → Leaves (served (contextOf s) planner (Accepted q) room) r planner room

@@ -22,10 +22,11 @@ use Rattle.spec_rules.proofs.Bools.{not-both}
 use Rattle.spec_rules.proofs.NeighbourLaws.{core-neighbours}
 use Rattle.spec_plan.specs.declared.PlannerState.{PlannerState}
 use Rattle.spec_plan.specs.Planner.{plannerValid}
-use Rattle.spec_plan.specs.PlannerBytes.{plannerBytes}
+use Rattle.spec_plan.specs.PlannerBytes.{plannerBytes, plannerRight}
 use Rattle.spec_plan.specs.Call.{listBytes, accepted, planNext, planRecords, planRoom}
 use Rattle.spec_plan.specs.Runs.{Call, OfBytes, plannerAfter, listed}
 use Rattle.spec_plan.proofs.Valid.{next-valid}
+use Rattle.spec_plan.proofs.PlannerRoundTrip.{planner-right}
 use Rattle.spec_plan.proofs.Refused.{refused-state, refused-records}
 use Rattle.spec_runs.specs.WholeRun.{fed}
 use Rattle.spec_calls.specs.Plans.{PlanResult, planUnder}
@@ -92,6 +93,14 @@ module _ (s : Settings) (v : valid s ≡ true) (p : PlannerState) (room : List �
 
   pub size-is : length (x .room) ≡ length room
   size-is = ap length (k .room-is) ∙ length-splice room 0 (listBytes s l) (omega (arith, length-list s l, k .fits))
+
+  pub records-within : 32 * x .answer .records ≤ length room
+  records-within = omega (arith, k .records-are, k .fits)
+
+  -- the planner is not refused
+  pub still-right : plannerRight (contextOf s) (x .planner) ≡ true
+  unfolding contextOf
+  still-right = rw (k .planner-is) (planner-right (contextOf s) v (plannerAfter (contextOf s) p calls) (k .planner-valid))
 
   -- one call more
   module _ (requests : List ℕ) (b : Bytes requests) (within : 24 * x .answer .place + 24 ≤ length requests) where

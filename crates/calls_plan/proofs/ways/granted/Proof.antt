@@ -1,6 +1,8 @@
 -- `calls_plan::ways::granted` meets its contract: refusal 15, or served.
 use mathlib.Core.Path.{sym, _∙_}
-use Rattle.calls_plan.proofs.CallLaws.{right-length, not-retired}
+use Rattle.spec_rules.specs.Neighbour.{contextOf}
+use Rattle.spec_calls.proofs.OneCall.{right-length}
+use Rattle.calls_plan.proofs.CallLaws.{not-retired}
 use borrow.Author.Needs.{needs}
 use Rattle.calls_plan.proofs.ways.granted.Statement.{statement}
 use Rattle.calls_plan.proofs.ways.granted.Tie as tie
@@ -8,7 +10,7 @@ use Rattle.calls_plan.proofs.ways.granted.Tie as tie
 unretired-requires : tie.Need-unretired-requires
 unretired-requires c κs =
     let z = c .before .before .before in
-    right-length (z .args .s) (z .args .planner .now) (z .pre .1 .0)
+    right-length (contextOf (z .args .s)) (z .args .planner .now) (z .pre .1 .0)
 
 returns : tie.Need-returns
 returns c =

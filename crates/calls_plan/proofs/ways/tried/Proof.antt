@@ -2,13 +2,15 @@
 use mathlib.Core.Path.{sym, _∙_}
 use native.Mathlib.Omega.{arith}
 use borrow.Author.Tests.{not-true, not-false}
-use Rattle.calls_plan.proofs.CallLaws.{right-length, late, copy-right, copy-granted, next-is, next-room, made-room, tried-full, tried-made}
+use Rattle.spec_rules.specs.Neighbour.{contextOf}
+use Rattle.spec_calls.proofs.OneCall.{right-length}
+use Rattle.calls_plan.proofs.CallLaws.{late, copy-right, copy-granted, next-is, next-room, made-room, tried-full, tried-made}
 use borrow.Author.Needs.{needs}
 use Rattle.calls_plan.proofs.ways.tried.Statement.{statement}
 use Rattle.calls_plan.proofs.ways.tried.Tie as tie
 
 put-bytes-requires : tie.Need-put-bytes-requires
-put-bytes-requires c κs = let z = c .before .before .before .before .before .before in omega (arith, right-length (z .args .s) (z .args .planner .now) (z .pre .1 .0), z .pre .1 .1 .1 .0)
+put-bytes-requires c κs = let z = c .before .before .before .before .before .before in omega (arith, right-length (contextOf (z .args .s)) (z .args .planner .now) (z .pre .1 .0), z .pre .1 .1 .1 .0)
 
 plan-requires : tie.Need-plan-requires
 plan-requires c κs =
