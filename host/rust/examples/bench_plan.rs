@@ -2,18 +2,22 @@
 //! `bench_plan [REQUESTS [RUNS [STREAM]]]`.
 //!
 //! The rivals take the same bytes as the C call, and test, decode and encode the planner's 768 bytes
-//! each time. Further rows have the rivals without bytes: they keep their planner between calls.
+//! each time. Further rows have the rivals without bytes: they keep their planner between calls; and
+//! the same requests in calls of `rdram_plan_all`, beside those rivals and beside `rdram_plan`.
 
 mod common;
 mod rivals;
 
-use common::{below, best, print_head, print_row, streams, time, Size, SETTINGS};
+use common::{below, best, print_head, print_row, streams, time, timed, Size, SETTINGS, SLICE};
 use rdram::{raw, RECORD_BYTES, REQUEST_BYTES, REQUEST_RECORDS};
 use rivals::plain::planner as plain;
 use rivals::tuned_plan::{self as tuned, STATE_BYTES};
 use rivals::tuned_state::{Figures, MOST};
+use std::hint::black_box;
 
 const ROOM: usize = REQUEST_RECORDS * RECORD_BYTES;
+/// Requests of one call of `rdram_plan_all`.
+const PART: usize = 100;
 
 type Request = [u8; REQUEST_BYTES];
 type State = [u8; STATE_BYTES];
@@ -32,6 +36,28 @@ fn library(settings: &[u8], state: &mut [u8], request: &[u8], room: &mut [u8]) -
             state.len(),
             request.as_ptr(),
             request.len(),
+            room.as_mut_ptr(),
+            room.len(),
+        )
+    };
+    match planned.number {
+        0 => Ok(planned.records as usize),
+        number => Err(number),
+    }
+}
+
+/// Many requests in one call.
+fn library_all(settings: &[u8], state: &mut [u8], requests: &[Request], room: &mut [u8]) -> Answer {
+    let bytes = requests.as_flattened();
+    // SAFETY: each pointer and length are those of one slice, and the slices do not overlap.
+    let planned = unsafe {
+        raw::rdram_plan_all(
+            settings.as_ptr(),
+            settings.len(),
+            state.as_mut_ptr(),
+            state.len(),
+            bytes.as_ptr(),
+            bytes.len(),
             room.as_mut_ptr(),
             room.len(),
         )
@@ -115,6 +141,18 @@ fn compare(requests: &[Request]) {
         list.extend_from_slice(&rooms[0][..RECORD_BYTES * used]);
     }
     assert_eq!(rdram::check(&SETTINGS, &list), Ok(()));
+    compare_all(requests, &list, &states[0]);
+}
+
+/// The requests in parts make the same list and state.
+fn compare_all(requests: &[Request], list: &[u8], last: &State) {
+    let (settings, mut state, mut made) = (SETTINGS.to_bytes(), fresh(), Vec::new());
+    for part in requests.chunks(PART) {
+        let mut room = vec![1; PART * ROOM];
+        let used = library_all(&settings, &mut state, part, &mut room).unwrap();
+        made.extend_from_slice(&room[..RECORD_BYTES * used]);
+    }
+    assert!(made == list && state == *last, "other records in one call");
 }
 
 /// A call with something changed, mostly refused, has the same answer and leaves the same bytes.
@@ -146,6 +184,20 @@ fn time_bytes(call: OnBytes, requests: &[Request]) -> Vec<f64> {
     })
 }
 
+fn time_all(requests: &[Request]) -> Vec<f64> {
+    let (settings, mut state, mut room) = (SETTINGS.to_bytes(), fresh(), vec![0; PART * ROOM]);
+    let parts: Vec<&[Request]> = requests.chunks(PART).collect();
+    let slice_time = |slice: &[&[Request]]| {
+        timed(|| {
+            for part in slice {
+                let part = black_box(part);
+                black_box(library_all(&settings, &mut state, part, &mut room)).unwrap();
+            }
+        })
+    };
+    parts.chunks(SLICE / PART).map(slice_time).collect()
+}
+
 /// Each request from a copy of the same planner: the copy is in the times.
 fn time_from(first: &State, call: OnBytes, requests: &[Request]) -> Vec<f64> {
     let (settings, mut room) = (SETTINGS.to_bytes(), [0; ROOM]);
@@ -168,7 +220,7 @@ fn main() {
     print_head();
     for (name, requests) in all.iter().filter(|(name, _)| size.has(name)) {
         compare(requests);
-        let [library, plain, tuned, plain_kept, tuned_kept] = best(
+        let [library, plain, tuned, plain_kept, tuned_kept, all] = best(
             size.count,
             size.runs,
             [
@@ -177,6 +229,7 @@ fn main() {
                 &mut || time_bytes(tuned_bytes, requests),
                 &mut || time_kept(plain::Planner::fresh(), plain_kept, requests),
                 &mut || time_kept(tuned::Planner::fresh(), tuned_kept, requests),
+                &mut || time_all(requests),
             ],
         );
         print_row("`rdram_plan`", name, library, plain, Some(tuned));
@@ -186,6 +239,20 @@ fn main() {
             library,
             plain_kept,
             Some(tuned_kept),
+        );
+        print_row(
+            "`rdram_plan_all`, rivals without bytes",
+            name,
+            all,
+            plain_kept,
+            Some(tuned_kept),
+        );
+        print_row(
+            "`rdram_plan_all` beside `rdram_plan`",
+            name,
+            all,
+            library,
+            None,
         );
     }
     singles(&size);

@@ -29,7 +29,7 @@ mod settings;
 pub use index::{index_add, index_banks, index_check, index_make, index_query};
 pub use meter::Meter;
 pub use model::{Event, Model};
-pub use planner::{Planned, Planner, Request};
+pub use planner::{Planned, PlannedAll, Planner, Request};
 pub use refusal::Refusal;
 pub use settings::{Core, Settings};
 

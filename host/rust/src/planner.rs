@@ -1,6 +1,6 @@
 //! Requests, and the planner that makes packets of them.
 
-use crate::{raw, Refusal, Settings, PLANNER_BYTES, REQUEST_BYTES};
+use crate::{raw, Refusal, Settings, PLANNER_BYTES, RECORD_BYTES, REQUEST_BYTES};
 
 /// What a planner is asked for.
 ///
@@ -83,6 +83,18 @@ pub struct Planned {
     /// How many banks a close looked at: the highest open bank + 1, or 0 with none open. 0 for the
     /// other requests.
     pub banks: u32,
+}
+
+/// What a planner made of many requests.
+#[derive(Clone, Copy, Debug, PartialEq, Eq)]
+pub struct PlannedAll<'r> {
+    /// The records that were made, at the start of the room.
+    pub records: &'r [u8],
+    /// How many requests were planned: the position, from 0, of the one that is refused, or the
+    /// number of all of them.
+    pub place: usize,
+    /// Why the request at `place` is refused, where not all were planned.
+    pub stop: Option<Refusal>,
 }
 
 /// A planner between two requests: banks, write buffer, last instants, now and refresh bank.
@@ -250,5 +262,88 @@ impl Planner {
             }),
             number => Err(Refusal::of_plan(number)),
         }
+    }
+
+    /// Plans `requests` one after the other, as [`Planner::plan_bytes`] would one by one: each gets
+    /// what the last one left of `room`. It stops before the first that is refused, and what was
+    /// planned before it stays planned. [`Request::to_bytes`] gives each request.
+    ///
+    /// The bytes of `room` after the records are unchanged. How many banks a close looked at is not
+    /// answered.
+    ///
+    /// Refused, with planner and room unchanged: [`Refusal::Settings`], also for a planner of bytes
+    /// that are no state. Every other refusal is a [`PlannedAll::stop`] at one request:
+    /// [`Refusal::Full`] where the rest of the room has too few records for it.
+    ///
+    /// ```
+    /// # let settings = rdram::Settings::SET_H;
+    /// use rdram::{check, Planner, Refusal, Request, RECORD_BYTES};
+    /// let read = |bank, row| Request::Read { bank, row, column: 0 }.to_bytes();
+    /// let requests = [read(0, 0), read(4, 1), read(8, 2), read(0, 0)];
+    /// let (mut planner, mut room) = (Planner::fresh(), [0; 64 * RECORD_BYTES]);
+    /// let made = planner.plan_all(&settings, &requests, &mut room)?;
+    /// // set H has two rows: the third read is refused, ACT RD, ACT RD are planned
+    /// assert_eq!((made.place, made.stop), (2, Some(Refusal::Row)));
+    /// assert_eq!(made.records.len(), 4 * RECORD_BYTES);
+    /// assert_eq!(check(&settings, made.records), Ok(()));
+    /// // go on behind it
+    /// let made = planner.plan_all(&settings, &requests[3..], &mut room)?;
+    /// assert_eq!((made.place, made.stop), (1, None));
+    /// # Ok::<(), Refusal>(())
+    /// ```
+    pub fn plan_all<'r>(
+        &mut self,
+        settings: &Settings,
+        requests: &[[u8; REQUEST_BYTES]],
+        room: &'r mut [u8],
+    ) -> Result<PlannedAll<'r>, Refusal> {
+        self.plan_all_bytes(settings, requests.as_flattened(), room)
+    }
+
+    /// [`Planner::plan_all`] for the bytes of many requests, as a file has them.
+    ///
+    /// Refused as there, and after the settings: [`Refusal::Length`] for bytes that are not of whole
+    /// requests.
+    ///
+    /// ```
+    /// # let settings = rdram::Settings::SET_H;
+    /// use rdram::{Planner, Refusal};
+    /// let mut planner = Planner::fresh();
+    /// assert_eq!(planner.plan_all_bytes(&settings, &[0; 25], &mut []), Err(Refusal::Length));
+    /// let none = planner.plan_all_bytes(&settings, &[], &mut [])?;
+    /// assert_eq!((none.place, none.stop), (0, None));
+    /// # Ok::<(), Refusal>(())
+    /// ```
+    pub fn plan_all_bytes<'r>(
+        &mut self,
+        settings: &Settings,
+        requests: &[u8],
+        room: &'r mut [u8],
+    ) -> Result<PlannedAll<'r>, Refusal> {
+        let s = settings.to_bytes();
+        // SAFETY: each pointer and length are those of one slice; `self` and `room` are lent by
+        // `&mut`, so they overlap neither each other nor `requests` nor `s`.
+        let answer = unsafe {
+            raw::rdram_plan_all(
+                s.as_ptr(),
+                s.len(),
+                self.bytes.as_mut_ptr(),
+                self.bytes.len(),
+                requests.as_ptr(),
+                requests.len(),
+                room.as_mut_ptr(),
+                room.len(),
+            )
+        };
+        let stop = match answer.number {
+            0 => None,
+            1 | 13 => return Err(Refusal::of_plan(answer.number)), // of the call, not of a request
+            number => Some(Refusal::of_plan(number)),
+        };
+        Ok(PlannedAll {
+            records: &room[..answer.records as usize * RECORD_BYTES],
+            place: answer.place as usize,
+            stop,
+        })
     }
 }

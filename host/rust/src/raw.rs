@@ -1,4 +1,4 @@
-//! The C functions of `librdram.a`, as `rdram.h` and `rdram_meter.h` declare them. Each slice is a pointer and a
+//! The C functions of `librdram.a`, as `rdram.h` and the headers that it includes declare them. Each slice is a pointer and a
 //! length; a null pointer is allowed with length 0; the buffers of one call must not overlap.
 
 /// The answer of [`rdram_word_encode`].
@@ -54,6 +54,15 @@ pub struct Judged {
 pub struct Planned {
     pub number: u32,
     pub banks: u32,
+    pub records: u64,
+}
+
+/// The answer of [`rdram_plan_all`].
+#[repr(C)]
+#[derive(Clone, Copy, Debug, PartialEq, Eq)]
+pub struct PlannedAll {
+    pub number: u32,
+    pub place: u64,
     pub records: u64,
 }
 
@@ -194,6 +203,17 @@ extern "C" {
         room: *mut u8,
         room_len: usize,
     ) -> Planned;
+
+    pub fn rdram_plan_all(
+        settings: *const u8,
+        settings_len: usize,
+        planner: *mut u8,
+        planner_len: usize,
+        requests: *const u8,
+        requests_len: usize,
+        room: *mut u8,
+        room_len: usize,
+    ) -> PlannedAll;
 
     pub fn rdram_model_fresh(model: *mut u8, model_len: usize) -> u32;
 

@@ -1,5 +1,5 @@
 /*
- * Tests of rdram_planner_fresh and rdram_plan through rdram.h. Prints one line
+ * Tests of rdram_planner_fresh, rdram_plan and rdram_plan_all through rdram.h. Prints one line
  * for each failed check and last the line 'N passed, M failed'. Requests are
  * written as kind, bank, row, column and mask, or a wait's cycles; lists as in
  * the listings of document 01: instant, name, bank, row or column, mask where
@@ -10,6 +10,9 @@
 _Static_assert(sizeof(rdram_planned) == 16, "layout of rdram_planned");
 _Static_assert(offsetof(rdram_planned, banks) == 4, "layout of rdram_planned");
 _Static_assert(offsetof(rdram_planned, records) == 8, "layout of rdram_planned");
+_Static_assert(sizeof(rdram_planned_all) == 24, "layout of rdram_planned_all");
+_Static_assert(offsetof(rdram_planned_all, place) == 8, "layout of rdram_planned_all");
+_Static_assert(offsetof(rdram_planned_all, records) == 16, "layout of rdram_planned_all");
 
 int main(void)
 {
@@ -34,5 +37,10 @@ int main(void)
     test_cores();
     test_most_records();
     test_banks();
+    test_many();
+    test_many_stops();
+    test_many_again();
+    test_many_refused();
+    test_many_late();
     return report();
 }

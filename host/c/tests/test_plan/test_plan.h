@@ -71,4 +71,11 @@ void test_null_pointers(void);
 void test_unretired(void);
 void test_horizon(void);
 
+/* many.c */
+void test_many(void);
+void test_many_stops(void);
+void test_many_again(void);
+void test_many_refused(void);
+void test_many_late(void);
+
 #endif

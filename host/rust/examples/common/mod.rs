@@ -53,7 +53,7 @@ pub fn below(x: &mut u64, n: u64) -> u64 {
 }
 
 /// How many calls are timed together: few, so that most times have no other program in them.
-const SLICE: usize = 500;
+pub const SLICE: usize = 500;
 
 /// Nanoseconds that some work takes. Instructions are counted in here only, so that they are those
 /// of the measured calls.

@@ -16,6 +16,7 @@ mod model_calls;
 mod model_runs;
 mod model_states;
 mod plan;
+mod plan_all;
 mod plan_calls;
 mod plan_runs;
 mod plan_states;

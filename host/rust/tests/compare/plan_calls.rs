@@ -25,7 +25,7 @@ pub struct Case<'a> {
 }
 
 /// What a wrapper must say of a refusal.
-fn refusal(number: u32) -> Refusal {
+pub fn refusal(number: u32) -> Refusal {
     match number {
         1 => Refusal::Settings,
         2 => Refusal::Kind,
