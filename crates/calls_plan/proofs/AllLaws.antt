@@ -28,6 +28,7 @@ use Rattle.spec_calls.specs.declared.PlanAllAnswer.{PlanAllAnswer}
 use Rattle.spec_calls.specs.Plans.{planAnswer, PlanResult, planRefused, planBy, planUnder}
 use Rattle.spec_calls.specs.PlanAll.{PlanAllResult, requestAt, oneMore, inTurn, noneYet}
 use Rattle.spec_calls.proofs.OneCall.{right-length, right-valid, under}
+use Rattle.calls_plan.proofs.CallLaws.{Leaves}
 use Rattle.spec_calls.proofs.PlanAllLaws.{size-is, records-within, still-right, leftBy, Reached, reached}
 
 -- ---- a part of the room up to its end
@@ -40,6 +41,19 @@ pub rest-back : (l : List ℕ) (n : ℕ) (new : List ℕ) → take n l ++ (new +
 rest-back l n new =
     let none : drop (length l - n) (drop n l) ≡ [] = drop-of-length-le (drop n l) {i = length l - n} (rw length-drop (omega arith)) in
     rw (none, append-nil)
+
+-- the part of the requests from one place to the next
+pub request-whole : (requests : List ℕ) (place : ℕ) → take (24 * place + 24 - 24 * place) (drop (24 * place) requests) ≡ requestAt requests place
+request-whole requests place = let e : 24 * place + 24 - 24 * place ≡ 24 = omega arith in rw e
+
+-- a call on these parts is that of the request at a place on the rest of the room
+pub at-place : (s : Settings) (planner requests room : List ℕ) (place records : ℕ) (request rest : List ℕ) → request ≡ requestAt requests place → rest ≡ drop (32 * records) room
+    → (r : PlanAnswer) (after new left : List ℕ) → Leaves (planUnder planner request rest s) r after new → left ≡ take (32 * records) room ++ new
+    → (r ≡ planUnder planner (requestAt requests place) (drop (32 * records) room) s .answer)
+    × ((after ≡ planUnder planner (requestAt requests place) (drop (32 * records) room) s .planner)
+    × (left ≡ take (32 * records) room ++ planUnder planner (requestAt requests place) (drop (32 * records) room) s .room))
+at-place s planner requests room place records request rest eq er r after new left e el =
+    rw (← eq, ← er) (e .0, (e .1 .0, el ∙ ap (λ (l : List ℕ). take (32 * records) room ++ l) (e .1 .1)))
 
 -- ---- the turns so far
 
@@ -57,6 +71,10 @@ refused-none planner request room s = go (plannerRight (contextOf s) planner) (p
 -- what a call answers and leaves, by its result
 abbrev pub LeavesAll : PlanAllResult → PlanAllAnswer → List ℕ → List ℕ → Type 0
 LeavesAll x r after left = (r ≡ x .answer) × ((after ≡ x .planner) × (left ≡ x .room))
+
+-- an answer by its fields
+same-answer : (a : PlanAllAnswer) (number place records : ℕ) → a .number ≡ number → a .place ≡ place → a .records ≡ records → a ≡ record { number = number; place = place; records = records }
+same-answer a number place records e f g = λ i. record { number = e i; place = f i; records = g i }
 
 -- n requests were planned, and this is what they left
 pub record SoFar (s : Settings) (planner₀ requests room₀ planner room : List ℕ) (n records : ℕ) : Type 0 where
@@ -158,18 +176,18 @@ module _ {s : Settings} {planner₀ requests room₀ : List ℕ} (g : Lent s pla
         })
 
     -- a refused one is the last
-    pub last-one : result .number ≢ 0
-        → LeavesAll (turned s planner₀ requests room₀ (length requests / 24)) (record { number = result .number; place = n; records = records }) planner₁ room₁
-    last-one f =
+    pub last-one : result .number ≢ 0 → (a : PlanAllAnswer) → (a .number ≡ result .number) × (a .place ≡ n) × (a .records ≡ records)
+        → LeavesAll (turned s planner₀ requests room₀ (length requests / 24)) a planner₁ room₁
+    last-one f a ea =
         let e : made .answer .number ≢ 0 = rw er at f in
         let none : made .answer .records ≡ 0 = refused-none planner (requestAt requests n) (drop (32 * records) room) s e in
         let more : records + made .answer .records ≡ records = omega (arith, none) in
         let z = stopped s planner₀ requests room₀ (length requests / 24) (suc n) (omega arith) (λ z. e (ap (λ (y : PlanAllResult). y .answer .number) (sym next-is) ∙ z)) ∙ next-is in
-        rw (z, ne-eqb (made .answer .number) 0 e, more) (rw er, (ep, em))
+        rw (z, ne-eqb (made .answer .number) 0 e, more) (same-answer a _ n records (rw er at (ea .0)) (ea .1) (ea .2), (ep, em))
 
   -- no request is left
-  pub all-planned : length requests / 24 ≤ n → LeavesAll (turned s planner₀ requests room₀ (length requests / 24)) (record { number = 0; place = n; records = records }) planner room
-  all-planned l =
+  pub all-planned : length requests / 24 ≤ n → (a : PlanAllAnswer) → (a .number ≡ 0) × (a .place ≡ n) × (a .records ≡ records)
+      → LeavesAll (turned s planner₀ requests room₀ (length requests / 24)) a planner room
+  all-planned l a ea =
       let e : length requests / 24 ≡ n = omega (arith, k .within) in
-      let answer : x .answer ≡ record { number = 0; place = n; records = records } = λ i. record { number = k .none-refused i; place = place-is i; records = k .records-are i } in
-      rw e (sym answer, (k .planner-is, k .room-is))
+      rw (e, same-answer a 0 n records (ea .0) (ea .1) (ea .2)) (sym (same-answer (x .answer) 0 n records (k .none-refused) place-is (k .records-are)), (k .planner-is, k .room-is))

@@ -43,6 +43,17 @@ fn plan_at(
     asked(s, planner, quick, &requests[at..end], &mut room[used..])
 }
 
+// The answer in numbers, with the requests before a place planned.
+fn planned_to(number: u32, place: usize, records: usize) -> PlanAllAnswer
+    ensures { λ r. ⌜ (r .number ≡ number) × (r .place ≡ place) × (r .records ≡ records) ⌝ }
+{
+    PlanAllAnswer {
+        number: number,
+        place: place as u64,
+        records: records as u64,
+    }
+}
+
 // Every request in turn, from a state that is not refused, up to the first that is refused.
 fn plan_each(s: Settings, planner: &mut [u8], requests: &[u8], room: &mut [u8]) -> PlanAllAnswer
     requires { ⌜ valid s ≡ true ⌝ }
@@ -58,20 +69,12 @@ fn plan_each(s: Settings, planner: &mut [u8], requests: &[u8], room: &mut [u8]) 
         let made = plan_at(s, planner, requests, place, room, records);
         let next = place + 1;
         if made.number != 0 {
-            return PlanAllAnswer {
-                number: made.number,
-                place: place as u64,
-                records: records as u64,
-            };
+            return planned_to(made.number, place, records);
         }
         records += made.records as usize;
         place = next;
     }
-    PlanAllAnswer {
-        number: 0,
-        place: place as u64,
-        records: records as u64,
-    }
+    planned_to(0, place, records)
 }
 
 // The answer of a call that is refused before any request is planned.

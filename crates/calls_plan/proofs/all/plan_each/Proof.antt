@@ -1,6 +1,7 @@
 -- `calls_plan::all::plan_each` meets its contract: at each turn planner and room are what the requests so far left.
-use Prim.Native.Nat.{_+_, _-_}
-use mathlib.Core.Path.{_∙_}
+use Prim.Native.Nat.{_-_}
+use mathlib.Core.Path.{_≡_, _∙_}
+use mathlib.Core.Logic.{_≢_}
 use native.Mathlib.Omega.{arith}
 use Rattle.calls_plan.proofs.AllLaws.{SoFar, so-far-none, Lent, right-now, planner-kept, room-kept, records-fit, one-more, last-one, all-planned}
 use borrow.Author.Needs.{needs}
@@ -34,29 +35,31 @@ plan-at-requires c κs =
 
 same-length : tie.Need-same-length Inv-loop μ-loop
 same-length c =
-    let m = c .before .before .before .before .before .before in
+    let m = c .before .before .before .before .before .before .before in
     let l = m .before .before .before .before in
-    c .before .before .before .before .before .planner .given ∙ planner-kept (given l) (l .loop .inv)
+    c .before .before .before .before .before .before .planner .given ∙ planner-kept (given l) (l .loop .inv)
 
 same-length-2 : tie.Need-same-length-2 Inv-loop μ-loop
 same-length-2 c =
-    let m = c .before .before .before .before .before .before in
+    let m = c .before .before .before .before .before .before .before in
     let l = m .before .before .before .before in
-    c .before .before .before .room .given ∙ room-kept (given l) (l .loop .inv)
+    c .before .before .before .before .room .given ∙ room-kept (given l) (l .loop .inv)
 
 returns : tie.Need-returns Inv-loop μ-loop
 returns c =
-    let m = c .before .before .before .before .before .before in
+    let m = c .before .before .before .before .before .before .before in
     let l = m .before .before .before .before in
     let e = m .plan-at .ensures in
-    last-one (given l) (l .loop .inv) (m .before .before .before .loop-test .taken) _ (e .0) _ _ (e .1 .0) (e .1 .1) (c .if1 .taken)
+    let refused : m .plan-at .result .number ≢ 0 = λ z. omega (arith, c .before .if1 .taken) in
+    last-one (given l) (l .loop .inv) (m .before .before .before .loop-test .taken) _ (e .0) _ _ (e .1 .0) (e .1 .1) refused (c .planned-to .result) (c .planned-to .ensures)
 
 add-records : tie.Need-add-records Inv-loop μ-loop
 add-records c =
     let m = c .before .before .before .before .before .before in
     let l = m .before .before .before .before in
     let e = m .plan-at .ensures in
-    let next = one-more (given l) (l .loop .inv) (m .before .before .before .loop-test .taken) _ (e .0) _ _ (e .1 .0) (e .1 .1) (c .if1 .left) in
+    let accepted : m .plan-at .result .number ≡ 0 = omega (arith, c .if1 .left) in
+    let next = one-more (given l) (l .loop .inv) (m .before .before .before .loop-test .taken) _ (e .0) _ _ (e .1 .0) (e .1 .1) accepted in
     omega (arith, records-fit (given l) next, room-kept (given l) next)
 
 loop-less : tie.Need-loop-less Inv-loop μ-loop
@@ -67,16 +70,17 @@ loop-again c =
     let m = c .before .before .before .before .before .before in
     let l = m .before .before .before .before in
     let e = m .plan-at .ensures in
-    one-more (given l) (l .loop .inv) (m .before .before .before .loop-test .taken) _ (e .0) _ _ (e .1 .0) (e .1 .1) (c .if1 .left)
+    let accepted : m .plan-at .result .number ≡ 0 = omega (arith, c .if1 .left) in
+    one-more (given l) (l .loop .inv) (m .before .before .before .loop-test .taken) _ (e .0) _ _ (e .1 .0) (e .1 .1) accepted
 
 same-length-3 : tie.Need-same-length-3 Inv-loop μ-loop
-same-length-3 c = planner-kept (given (c .before)) (c .before .loop .inv)
+same-length-3 c = let l = c .before .before in planner-kept (given l) (l .loop .inv)
 
 same-length-4 : tie.Need-same-length-4 Inv-loop μ-loop
-same-length-4 c = room-kept (given (c .before)) (c .before .loop .inv)
+same-length-4 c = let l = c .before .before in room-kept (given l) (l .loop .inv)
 
 returns-2 : tie.Need-returns-2 Inv-loop μ-loop
-returns-2 c = all-planned (given (c .before)) (c .before .loop .inv) (c .loop-test .left)
+returns-2 c = let l = c .before .before in all-planned (given l) (l .loop .inv) (c .before .loop-test .left) (c .planned-to2 .result) (c .planned-to2 .ensures)
 
 pub plan-each-spec : {M : Type 1} → statement M
 plan-each-spec =
@@ -87,12 +91,14 @@ plan-each-spec =
     loop-holds
     plan-at-requires
     (λ c. search needs)
+    (λ c κs. search needs)
     same-length
     same-length-2
     returns
     add-records
     loop-less
     loop-again
+    (λ c κs. search needs)
     same-length-3
     same-length-4
     returns-2)
