@@ -295,10 +295,8 @@ fn refused_calls() {
     for _ in 0..rounds(3000) {
         let numbers = random.numbers();
         let (mut settings, mut state) = (bytes(&numbers), fresh());
-        let mut requests = Maker::new(&mut random, &numbers).request(&mut random);
-        let shorter = random.below(2 * 24);
-        requests.extend(vec![0; 24]);
-        requests.truncate(shorter);
+        let mut requests = [read(random.below(32) as u8, 0, 0), read(0, 0, 0)].concat();
+        requests.truncate(random.below(3 * 24));
         match random.below(4) {
             0 => settings[2 * random.below(16) + 1] ^= 0x80,
             1 => state[random.below(STATE_BYTES)] ^= 1 << random.below(8),
