@@ -4,9 +4,10 @@ use Prim.Native.Nat.{ℕ, zero, suc, _*_, _/_, _%_}
 use mathlib.Core.Path.{_≡_, refl, sym, ap, _∙_, subst}
 use mathlib.Core.Bool.{Bool, true, false}
 use mathlib.Core.List.{List, [], _∷_, _++_, append-nil, append-assoc}
-use mathlib.Core.Logic.{_⊎_, ⊎-elim, inl, inr}
+use mathlib.Core.Logic.{_≢_, _⊎_, ⊎-elim, inl, inr}
 use lib.Dec.{eqb}
 use lib.ListN.{length}
+use borrow.Author.Tests.{eqb-false}
 use native.Mathlib.Omega.{arith}
 use Rattle.num.specs.Bytes.{Bytes}
 use Rattle.num.proofs.PartLaws.{Bytes-part}
@@ -25,26 +26,27 @@ use Rattle.spec_plan.specs.PlannerBytes.{plannerBytes, plannerIn, plannerRight}
 use Rattle.spec_plan.proofs.PlannerRoundTrip.{planner-encode-decode}
 use Rattle.spec_runs.specs.WholeRun.{fed}
 use Rattle.spec_calls.specs.Settings.{underSettings}
-use Rattle.spec_calls.specs.PlanAll.{PlanAllResult, allRefused, planAllUnder, planAllCall}
+use Rattle.spec_calls.specs.PlanAll.{PlanAllResult, inTurn, noneYet, allRefused, planAllUnder, planAllCall}
 use Rattle.spec_calls.specs.Runs.{PlanCall, Bench, benchNext, benchAfter, requestsFed, benchFed, BytesOf, BytesIn}
 use Rattle.spec_calls.specs.AllInTurn.{singleCall, singleCalls, AllInTurn}
 use Rattle.spec_calls.proofs.OneCall.{right-valid, call-under}
-use Rattle.spec_calls.proofs.PlanAllLaws.{Stands, list-is, rest-is, size-is, turns, Reached, reached}
+use Rattle.spec_calls.proofs.PlanAllLaws.{Stands, list-is, rest-is, size-is, leftBy, turns, Reached, reached}
 use Rattle.spec_calls.proofs.AllCall.{all-whole, all-broken}
 use Rattle.spec_calls.proofs.BenchRun.{callsBy, callsOf, bench-from, fed-from}
 
 -- ---- a refused call
 
-refused-in-turn : (settings planner requests room : List ℕ) (why : Refusal) → (answerOf why .number ≡ 1) ⊎ (answerOf why .number ≡ 13)
+refused-in-turn : (settings planner requests room : List ℕ) (why : Refusal) → (answerOf why .number ≡ 1) ⊎ ((answerOf why .number ≡ 13) × (length requests ≢ 0))
     → AllInTurn settings planner requests room (allRefused planner room why)
 unfolding singleCalls benchAfter benchFed requestsFed
 refused-in-turn settings planner requests room why n =
     record {
       same = λ list. rw append-nil;
       taken = λ list. refl;
-      complete = λ z. absurd (⊎-elim (λ o. omega arith) (λ o. omega arith) n);
+      complete = λ z. absurd (⊎-elim (λ o. omega arith) (λ o. omega (arith, o .0)) n);
       refused = λ o. (refl, refl, refl, refl);
-      stops = λ z o t. absurd (⊎-elim o t n);
+      empty = λ e o. absurd (⊎-elim o (λ t. t .1 (ap length e)) n);
+      stops = λ z o t. absurd (⊎-elim o (λ p. t (p .0)) n);
       size = refl;
       rest = refl;
     }
@@ -81,8 +83,9 @@ module _ (settings : List ℕ) (s : Settings) (a : settingsRead settings ≡ rea
       bytes-more [] c k w = (w, tt)
       bytes-more (d ∷ l) c k w = (k .0, bytes-more l c (k .1) w)
 
-  turned : (n : ℕ) (y : PlanAllResult) → n ≡ length requests / 24 → Reached s v p h requests b room n y → AllInTurn settings (plannerBytes p) requests room y
-  turned n y e r =
+  turned : (n : ℕ) (y : PlanAllResult) → n ≡ length requests / 24 → (n ≡ 0 → y ≡ noneYet (plannerBytes p) room) → Reached s v p h requests b room n y
+      → AllInTurn settings (plannerBytes p) requests room y
+  turned n y e none r =
       let k : Stands s p room y (turns s (plannerBytes p) requests room (y .answer .place)) = r .stands in
       let w = singles-bytes (y .answer .place) in
       record {
@@ -90,10 +93,15 @@ module _ (settings : List ℕ) (s : Settings) (a : settingsRead settings ≡ rea
         taken = λ list. fed-from settings s a (singles (y .answer .place)) w p h list ∙ ap (fed (contextOf s) p) (singles-are (y .answer .place) _) ∙ r .fed-is;
         complete = λ z. r .all-planned z ∙ e;
         refused = λ o. absurd (⊎-elim (r .own .0) (r .own .1) o);
+        empty = λ z o. none (omega (arith, e, ap length z));
         stops = λ z o t. (omega (arith, r .below z, e), rw (call-under settings s a) (r .refused-again z));
         size = size-is s v p room y _ k;
         rest = rest-is s v p room y _ k;
       }
+
+  none-yet : length requests / 24 ≡ 0 → leftBy s (plannerBytes p) requests room (length requests / 24) ≡ noneYet (plannerBytes p) room
+  unfolding inTurn
+  none-yet e = rw e
 
   from-state : AllInTurn settings (plannerBytes p) requests room (planAllCall settings (plannerBytes p) requests room)
   unfolding answerOf
@@ -102,10 +110,10 @@ module _ (settings : List ℕ) (s : Settings) (a : settingsRead settings ≡ rea
       go : (t : Bool) → eqb (length requests % 24) 0 ≡ t → AllInTurn settings (plannerBytes p) requests room (planAllCall settings (plannerBytes p) requests room)
       go true e =
           subst (AllInTurn settings (plannerBytes p) requests room) (sym (all-whole settings s a p h requests b room e))
-          (turned (length requests / 24) _ refl (reached s v p h requests b room (length requests / 24) (omega arith)))
+          (turned (length requests / 24) _ refl none-yet (reached s v p h requests b room (length requests / 24) (omega arith)))
       go false e =
           subst (AllInTurn settings (plannerBytes p) requests room) (sym (all-broken settings s a p h requests b room e))
-          (refused-in-turn settings (plannerBytes p) requests room refusal.Length (inr refl))
+          (refused-in-turn settings (plannerBytes p) requests room refusal.Length (inr (refl, λ z. eqb-false (length requests % 24) 0 e (omega arith))))
 
 -- ---- any bytes
 

@@ -35,6 +35,8 @@ module _ (settings planner requests room : List ℕ) where
     -- 1 and 13 "refuse the whole call before any request is planned"
     pub refused : (made .answer .number ≡ 1) ⊎ (made .answer .number ≡ 13)
         → (made .answer .place ≡ 0) × (made .answer .records ≡ 0) × (made .planner ≡ planner) × (made .room ≡ room)
+    -- "an empty file is else accepted and adds no record"
+    pub empty : requests ≡ [] → made .answer .number ≢ 1 → made ≡ noneYet planner room
     -- another number is a stop: the call for the request at the place is refused by it
     pub stops : made .answer .number ≢ 0 → made .answer .number ≢ 1 → made .answer .number ≢ 13
         → (made .answer .place < length requests / 24)
