@@ -1,6 +1,6 @@
 -- Many requests in turn on the lent bytes: the request at a place on the rest of the room, and what the turns so far say of both.
 -- Assumes nothing.
-use Prim.Native.Nat.{ℕ, zero, suc, _+_, _-_, _*_, _/_, _≤_, _<_}
+use Prim.Native.Nat.{ℕ, zero, suc, _+_, _-_, _*_, _/_, _≤_, _<_, max}
 use mathlib.Core.Path.{_≡_, refl, sym, ap, _∙_, subst}
 use mathlib.Core.Bool.{Bool, true, false, cond}
 use mathlib.Core.List.{List, [], _++_, append-nil}
@@ -12,6 +12,7 @@ use lib.Seq.{take-all}
 use borrow.Author.Tests.{eq-eqb, ne-eqb}
 use native.Mathlib.Omega.{arith}
 use Rattle.num.specs.Bytes.{Bytes}
+use Rattle.num.proofs.PartLaws.{Bytes-part}
 use Rattle.settings.specs.declared.Settings.{Settings}
 use Rattle.settings.specs.Settings.{valid}
 use Rattle.record.specs.declared.Refusal.the-variants as refusal
@@ -23,12 +24,17 @@ use Rattle.spec_plan.specs.Planner.{plannerValid}
 use Rattle.spec_plan.specs.PlannerBytes.{plannerIn, plannerRight}
 use Rattle.spec_plan.specs.Call.{planOutcome}
 use Rattle.spec_plan.proofs.PlannerRoundTrip.{planner-encode-decode}
+use Rattle.plan_bytes.specs.form.Numbers.{word, Below}
+use Rattle.plan_bytes.specs.form.Drawn.{Ready}
+use Rattle.plan_bytes.proofs.ReadyLaws.{readies}
+use Rattle.plan_bytes.proofs.Again.{ready-more}
 use Rattle.spec_calls.specs.declared.PlanAnswer.{PlanAnswer}
 use Rattle.spec_calls.specs.declared.PlanAllAnswer.{PlanAllAnswer}
 use Rattle.spec_calls.specs.Plans.{planAnswer, PlanResult, planRefused, planBy, planUnder}
 use Rattle.spec_calls.specs.PlanAll.{PlanAllResult, requestAt, oneMore, inTurn, noneYet}
 use Rattle.spec_calls.proofs.OneCall.{right-length, right-valid, under}
 use Rattle.calls_plan.proofs.CallLaws.{Leaves}
+use Rattle.calls_plan.proofs.HighLaws.{ready-bytes, call-rises}
 use Rattle.spec_calls.proofs.PlanAllLaws.{size-is, records-within, still-right, leftBy, Reached, reached}
 
 -- ---- a part of the room up to its end
@@ -145,6 +151,13 @@ module _ {s : Settings} {planner₀ requests room₀ : List ℕ} (g : Lent s pla
   pub records-fit : 32 * records ≤ length room
   records-fit = omega (arith, room-kept, records-within s (g .settings-valid) p room₀ x _ (at .stands), k .records-are)
 
+  -- no stored instant is above a bound, or a higher one
+  ready-now : (top : ℕ) → Below top planner → Ready s top planner
+  ready-now top t = ready-bytes s (g .settings-valid) _ (at .stands .planner-valid) planner (k .planner-is ∙ at .stands .planner-is) top t
+
+  pub low-now : (top : ℕ) → Below top planner → top ≤ 999990000 → Below 999990000 planner
+  low-now top t h = readies s 999990000 planner (ready-more s top 999990000 planner h (ready-now top t)) .below
+
   place-is : x .answer .place ≡ n
   place-is = at .all-planned (k .none-refused)
 
@@ -174,6 +187,11 @@ module _ {s : Settings} {planner₀ requests room₀ : List ℕ} (g : Lent s pla
           planner-is = ap (λ (y : PlanAllResult). y .planner) (sym next-is);
           room-is = ap (λ (y : PlanAllResult). y .room) (sym next-is);
         })
+
+    -- and how far its stored instants have risen
+    pub more-rises : result .number ≡ 0 → (top : ℕ) → Below top planner → top ≤ 999990000 → Below (max (top + 6400) (word planner₁ 752)) planner₁
+    more-rises e top t h =
+        rw ep (call-rises s planner (drop (32 * records) room) top (ready-now top t) h right-now (requestAt requests n) (Bytes-part requests (24 * n) 24 (g .request-bytes)) (rw er at e))
 
     -- a refused one is the last
     pub last-one : result .number ≢ 0 → (a : PlanAllAnswer) → (a .number ≡ result .number) × (a .place ≡ n) × (a .records ≡ records)

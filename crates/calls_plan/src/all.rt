@@ -2,27 +2,32 @@
 ghost use mathlib.Core.Path.{_≡_};
 ghost use mathlib.Core.Bool.{true};
 ghost use mathlib.Core.List.{[], _++_};
-ghost use Prim.Native.Nat.{_+_, _*_, _/_, _≤_};
+ghost use Prim.Native.Nat.{_+_, _*_, _/_, _≤_, max};
 ghost use lib.ListN.{length, take, drop};
 ghost use Rattle.settings.specs.Settings.{valid};
 ghost use Rattle.spec_rules.specs.Neighbour.{contextOf};
 ghost use Rattle.spec_plan.specs.PlannerBytes.{plannerRight};
+ghost use Rattle.plan_bytes.specs.form.Numbers.{word, Below};
 ghost use Rattle.spec_calls.specs.Plans.{planUnder};
 ghost use Rattle.spec_calls.specs.PlanAll.{requestAt, inTurn, noneYet, allRefused, planAllUnder, planAllCall};
 ghost use Rattle.spec_calls.proofs.OneCall.{under};
-use crate::right;
 use crate::ways::asked;
+use num::u32_at;
+use plan_bytes::latest;
+use plan_calm::highest;
 use record::Refusal;
 use settings::Settings;
 use settings::SettingsRead;
 use spec_calls::PlanAllAnswer;
 use spec_calls::PlanAnswer;
 use spec_plan::PLANNER_BYTES;
+use state_bytes::planners::planner_right;
 
 // The request at a place, where so many records stand in the room.
 fn plan_at(
     s: Settings,
     planner: &mut [u8],
+    quick: bool,
     requests: &[u8],
     place: usize,
     room: &mut [u8],
@@ -30,13 +35,13 @@ fn plan_at(
 ) -> PlanAnswer
     requires { ⌜ valid s ≡ true ⌝ }
     requires { ⌜ plannerRight (contextOf s) (now planner) ≡ true ⌝ }
+    requires { ⌜ (quick ≡ true → Below 999990000 (now planner)) ⌝ }
     requires { ⌜ 24 * place + 24 ≤ length (now requests) ⌝ }
     requires { ⌜ 32 * records ≤ length (now room) ⌝ }
     ensures { λ r. ⌜ r ≡ planUnder (now (planner .entry)) (requestAt (now (requests .entry)) place) (drop (32 * records) (now (room .entry))) s .answer ⌝ }
     ensures { λ _. ⌜ now (planner .exit) ≡ planUnder (now (planner .entry)) (requestAt (now (requests .entry)) place) (drop (32 * records) (now (room .entry))) s .planner ⌝ }
     ensures { λ _. ⌜ now (room .exit) ≡ take (32 * records) (now (room .entry)) ++ planUnder (now (planner .entry)) (requestAt (now (requests .entry)) place) (drop (32 * records) (now (room .entry))) s .room ⌝ }
 {
-    let quick = plan_calm::calm(planner);
     let at = 24 * place;
     let end = at + 24;
     let used = 32 * records;
@@ -54,6 +59,18 @@ fn planned_to(number: u32, place: usize, records: usize) -> PlanAllAnswer
     }
 }
 
+// A bound of the stored instants after a request that was planned, by one before it: it adds at most 6,400, or it leaves this now.
+fn risen(planner: &[u8], top: u32) -> u32
+    requires { ⌜ length (now planner) ≡ 768 ⌝ }
+    requires { ⌜ (top ≤ 999990000 → Below (max (top + 6400) (word (now planner) 752)) (now planner)) ⌝ }
+    ensures { λ r. ⌜ Below r (now (planner .entry)) ⌝ }
+{
+    if top <= 999990000 {
+        return latest(top + 6400, u32_at(planner, 752));
+    }
+    highest(planner)
+}
+
 // Every request in turn, from a state that is not refused, up to the first that is refused.
 fn plan_each(s: Settings, planner: &mut [u8], requests: &[u8], room: &mut [u8]) -> PlanAllAnswer
     requires { ⌜ valid s ≡ true ⌝ }
@@ -65,12 +82,14 @@ fn plan_each(s: Settings, planner: &mut [u8], requests: &[u8], room: &mut [u8]) 
     let n = requests.len() / 24;
     let mut place = 0;
     let mut records = 0;
+    let mut top = highest(planner);
     while place < n {
-        let made = plan_at(s, planner, requests, place, room, records);
+        let made = plan_at(s, planner, top <= 999990000, requests, place, room, records);
         let next = place + 1;
         if made.number != 0 {
             return planned_to(made.number, place, records);
         }
+        top = risen(planner, top);
         records += made.records as usize;
         place = next;
     }
@@ -96,8 +115,7 @@ fn right_state(s: Settings, planner: &[u8]) -> bool
     if planner.len() != PLANNER_BYTES {
         return false;
     }
-    let quick = plan_calm::calm(planner);
-    right(s, planner, quick)
+    planner_right(s, planner)
 }
 
 // A call under settings that are accepted: 1 for the state, then 13.

@@ -34,7 +34,7 @@ pub fn planner_fresh(planner: &mut [u8]) -> u32
 }
 
 // Whether refusal 1 has nothing against a planner's bytes, of which is known whether they are calm: then no instant is out of range.
-pub(crate) fn right(s: Settings, b: &[u8], quick: bool) -> bool
+fn right(s: Settings, b: &[u8], quick: bool) -> bool
     requires { ⌜ length (now b) ≡ 768 ⌝ }
     requires { ⌜ quick ≡ isCalm (now b) ⌝ }
     ensures { λ r. ⌜ r ≡ plannerRight (contextOf s) (now (b .entry)) ⌝ }

@@ -9,7 +9,7 @@ ghost use Rattle.record.proofs.RequestLaws.{InRange};
 ghost use Rattle.record.specs.declared.RequestRead.the-variants.{Accepted};
 ghost use Rattle.spec_rules.specs.Neighbour.{contextOf};
 ghost use Rattle.spec_plan.specs.PlannerBytes.{plannerRight};
-ghost use Rattle.plan_calm.specs.form.Calm.{isCalm};
+ghost use Rattle.plan_bytes.specs.form.Numbers.{Below};
 ghost use Rattle.spec_calls.specs.Plans.{planAnswer, planUnder};
 ghost use Rattle.calls_plan.specs.form.Served.{Granted, served};
 use plan_in_place::requests::in_time;
@@ -47,11 +47,11 @@ pub(crate) fn answer(o: Outcome, banks: u32) -> PlanAnswer
     }
 }
 
-// A request in range on the lent bytes of a calm state. With room for the most records there is no refusal 8.
+// A request in range on the lent bytes of a state of which no instant is high. With room for the most records there is no refusal 8.
 fn on_lent(s: Settings, planner: &mut [u8], q: Request, room: &mut [u8]) -> PlanAnswer
     requires { ⌜ valid s ≡ true ⌝ }
     requires { ⌜ plannerRight (contextOf s) (now planner) ≡ true ⌝ }
-    requires { ⌜ isCalm (now planner) ≡ true ⌝ }
+    requires { ⌜ Below 999990000 (now planner) ⌝ }
     requires { ⌜ Granted s (now planner) q ⌝ }
     requires { ⌜ 1024 ≤ length (now room) ⌝ }
     ensures { λ r. ⌜ r ≡ served (contextOf s) (now (planner .entry)) (Accepted q) (now (room .entry)) .answer ⌝ }
@@ -125,7 +125,7 @@ fn beside(s: Settings, planner: &mut [u8], q: Request, room: &mut [u8]) -> PlanA
 fn served(s: Settings, planner: &mut [u8], quick: bool, q: Request, room: &mut [u8]) -> PlanAnswer
     requires { ⌜ valid s ≡ true ⌝ }
     requires { ⌜ plannerRight (contextOf s) (now planner) ≡ true ⌝ }
-    requires { ⌜ quick ≡ isCalm (now planner) ⌝ }
+    requires { ⌜ (quick ≡ true → Below 999990000 (now planner)) ⌝ }
     requires { ⌜ Granted s (now planner) q ⌝ }
     ensures { λ r. ⌜ r ≡ served (contextOf s) (now (planner .entry)) (Accepted q) (now (room .entry)) .answer ⌝ }
     ensures { λ _. ⌜ now (planner .exit) ≡ served (contextOf s) (now (planner .entry)) (Accepted q) (now (room .entry)) .planner ⌝ }
@@ -141,7 +141,7 @@ fn served(s: Settings, planner: &mut [u8], quick: bool, q: Request, room: &mut [
 fn granted(s: Settings, planner: &mut [u8], quick: bool, q: Request, room: &mut [u8]) -> PlanAnswer
     requires { ⌜ valid s ≡ true ⌝ }
     requires { ⌜ plannerRight (contextOf s) (now planner) ≡ true ⌝ }
-    requires { ⌜ quick ≡ isCalm (now planner) ⌝ }
+    requires { ⌜ (quick ≡ true → Below 999990000 (now planner)) ⌝ }
     requires { ⌜ InRange s q ⌝ }
     ensures { λ r. ⌜ r ≡ served (contextOf s) (now (planner .entry)) (Accepted q) (now (room .entry)) .answer ⌝ }
     ensures { λ _. ⌜ now (planner .exit) ≡ served (contextOf s) (now (planner .entry)) (Accepted q) (now (room .entry)) .planner ⌝ }
@@ -153,7 +153,7 @@ fn granted(s: Settings, planner: &mut [u8], quick: bool, q: Request, room: &mut 
     served(s, planner, quick, q, room)
 }
 
-// From a state that is not refused, of which is known whether it is calm: what the request says.
+// From a state that is not refused: what the request says. The quick way is for a state of which no instant is high.
 pub(crate) fn asked(
     s: Settings,
     planner: &mut [u8],
@@ -163,7 +163,7 @@ pub(crate) fn asked(
 ) -> PlanAnswer
     requires { ⌜ valid s ≡ true ⌝ }
     requires { ⌜ plannerRight (contextOf s) (now planner) ≡ true ⌝ }
-    requires { ⌜ quick ≡ isCalm (now planner) ⌝ }
+    requires { ⌜ (quick ≡ true → Below 999990000 (now planner)) ⌝ }
     ensures { λ r. ⌜ r ≡ planUnder (now (planner .entry)) (now (request .entry)) (now (room .entry)) s .answer ⌝ }
     ensures { λ _. ⌜ now (planner .exit) ≡ planUnder (now (planner .entry)) (now (request .entry)) (now (room .entry)) s .planner ⌝ }
     ensures { λ _. ⌜ now (room .exit) ≡ planUnder (now (planner .entry)) (now (request .entry)) (now (room .entry)) s .room ⌝ }

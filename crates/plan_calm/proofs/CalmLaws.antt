@@ -26,7 +26,7 @@ le-here a b top h = (omega arith, omega arith)
 through : (a b c : ℕ) → a ≤ b → b ≤ c → a ≤ c
 through a b c h g = omega arith
 
-highest-below : (b : List ℕ) (top : ℕ) → highestIn b ≤ top → Below top b
+pub highest-below : (b : List ℕ) (top : ℕ) → highestIn b ≤ top → Below top b
 unfolding highestIn Below
 highest-below b top h =
     let p0 = le-here (maxUpTo (λ k. word b (4 * k)) 160) _ top h in

@@ -47,7 +47,7 @@ fn banks_highest(b: &[u8]) -> u32
 }
 
 // The highest of the state.
-fn highest(b: &[u8]) -> u32
+pub fn highest(b: &[u8]) -> u32
     requires { ⌜ length (now b) ≡ 768 ⌝ }
     ensures { λ r. ⌜ r ≡ highestIn (now (b .entry)) ⌝ }
 {

@@ -40,7 +40,7 @@ use Rattle.spec_plan.proofs.CallLaws.{planned-made}
 use Rattle.spec_plan.proofs.LookedLaws.{looked-le}
 use Rattle.spec_plan.proofs.PlannerRoundTrip.{planner-length}
 use Rattle.spec_plan.proofs.Timely.{lastDelay, timely-is}
-use Rattle.plan_bytes.specs.form.Numbers.{word, half}
+use Rattle.plan_bytes.specs.form.Numbers.{word, half, Below}
 use Rattle.plan_bytes.specs.form.Drawn.{bare, drafted, Ready, Fits, Drawn}
 use Rattle.plan_bytes.proofs.Since.{since-some}
 use Rattle.plan_bytes.proofs.Marks.{far, Marked, marked-more, marked-while, marked-reached, marked-read, marked-write, marked-refresh, marked-flush, marked-close}
@@ -51,8 +51,6 @@ use Rattle.plan_bytes.proofs.Again.{start, After, after-step, ready-below, read
 use Rattle.plan_bytes.proofs.Compose.{Blind, sent-blind, while-blind, up-to-blind, written-blind, fits-first, fits-then, drawn-then, one-sent}
 use Rattle.plan_steps.proofs.Ranges.{up-to-ext}
 use Rattle.plan_steps.proofs.Stepwise.{good, after-of, cleared-first, cleared-fits, cleared-drawn}
-use Rattle.plan_calm.specs.form.Calm.{isCalm}
-use Rattle.plan_calm.proofs.CalmLaws.{calm-below}
 
 two-written : (cx : Context) (at : Place) (mask : ℕ) (d : Dualoct) (p : PlannerState) → length (written cx at mask d (bare p) .records) ≡ 2
 unfolding written loaded sent
@@ -238,11 +236,11 @@ module _ (s : Settings) (b : List ℕ) (k : Ready s 999999997 b) (room : List �
 
 -- ---- wait
 
-now-some : (s : Settings) (top : ℕ) (b : List ℕ) → Ready s top b → 1 ≤ word b 752
+pub now-some : (s : Settings) (top : ℕ) (b : List ℕ) → Ready s top b → 1 ≤ word b 752
 unfolding plannerIn
 now-some s top b k = some-said (word b 752) (inv s top b k .low)
 
-now-is : (s : Settings) (top : ℕ) (b : List ℕ) → Ready s top b → plannerIn b .now .0 ≡ word b 752 + 3
+pub now-is : (s : Settings) (top : ℕ) (b : List ℕ) → Ready s top b → plannerIn b .now .0 ≡ word b 752 + 3
 unfolding plannerIn
 now-is s top b k = said-some (word b 752) (now-some s top b k)
 
@@ -263,7 +261,16 @@ NoWait (Wait n) = ⊥
 NoWait Flush = Unit {0}
 NoWait Close = Unit {0}
 
-request-marked : (s : Settings) (top : ℕ) (b : List ℕ) → Ready s top b → top + 6403 ≤ far → (q : Request) → NoWait q → Marked s (top + 3 + 6400) (planned (contextOf s) q (plannerIn b))
+-- a wait, or none
+pub wait-or-none : (P : Request → Type 0) → ((n : ℕ) → P (Wait n)) → ((q : Request) → NoWait q → P q) → (q : Request) → P q
+wait-or-none P w f (Read at) = f (Read at) tt
+wait-or-none P w f (WriteTo at mask bytes) = f (WriteTo at mask bytes) tt
+wait-or-none P w f RefreshBank = f RefreshBank tt
+wait-or-none P w f (Wait n) = w n
+wait-or-none P w f Flush = f Flush tt
+wait-or-none P w f Close = f Close tt
+
+pub request-marked : (s : Settings) (top : ℕ) (b : List ℕ) → Ready s top b → top + 6403 ≤ far → (q : Request) → NoWait q → Marked s (top + 3 + 6400) (planned (contextOf s) q (plannerIn b))
 unfolding planned stepsOf
 request-marked s top b k h q n = go q n
   where
@@ -324,8 +331,8 @@ wait-timely s b k n = ends-by (word b 752) (plannerIn b .now .0) n (now-is s 999
 
 -- ---- the call
 
-pub calm-plan : (s : Settings) (b : List ℕ) → valid s ≡ true → Bytes b → plannerRight (contextOf s) b ≡ true → isCalm b ≡ true → Ready s 999990000 b
-calm-plan s b v w r c = ready-below s 999999997 999990000 b (ready-call s b v w r) (calm-below b c)
+pub ready-low : (s : Settings) (b : List ℕ) → valid s ≡ true → Bytes b → plannerRight (contextOf s) b ≡ true → (top : ℕ) → Below top b → Ready s top b
+ready-low s b v w r top t = ready-below s 999999997 top b (ready-call s b v w r) t
 
 module _ (s : Settings) (p : PlannerState) (room b1 room1 : List ℕ) (to : ℕ) where
   -- what a request leaves and counts

@@ -14,9 +14,8 @@ ghost use Rattle.spec_plan.specs.Plan.{stateIn, plannedRead, plannedWrite, plan
 ghost use Rattle.spec_plan.specs.Call.{listBytes, timely, unretired};
 ghost use Rattle.spec_plan.specs.Looked.{lookedUpTo, looked};
 ghost use Rattle.spec_plan.specs.PlannerBytes.{plannerBytes, plannerIn, plannerRight};
-ghost use Rattle.plan_bytes.specs.form.Numbers.{word};
+ghost use Rattle.plan_bytes.specs.form.Numbers.{word, Below};
 ghost use Rattle.plan_bytes.specs.form.Drawn.{drafted, Ready, Drawn};
-ghost use Rattle.plan_calm.specs.form.Calm.{isCalm};
 use num::u16_at;
 use num::wide32;
 use plan_bytes::after;
@@ -183,11 +182,11 @@ fn ends_by(b: &[u8], delay: u32) -> bool
     after(b, 752, delay) <= 999999997
 }
 
-// Whether refusal 7 has nothing against a request from a calm state: a wait alone can pass the last instant.
+// Whether refusal 7 has nothing against a request from a state of which no instant is high: a wait alone can pass the last instant.
 pub fn in_time(s: Settings, planner: &[u8], q: Request) -> bool
     requires { ⌜ valid s ≡ true ⌝ }
     requires { ⌜ plannerRight (contextOf s) (now planner) ≡ true ⌝ }
-    requires { ⌜ isCalm (now planner) ≡ true ⌝ }
+    requires { ⌜ Below 999990000 (now planner) ⌝ }
     ensures { λ r. ⌜ r ≡ timely (contextOf s) (planned (contextOf s) q (plannerIn (now (planner .entry)))) ⌝ }
 {
     match q {

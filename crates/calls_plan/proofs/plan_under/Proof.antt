@@ -2,6 +2,7 @@
 use mathlib.Core.Path.{sym, _∙_}
 use borrow.Author.Tests.{not-true, not-false}
 use Rattle.state_bytes.proofs.RightLaws.{planner-length-wrong}
+use Rattle.plan_calm.proofs.CalmLaws.{calm-below}
 use Rattle.calls_plan.proofs.CallLaws.{turned-back}
 use borrow.Author.Needs.{needs}
 use Rattle.calls_plan.proofs.plan_under.Statement.{statement}
@@ -20,7 +21,7 @@ returns-2 c =
 asked-requires : tie.Need-asked-requires
 asked-requires c κs =
     let z = c .before .before .before .before .before .before .before .before .before .before .before in
-    (z .pre, (sym (c .before .before .before .right .ensures) ∙ not-false _ (c .before .before .if2 .left), c .before .before .before .before .before .calm .ensures))
+    (z .pre, (sym (c .before .before .before .right .ensures) ∙ not-false _ (c .before .before .if2 .left), λ e. calm-below _ (sym (c .before .before .before .before .before .calm .ensures) ∙ e)))
 
 returns-3 : tie.Need-returns-3
 returns-3 c = c .before .before .before .before .asked .ensures

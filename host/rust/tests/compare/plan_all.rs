@@ -58,8 +58,9 @@ fn by_singles(case: &Case) -> Want {
     let settings = typed(case.settings).unwrap();
     let mut planner = Planner::from_bytes(case.state.try_into().unwrap());
     in_turn(case, |request, left| {
-        let mut room = vec![0; left];
-        let made = planner.plan_bytes(&settings, request, &mut room);
+        let mut room = [0; ENOUGH];
+        let room = &mut room[..left.min(ENOUGH)];
+        let made = planner.plan_bytes(&settings, request, room);
         let answer = made.map(|made| room[..32 * made.records].to_vec());
         (
             answer.map_err(|refused| refused.number()),
@@ -284,6 +285,31 @@ fn streams() {
         }
     }
     seen.report("streams", &[0, 2, 3, 4, 5, 6, 7, 8, 15]);
+}
+
+/// Files of many requests, from the start, far on, and up to the last instant, beside single calls.
+#[test]
+fn long_files() {
+    let mut seen = Seen::default();
+    let (settings, state) = (bytes(&set_h(2, 4, 0)), fresh());
+    for start in [0, 936_000_000, 999_800_000] {
+        let mut requests = wait(start);
+        for i in 0..80_000 {
+            let (bank, column) = (i / 1000 % 32, i % 4);
+            requests.extend(match i % 7 {
+                6 => write(bank as u8, 0, column as u8, 0xF00F, &[i as u8; 16]),
+                _ => read(bank as u8, 0, column as u8),
+            });
+        }
+        let case = Case {
+            settings: &settings,
+            state: &state,
+            requests: &requests,
+            room: 300_000 * 32,
+        };
+        compare(&mut seen, &case, &by_singles(&case));
+    }
+    seen.report("long files", &[0, 7]);
 }
 
 /// Settings and states with changed bits, and lengths that are not of whole requests: the call is

@@ -1,21 +1,14 @@
 -- `calls_plan::all::plan_at` meets its contract: a plan call on the rest of the room.
 use Prim.Native.Nat.{_*_}
-use Rattle.spec_rules.specs.Neighbour.{contextOf}
-use Rattle.spec_calls.proofs.OneCall.{right-length}
 use Rattle.calls_plan.proofs.AllLaws.{rest-whole, rest-back, request-whole, at-place}
 use borrow.Author.Needs.{needs}
 use Rattle.calls_plan.proofs.all.plan_at.Statement.{statement}
 use Rattle.calls_plan.proofs.all.plan_at.Tie as tie
 
-calm-requires : tie.Need-calm-requires
-calm-requires c κs =
-    let z = c .before .before .before .before in
-    right-length (contextOf (z .args .s)) (z .args .planner .now) (z .pre .1 .0)
-
 returns : tie.Need-returns
 returns c =
     let k = c .before .before .before .before in
-    let a = k .before .before .before .before .before .before .before .before .before .args in
+    let a = k .before .before .before .before .before .before .before .args in
     at-place (a .s) (a .planner .now) (a .requests .now) (a .room .now) (a .place) (a .records) _ _ (request-whole (a .requests .now) (a .place)) (rest-whole (a .room .now) (32 * a .records))
     _ _ _ _ (k .asked .ensures) (rest-back (a .room .now) (32 * a .records) _)
 
@@ -23,7 +16,6 @@ pub plan-at-spec : {M : Type 1} → statement M
 plan-at-spec =
     tie.close
     (tie.spec
-    calm-requires
     (λ c. search needs)
     (λ c. search needs)
     (λ c. search needs)

@@ -9,4 +9,4 @@ returns : tie.Need-returns
 returns c = let a = c .before .before .args in sym (planner-length-wrong (a .s) (a .planner .now) (c .if1 .taken))
 
 pub right-state-spec : {M : Type 1} → statement M
-right-state-spec = tie.close (tie.spec returns (λ c κs. search needs) (λ c κs. search needs) (λ c. search needs))
+right-state-spec = tie.close (tie.spec returns (λ c κs. search needs) (λ c. search needs))

@@ -1,5 +1,4 @@
 -- `calls_plan::ways::served` meets its contract: one of the two ways.
-use mathlib.Core.Path.{sym, _∙_}
 use borrow.Author.Tests.{leb-true}
 use Rattle.spec_rules.proofs.Bools.{and-left, and-right}
 use borrow.Author.Needs.{needs}
@@ -10,7 +9,7 @@ on-lent-requires : tie.Need-on-lent-requires
 on-lent-requires c κs =
     let z = c .before .before .before .before .before in
     let test = c .before .before .if1 .taken in
-    (z .pre .0, (z .pre .1 .0, (sym (z .pre .1 .1 .0) ∙ and-left (z .args .quick) _ test, (z .pre .1 .1 .1, leb-true 1024 _ (and-right (z .args .quick) _ test)))))
+    (z .pre .0, (z .pre .1 .0, (z .pre .1 .1 .0 (and-left (z .args .quick) _ test), (z .pre .1 .1 .1, leb-true 1024 _ (and-right (z .args .quick) _ test)))))
 
 returns : tie.Need-returns
 returns c = c .before .before .before .before .on-lent .ensures
