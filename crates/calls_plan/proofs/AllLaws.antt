@@ -25,16 +25,16 @@ use Rattle.spec_plan.specs.PlannerBytes.{plannerIn, plannerRight}
 use Rattle.spec_plan.specs.Call.{planOutcome}
 use Rattle.spec_plan.proofs.PlannerRoundTrip.{planner-encode-decode}
 use Rattle.plan_bytes.specs.form.Numbers.{word, Below}
-use Rattle.plan_bytes.specs.form.Drawn.{Ready}
-use Rattle.plan_bytes.proofs.ReadyLaws.{readies}
-use Rattle.plan_bytes.proofs.Again.{ready-more}
+use Rattle.plan_bytes.specs.form.Drawn.{Rested}
+use Rattle.plan_bytes.proofs.ReadyLaws.{readies, ready}
+use Rattle.plan_bytes.proofs.Again.{rested-more}
 use Rattle.spec_calls.specs.declared.PlanAnswer.{PlanAnswer}
 use Rattle.spec_calls.specs.declared.PlanAllAnswer.{PlanAllAnswer}
 use Rattle.spec_calls.specs.Plans.{planAnswer, PlanResult, planRefused, planBy, planUnder}
 use Rattle.spec_calls.specs.PlanAll.{PlanAllResult, requestAt, oneMore, inTurn, noneYet}
 use Rattle.spec_calls.proofs.OneCall.{right-length, right-valid, under}
 use Rattle.calls_plan.proofs.CallLaws.{Leaves}
-use Rattle.calls_plan.proofs.HighLaws.{ready-bytes, call-rises}
+use Rattle.calls_plan.proofs.HighLaws.{rested-bytes, call-rises}
 use Rattle.spec_calls.proofs.PlanAllLaws.{size-is, records-within, still-right, leftBy, Reached, reached}
 
 -- ---- a part of the room up to its end
@@ -152,11 +152,11 @@ module _ {s : Settings} {planner₀ requests room₀ : List ℕ} (g : Lent s pla
   records-fit = omega (arith, room-kept, records-within s (g .settings-valid) p room₀ x _ (at .stands), k .records-are)
 
   -- no stored instant is above a bound, or a higher one
-  ready-now : (top : ℕ) → Below top planner → Ready s top planner
-  ready-now top t = ready-bytes s (g .settings-valid) _ (at .stands .planner-valid) planner (k .planner-is ∙ at .stands .planner-is) top t
+  rested-now : (top : ℕ) → Below top planner → Rested s top planner
+  rested-now top t = rested-bytes s (g .settings-valid) _ (at .stands .planner-valid) planner (k .planner-is ∙ at .stands .planner-is) top t
 
   pub low-now : (top : ℕ) → Below top planner → top ≤ 999990000 → Below 999990000 planner
-  low-now top t h = readies s 999990000 planner (ready-more s top 999990000 planner h (ready-now top t)) .below
+  low-now top t h = readies s 999990000 planner (ready s 999990000 planner (rested-more s top 999990000 planner h (rested-now top t))) .below
 
   place-is : x .answer .place ≡ n
   place-is = at .all-planned (k .none-refused)
@@ -189,9 +189,9 @@ module _ {s : Settings} {planner₀ requests room₀ : List ℕ} (g : Lent s pla
         })
 
     -- and how far its stored instants have risen
-    pub more-rises : result .number ≡ 0 → (top : ℕ) → Below top planner → top ≤ 999990000 → Below (max (top + 6400) (word planner₁ 752)) planner₁
+    pub more-rises : result .number ≡ 0 → (top : ℕ) → Below top planner → top ≤ 999990000 → Below (max (top + 9700) (word planner₁ 752)) planner₁
     more-rises e top t h =
-        rw ep (call-rises s planner (drop (32 * records) room) top (ready-now top t) h right-now (requestAt requests n) (Bytes-part requests (24 * n) 24 (g .request-bytes)) (rw er at e))
+        rw ep (call-rises s planner (drop (32 * records) room) top (rested-now top t) h right-now (requestAt requests n) (Bytes-part requests (24 * n) 24 (g .request-bytes)) (rw er at e))
 
     -- a refused one is the last
     pub last-one : result .number ≢ 0 → (a : PlanAllAnswer) → (a .number ≡ result .number) × (a .place ≡ n) × (a .records ≡ records)

@@ -25,6 +25,7 @@ use Rattle.spec_plan.specs.Plan.{Draft, planned}
 use Rattle.spec_plan.specs.Call.{listBytes, timely, outcomeOf, unretired, outcomeBy, planOutcome, isMade, draftBy, planNext, planRecords, planRoom}
 use Rattle.spec_plan.specs.Looked.{looked, lookedBy}
 use Rattle.spec_plan.proofs.Bound.{most-any}
+use Rattle.spec_plan.proofs.Timely.{dataBefore}
 use Rattle.spec_plan.proofs.PlannerRoundTrip.{planner-length}
 use Rattle.plan_bytes.specs.form.Numbers.{word, Tops, Below}
 use Rattle.plan_calm.specs.form.Calm.{isCalm}
@@ -42,9 +43,9 @@ abbrev pub Leaves : PlanResult → PlanAnswer → List ℕ → List ℕ → Type
 Leaves x r after left = (r ≡ x .answer) × ((after ≡ x .planner) × (left ≡ x .room))
 
 -- the instants of a calm state are in range
-pub calm-stored : (b : List ℕ) → isCalm b ≡ true → allStored b 0 160 && allStored b 704 5 ≡ true
+pub calm-stored : (b : List ℕ) → isCalm b ≡ true → allStored b 0 160 && allStored b 704 6 ≡ true
 unfolding Below
-calm-stored b h = rw (all-intro (test 0) 160 banks, all-intro (test 704) 5 lasts)
+calm-stored b h = rw (all-intro (test 0) 160 banks, all-intro (test 704) 6 lasts)
   where
     t : Tops 999990000 b
     t = calm-below b h
@@ -58,13 +59,14 @@ calm-stored b h = rw (all-intro (test 0) 160 banks, all-intro (test 704) 5 lasts
     banks : (k : ℕ) → k < 160 → test 0 k ≡ true
     banks k l = let e : 0 + 4 * k ≡ 4 * k = omega arith in rw e (low (word b (4 * k)) (t .banks k l))
 
-    lasts : (k : ℕ) → k < 5 → test 704 k ≡ true
+    lasts : (k : ℕ) → k < 6 → test 704 k ≡ true
     lasts zero l = low (word b 704) (t .packet)
     lasts (suc zero) l = low (word b 708) (t .row)
     lasts (suc (suc zero)) l = low (word b 712) (t .col)
     lasts (suc (suc (suc zero))) l = low (word b 716) (t .pre)
     lasts (suc (suc (suc (suc zero)))) l = low (word b 720) (t .rd)
-    lasts (suc (suc (suc (suc (suc k))))) l = absurd (omega arith)
+    lasts (suc (suc (suc (suc (suc zero))))) l = low (word b 724) (t .implied)
+    lasts (suc (suc (suc (suc (suc (suc k)))))) l = absurd (omega arith)
 
 module _ (s : Settings) (planner : List ℕ) where
   module _ (request room : List ℕ) where
@@ -96,12 +98,12 @@ module _ (s : Settings) (planner : List ℕ) where
   not-retired q room u r a = rw u (a, (refl, refl))
 
   module _ (q : Request) (room : List ℕ) (h : plannerRight (contextOf s) planner ≡ true) (u : unretired q (plannerIn planner) ≡ false) where
-    pub late : timely (contextOf s) (planned (contextOf s) q (plannerIn planner)) ≡ false → (r : PlanAnswer) → r ≡ planAnswer 0 (Refused refusal.Horizon)
+    pub late : timely (contextOf s) (plannerIn planner) (planned (contextOf s) q (plannerIn planner)) ≡ false → (r : PlanAnswer) → r ≡ planAnswer 0 (Refused refusal.Horizon)
         → Leaves (served (contextOf s) planner (Accepted q) room) r planner room
     unfolding served outcomeBy outcomeOf
     late t r a = rw (u, t) (a, (refl, refl))
 
-    pub in-time : 32 * length (planned (contextOf s) q (plannerIn planner) .records) ≤ length room → timely (contextOf s) (planned (contextOf s) q (plannerIn planner)) ≡ true → (n : ℕ)
+    pub in-time : 32 * length (planned (contextOf s) q (plannerIn planner) .records) ≤ length room → timely (contextOf s) (plannerIn planner) (planned (contextOf s) q (plannerIn planner)) ≡ true → (n : ℕ)
         → n ≡ length (planned (contextOf s) q (plannerIn planner) .records) → (banks : ℕ) → banks ≡ looked q (plannerIn planner) → (r : PlanAnswer) → r ≡ planAnswer banks (Made n) → (after left : List ℕ)
         → after ≡ plannerBytes (planned (contextOf s) q (plannerIn planner) .planner)
         → left ≡ splice room 0 (listBytes s (planned (contextOf s) q (plannerIn planner) .records))
@@ -115,7 +117,7 @@ module _ (s : Settings) (planner : List ℕ) where
     pub enough : (list : List ℕ) → 1024 ≤ length list → 32 * length (planned (contextOf s) q (plannerIn planner) .records) ≤ length list
     enough list l = omega (arith, most-any s (plannerIn planner) (right-valid (contextOf s) planner h) q u)
 
-    pub full : timely (contextOf s) (planned (contextOf s) q (plannerIn planner)) ≡ true → length room / 32 < length (planned (contextOf s) q (plannerIn planner) .records)
+    pub full : timely (contextOf s) (plannerIn planner) (planned (contextOf s) q (plannerIn planner)) ≡ true → length room / 32 < length (planned (contextOf s) q (plannerIn planner) .records)
         → (r : PlanAnswer) → r ≡ planAnswer 0 (Refused refusal.Full) → Leaves (served (contextOf s) planner (Accepted q) room) r planner room
     unfolding served outcomeBy outcomeOf
     full t l r a = rw (u, t, lt-leb (length (planned (contextOf s) q (plannerIn planner) .records)) (length room / 32) l) (a, (refl, refl))
@@ -128,6 +130,9 @@ module _ (s : Settings) (planner : List ℕ) where
 
       pub copy-right : plannerRight (contextOf s) copy ≡ true
       copy-right = rw copied h
+
+      pub copy-due : (due : ℕ) → due ≡ dataBefore (contextOf s) q (plannerIn copy) → due ≡ dataBefore (contextOf s) q (plannerIn planner)
+      copy-due due e = rw copied at e
 
       pub copy-granted : unretired q (plannerIn copy) ≡ false
       copy-granted = rw copied u
@@ -159,11 +164,11 @@ module _ (s : Settings) (planner : List ℕ) where
         pub next-room : 0 + length next ≤ length planner
         next-room = omega (arith, ap length next-is, planner-length (d .planner), right-length (contextOf s) planner h)
 
-        pub tried-full : timely (contextOf s) d ≡ true → length room / 32 < n → (r : PlanAnswer) → r ≡ planAnswer 0 (Refused refusal.Full)
+        pub tried-full : timely (contextOf s) (plannerIn planner) d ≡ true → length room / 32 < n → (r : PlanAnswer) → r ≡ planAnswer 0 (Refused refusal.Full)
             → Leaves (served (contextOf s) planner (Accepted q) room) r planner room
         tried-full t l = full t (rw count-is at l)
 
-        pub tried-made : timely (contextOf s) d ≡ true → n ≤ length room / 32 → (banks : ℕ) → banks ≡ looked q (plannerIn copy) → (r : PlanAnswer) → r ≡ planAnswer banks (Made n) → (after left : List ℕ)
+        pub tried-made : timely (contextOf s) (plannerIn planner) d ≡ true → n ≤ length room / 32 → (banks : ℕ) → banks ≡ looked q (plannerIn copy) → (r : PlanAnswer) → r ≡ planAnswer banks (Made n) → (after left : List ℕ)
             → after ≡ splice planner 0 next → left ≡ splice room 0 (part made 0 (32 * n)) → Leaves (served (contextOf s) planner (Accepted q) room) r after left
         tried-made t l banks eb r a after left ea el =
             let whole : part made 0 (32 * n) ≡ listBytes s (d .records) = ap (λ (v : List ℕ). part v 0 (32 * n)) made-is ∙ part-splice list 0 (listBytes s (d .records)) (32 * n) bytes-are (omega arith) in

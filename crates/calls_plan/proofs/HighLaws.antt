@@ -29,38 +29,41 @@ use Rattle.spec_plan.specs.PlannerBytes.{plannerBytes, plannerIn, plannerRight}
 use Rattle.spec_plan.specs.Plan.{Draft, planned}
 use Rattle.spec_plan.specs.Call.{timely, outcomeOf, unretired, outcomeBy, draftBy}
 use Rattle.spec_plan.specs.Looked.{lookedBy}
-use Rattle.spec_plan.proofs.Invariant.{valid-inv}
+use Rattle.spec_plan.proofs.Invariant.{valid-inv, valid-plain}
 use Rattle.spec_plan.proofs.PlannerRoundTrip.{planner-decode-encode}
 use Rattle.plan_bytes.specs.form.Numbers.{word, Below}
-use Rattle.plan_bytes.specs.form.Drawn.{Ready}
+use Rattle.plan_bytes.specs.form.Drawn.{Ready, Rested}
 use Rattle.plan_in_place.proofs.Risen.{rises}
 use Rattle.spec_calls.specs.Plans.{planAnswer, PlanResult, planUnder}
 use Rattle.calls_plan.specs.form.Served.{servedBy, served}
 use Rattle.calls_plan.proofs.CallLaws.{by-request}
 
 -- the bytes of a planner that is not refused
-pub ready-bytes : (s : Settings) → valid s ≡ true → (q : PlannerState) → plannerValid (contextOf s) q ≡ true → (b : List ℕ) → b ≡ plannerBytes q → (top : ℕ) → Below top b → Ready s top b
-unfolding Ready contextOf plannerValid
-ready-bytes s v q k b e top t =
+pub rested-bytes : (s : Settings) → valid s ≡ true → (q : PlannerState) → plannerValid (contextOf s) q ≡ true → (b : List ℕ) → b ≡ plannerBytes q → (top : ℕ) → Below top b → Rested s top b
+unfolding Rested Ready contextOf plannerValid
+rested-bytes s v q k b e top t =
     let back : plannerIn b ≡ q = ap plannerIn e ∙ planner-decode-encode (contextOf s) v q k in
     record {
-      figures = v;
-      exact = ap plannerBytes back ∙ sym e;
-      inv = rw back (valid-inv (contextOf s) q k);
-      instants = rw back (valid-kept (contextOf s) (q .channel) (and-left (channelValid (contextOf s) (q .channel)) _ k) .instants);
-      below = t;
+      ready = record {
+        figures = v;
+        exact = ap plannerBytes back ∙ sym e;
+        inv = rw back (valid-inv (contextOf s) q k);
+        instants = rw back (valid-kept (contextOf s) (q .channel) (and-left (channelValid (contextOf s) (q .channel)) _ k) .instants);
+        below = t;
+      };
+      plain = rw back (valid-plain (contextOf s) q k);
     }
 
-module _ (s : Settings) (planner room : List ℕ) (top : ℕ) (k : Ready s top planner) (l : top ≤ 999990000) where
+module _ (s : Settings) (planner room : List ℕ) (top : ℕ) (k : Rested s top planner) (l : top ≤ 999990000) where
   -- what is claimed of a result
   abbrev Rises : PlanResult → Type 0
-  Rises x = x .answer .number ≡ 0 → Below (max (top + 6400) (word (x .planner) 752)) (x .planner)
+  Rises x = x .answer .number ≡ 0 → Below (max (top + 9700) (word (x .planner) 752)) (x .planner)
 
   -- of what a request says, where it is in range
   said-rises : (x : RequestRead) → ((q : Request) → x ≡ Accepted q → InRange s q) → Rises (served (contextOf s) planner x room)
   unfolding served outcomeBy outcomeOf draftBy planAnswer
   said-rises (RefusedRequest why) i = λ n. absurd (refused-number why n)
-  said-rises (Accepted q) i = go (unretired q (plannerIn planner)) (timely (contextOf s) d) (leb (length (d .records)) (length room / 32)) refl
+  said-rises (Accepted q) i = go (unretired q (plannerIn planner)) (timely (contextOf s) (plannerIn planner) d) (leb (length (d .records)) (length room / 32)) refl
     where
       d : Draft
       d = planned (contextOf s) q (plannerIn planner)
@@ -68,7 +71,7 @@ module _ (s : Settings) (planner room : List ℕ) (top : ℕ) (k : Ready s top p
       banks : ℕ
       banks = lookedBy (plannerIn planner) (Accepted q)
 
-      go : (u t f : Bool) → timely (contextOf s) d ≡ t
+      go : (u t f : Bool) → timely (contextOf s) (plannerIn planner) d ≡ t
           → Rises (servedBy (contextOf s) planner banks d room (cond u (Refused refusal.Unretired) (cond t (cond f (Made (length (d .records))) (Refused refusal.Full)) (Refused refusal.Horizon))))
       go true t f e n = absurd (refused-number refusal.Unretired n)
       go false true true e n = rises s top planner k l q (i q refl) e (plannerBytes (d .planner)) refl

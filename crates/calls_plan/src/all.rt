@@ -59,14 +59,14 @@ fn planned_to(number: u32, place: usize, records: usize) -> PlanAllAnswer
     }
 }
 
-// A bound of the stored instants after a request that was planned, by one before it: it adds at most 6,400, or it leaves this now.
+// A bound of the stored instants after a request that was planned, by one before it: it adds at most 9,700, or it leaves this now.
 fn risen(planner: &[u8], top: u32) -> u32
     requires { ⌜ length (now planner) ≡ 768 ⌝ }
-    requires { ⌜ (top ≤ 999990000 → Below (max (top + 6400) (word (now planner) 752)) (now planner)) ⌝ }
+    requires { ⌜ (top ≤ 999990000 → Below (max (top + 9700) (word (now planner) 752)) (now planner)) ⌝ }
     ensures { λ r. ⌜ Below r (now (planner .entry)) ⌝ }
 {
     if top <= 999990000 {
-        return latest(top + 6400, u32_at(planner, 752));
+        return latest(top + 9700, u32_at(planner, 752));
     }
     highest(planner)
 }

@@ -97,7 +97,7 @@ fn tried(
     put_bytes(state, 0, planner);
     let made = plan(s, state, q, list);
     let n = made.records;
-    if !left_in_time(s, planner, q, state) {
+    if !left_in_time(s, planner, q, state, made.due) {
         return answer(Outcome::Refused(Refusal::Horizon), 0);
     }
     if room.len() / 32 < n {

@@ -1,8 +1,8 @@
--- The tests on what one record concerns are the sixteen tests on the channel.
+-- The tests on what one record concerns are the seventeen tests on the channel.
 -- Assumes nothing.
 use Prim.Native.Nat.{ℕ, _+_, _-_}
 use mathlib.Core.Path.{_≡_, refl, ap, ap₂, _∙_, sym}
-use mathlib.Core.Bool.{Bool, true, false, not, _&&_, _||_, cond, and-true, and-false, and-assoc}
+use mathlib.Core.Bool.{Bool, true, false, not, _&&_, _||_, cond, and-true, or-true}
 use mathlib.Core.List.{List, [], _∷_}
 use mathlib.Core.Option.{Option, some}
 use native.Mathlib.Nat.{add-zero}
@@ -10,40 +10,42 @@ use native.Mathlib.Omega.{arith}
 use borrow.Author.Tests.{eqb-true}
 use lib.Dec.{eqb, leb}
 use lib.ListN.{length}
-use Rattle.num.specs.Search.{allUpTo}
 use Rattle.settings.specs.declared.Settings.{Settings}
 use Rattle.settings.specs.declared.DataAt.{DataAt}
 use Rattle.settings.specs.Instants.{horizon, isInstant}
 use Rattle.record.specs.declared.Record.{Record}
 use Rattle.record.specs.declared.Record.the-variants.{RowAt, ColAt, DataOf}
 use Rattle.record.specs.declared.Dualoct.{Dualoct}
-use Rattle.spec_rules.specs.declared.Bank.{Bank}
 use Rattle.spec_rules.specs.declared.BankTrack.{BankTrack}
 use Rattle.spec_rules.specs.declared.LastInstants.{LastInstants}
 use Rattle.spec_rules.specs.declared.Write.{Write}
 use Rattle.spec_rules.specs.declared.Channel.{Channel}
-use Rattle.spec_rules.specs.Neighbour.{bankCount, contextOf, near}
+use Rattle.spec_rules.specs.Neighbour.{bankCount, contextOf}
 use Rattle.spec_rules.specs.Packets.{Traits, traits, instant, isPacket}
-use Rattle.spec_rules.specs.History.{isClosed, isOpen, leaving, bankOf, only, anyWrite, deeds, reaches, closes, has}
+use Rattle.spec_rules.specs.History.{isClosed, isOpen, leaving, left, bankOf, only, anyWrite, retireImplies, deeds, has}
 use Rattle.spec_rules.specs.Distances.{ROW, COL, ACT, onlyACT, PRER, RD, retire, bankAs, distances}
-use Rattle.spec_rules.specs.Rules.{freeFor, openFor, dataDelay, stays, dataInPlace}
+use Rattle.spec_rules.specs.Rules.{freeFor, openFor, longestDelay, impliedDelay, stays, allLoseNone, fitsBetween, dataInPlace}
 use Rattle.spec_rules.specs.Broken.{lowest}
 use Rattle.spec_rules.specs.Channel.{trackOf, stateOf, waitingOf, dueOf, leavingOf}
-use Rattle.spec_rules.specs.Checks.{since, boundOf, checkOf, checks, judged}
+use Rattle.spec_rules.specs.Checks.{since, boundOf, checkOf, thenState, checks, judged}
 use Rattle.spec_rules.proofs.TrackLaws.{packet-pins}
-use Rattle.spec_rules.proofs.ByRule.{actBound, check1, check2, check3, check5, check6, check7, check8, check10, check11, check13}
+use Rattle.spec_rules.proofs.ByRule.{actBound, check1, check2, check3, check5, check6, check7, check8, check10, check11, check13, check17}
 use Rattle.chan_view.specs.declared.View.{View}
 use Rattle.chan_view.specs.declared.Held.{Held}
 use Rattle.chan_view.specs.declared.Tracks.{Tracks}
 use Rattle.chan_view.specs.declared.Seen.the-variants.{Packet, Data}
-use Rattle.chan_view.specs.form.Beside.{tracksOf}
-use Rattle.chan_view.specs.form.Bounds.{boundIf}
-use Rattle.chan_view.specs.form.View.{seenOf, heldOf, leaves, staysBy, delayOf}
+use Rattle.chan_view.specs.form.Beside.{lowOf, highOf, tracksOf}
+use Rattle.chan_view.specs.form.Bounds.{boundIf, three}
+use Rattle.chan_view.specs.form.View.{seenOf, heldOf, leaves, leavesClosing, centreOf}
 use Rattle.chan_view.proofs.NearLaws.{near-all}
 use Rattle.chan_view.proofs.PlaceLaws.{past, readAround, around-is}
 use Rattle.chan_view.proofs.BoundLaws.{near-bound, own-bound}
-use Rattle.chan_view.proofs.ViewLaws.{Shows, seen-shows, leaving-bank, stays-is, held-due, held-any}
-use Rattle.chan_judge.specs.form.Tests.{actOver, dataInTime, kept, test1, test4, test6, test7, test9, test10, test11, test12, test13, spared, test14, pinTests, rowTests, colTests, bufferTests, packetRule, dataRule}
+use Rattle.chan_view.proofs.ViewLaws.{Shows, seen-shows, leaving-bank, leaving-closes, left-closing, opens-centre, stays-is, held-due}
+use Rattle.chan_judge.specs.declared.Precharge.{Precharge}
+use Rattle.chan_judge.specs.form.Tests.{actOver, dataInTime, kept, prerOf, prerKept, test1, test4, test6, test7, namedOpen, test9, test10, test11, test12, test13, test14, test17, pinTests, rowTests, colTests, bufferTests, packetRule, dataRule}
+use Rattle.chan_judge.proofs.ArrivalLaws.{in-time}
+use Rattle.chan_judge.proofs.FlagLaws.{bound-only, open-only, has-only, open-after, free-only, safe-none}
+use Rattle.chan_judge.proofs.PrerLaws.{prer-bound, last-of, around-of, prer-safe}
 
 -- ---- tests and instants
 
@@ -60,71 +62,27 @@ since-zero n = go (eqb n 0) refl
     go true e = omega (arith, eqb-true)
     go false e = add-zero n
 
--- an instant in range needs no second look
-twice : (a b : Bool) → ((a && b) && b) ≡ ((a && b) && true)
-twice true true = refl
-twice true false = refl
-twice false b = refl
-
-in-time : (s : Settings) (v : View) → (isInstant (v .at .0) && leb (v .at .0 + delayOf s v) horizon) ≡ (isInstant (v .at .0) && dataInTime s v)
-in-time s v = go (v .reads) (v .writes)
-  where
-    go : (reads writes : Bool)
-        → (isInstant (v .at .0) && leb (v .at .0 + cond reads (s .cac) (cond writes (s .cwd) 0)) horizon)
-        ≡ (isInstant (v .at .0) && cond reads (leb (v .at .0 + s .cac) horizon) (cond writes (leb (v .at .0 + s .cwd) horizon) true))
-    go true writes = refl
-    go false true = refl
-    go false false = rw (add-zero (v .at .0)) (twice (leb 4 (v .at .0)) (leb (v .at .0) horizon))
-
--- ---- a bank where a flag says so
-
-bound-only : (t : Bool) (b : ℕ) (f : ℕ → ℕ) → boundOf (only t (some b)) f ≡ boundIf t (f b)
-bound-only true b f = refl
-bound-only false b f = refl
-
-open-only : (t : Bool) (b : ℕ) (state : ℕ → Bank) → openFor state (only t (some b)) ≡ (not t || isOpen (state b))
-open-only true b state = refl
-open-only false b state = refl
-
-has-only : (t : Bool) (b : ℕ) → has (only t (some b)) ≡ t
-has-only true b = refl
-has-only false b = refl
-
-module _ (s : Settings) where
-  free-only : (t : Bool) (b : ℕ) (state : ℕ → Bank)
-      → freeFor (contextOf s) state (only t (some b)) ≡ (not t || allUpTo (λ x. not (near (contextOf s) b x) || isClosed (state x)) 32)
-  unfolding bankCount
-  free-only true b state = refl
-  free-only false b state = refl
-
-  safe-only : (w p : Bool) (b x : ℕ) (closed : Bool)
-      → not (w && (reaches (contextOf s) (only p (some b)) x && not closed)) ≡ (not (w && (p && near (contextOf s) b x)) || closed)
-  safe-only false p b x closed = refl
-  safe-only true false b x closed = refl
-  safe-only true true b x closed = go (near (contextOf s) b x) closed
-    where
-      go : (n c : Bool) → not (n && not c) ≡ (not n || c)
-      go false c = refl
-      go true true = refl
-      go true false = refl
-
 -- ---- a packet
 
 module _ (s : Settings) (ch : Channel) (r : Record) (v : View) (w : Shows r v) (e : length (ch .banks) ≡ 32) where
   abbrev held : Held
   held = heldOf (ch .buffer) (ch .due)
 
-  abbrev around : Tracks
-  around = tracksOf s (ch .banks) (v .bank) held
-
   abbrev out : Bool
   out = leaves s held v
 
+  -- the bank of its PRER
+  abbrev centre : ℕ
+  centre = centreOf s held v
+
+  abbrev around : Tracks
+  around = tracksOf s (ch .banks) (v .bank) centre held
+
+  abbrev prer : Precharge
+  prer = prerOf s v held out around
+
   opens-of : traits r .opens ≡ only (v .opens) (some (v .bank))
   opens-of = ap (λ (k : Traits). k .opens) (w .traits-of)
-
-  precharges-of : traits r .precharges ≡ only (v .precharges) (some (v .bank))
-  precharges-of = ap (λ (k : Traits). k .precharges) (w .traits-of)
 
   reads-of : traits r .reads ≡ only (v .reads) (some (v .bank))
   reads-of = ap (λ (k : Traits). k .reads) (w .traits-of)
@@ -139,17 +97,36 @@ module _ (s : Settings) (ch : Channel) (r : Record) (v : View) (w : Shows r v) (
   kept-of : {o : Option ℕ} (c : Bool) (b : ℕ) → o ≡ only c (some b) → (f : ℕ → ℕ) (n : ℕ) → f b ≡ n → leb (boundOf o f) (instant r) ≡ kept v c n
   kept-of c b q f n p = rw (q, w .instant-of) (ap (λ (x : ℕ). leb x (v .at .0)) (bound-only c b f ∙ ap (boundIf c) p))
 
+  -- what is asked of an ACT may be asked of the bank in the middle
+  opens-same : {A : Type 0} (f : Bool → ℕ → A) → ((x y : ℕ) → f false x ≡ f false y) → f (v .opens) (v .bank) ≡ f (v .opens) centre
+  opens-same f fails = go (v .opens) refl
+    where
+      go : (c : Bool) → v .opens ≡ c → f c (v .bank) ≡ f c centre
+      go true q = rw (opens-centre s (ch .buffer) (ch .due) r v w q)
+      go false q = fails (v .bank) centre
+
   open-of : {o : Option ℕ} (c : Bool) (b : ℕ) → o ≡ only c (some b) → openFor (stateOf ch) o ≡ (not c || isOpen (stateOf ch b))
   open-of c b q = rw q (open-only c b (stateOf ch))
 
-  is1 : ((isInstant (instant r) && leb (instant r + dataDelay (contextOf s) r) horizon) && checkOf (contextOf s) ch r 1) ≡ test1 s v (ch .lasts .packet .0)
-  is1 = ap₂ _&&_ range order ∙ and-assoc (isInstant (v .at .0)) (dataInTime s v) (leb (ch .lasts .packet .0) (v .at .0))
+  is1 : ((isInstant (instant r) && (leb (instant r + longestDelay (contextOf s) r) horizon && leb (instant r + impliedDelay (contextOf s) (leavingOf (contextOf s) ch r)) horizon)) && checkOf (contextOf s) ch r 1)
+      ≡ test1 s v (prer .at) (ch .lasts .packet .0)
+  unfolding prerOf contextOf
+  is1 = ap₂ _&&_ range order ∙ regroup (isInstant (v .at .0)) (dataInTime s v) (leb (prer .at) horizon) (leb (ch .lasts .packet .0) (v .at .0))
     where
-      range : (isInstant (instant r) && leb (instant r + dataDelay (contextOf s) r) horizon) ≡ (isInstant (v .at .0) && dataInTime s v)
-      range = rw (w .instant-of, w .delay-of s) (in-time s v)
+      implied : has (retireImplies (leavingOf (contextOf s) ch r)) ≡ leavesClosing s held v
+      implied = ap has (leaving-closes s (ch .buffer) (ch .due) r v w) ∙ has-only (leavesClosing s held v) (held .bank)
+
+      range : (isInstant (instant r) && (leb (instant r + longestDelay (contextOf s) r) horizon && leb (instant r + impliedDelay (contextOf s) (leavingOf (contextOf s) ch r)) horizon))
+          ≡ (isInstant (v .at .0) && (dataInTime s v && leb (prer .at) horizon))
+      range = rw (w .instant-of, w .delay-of s, implied) (in-time s v (leavesClosing s held v))
 
       order : checkOf (contextOf s) ch r 1 ≡ leb (ch .lasts .packet .0) (v .at .0)
       order = check1 (contextOf s) ch r ∙ rw (packet-pins r (w .packet-of) .0, w .instant-of, since-zero (ch .lasts .packet .0))
+
+      regroup : (a b c d : Bool) → ((a && (b && c)) && d) ≡ (a && (b && (c && d)))
+      regroup true true c d = refl
+      regroup true false c d = refl
+      regroup false b c d = refl
 
   is2 : checkOf (contextOf s) ch r 2 ≡ kept v (v .row) (since (ch .lasts .row .0) 4)
   is2 = check2 (contextOf s) ch r ∙ kept-of (v .row) 0 (ap (bankAs ROW) (w .traits-of)) _ _ refl
@@ -164,25 +141,36 @@ module _ (s : Settings) (ch : Channel) (r : Record) (v : View) (w : Shows r v) (
       ap (freeFor (contextOf s) (stateOf ch)) opens-of
       ∙ free-only s (v .opens) (v .bank) (stateOf ch)
       ∙ ap (λ (c : Bool). not (v .opens) || c) (near-all (λ x. isClosed (stateOf ch x)) (λ x h. ap (λ (k : BankTrack). isClosed (k .bank)) (past (ch .banks) e x h)) s (v .bank))
+      ∙ opens-same (λ c x. not c || (isClosed (stateOf ch (v .bank)) && (isClosed (stateOf ch (lowOf s x)) && isClosed (stateOf ch (highOf s x))))) (λ x y. refl)
 
   is5 : checkOf (contextOf s) ch r 5 ≡ kept v (v .opens) (actOver s (ch .banks) (v .bank))
   unfolding contextOf actOver bankCount
   is5 = check5 (contextOf s) ch r ∙ kept-of (v .opens) (v .bank) opens-of (actBound (contextOf s) ch) _ refl
 
-  is6 : checkOf (contextOf s) ch r 6 ≡ test6 s v around
-  unfolding contextOf
-  is6 = check6 (contextOf s) ch r ∙ kept-of (v .precharges) (v .bank) precharges-of _ _ (near-bound s ch e ACT (s .ras) (v .bank))
+  is6 : checkOf (contextOf s) ch r 6 ≡ test6 s prer around
+  unfolding contextOf prerOf
+  is6 = check6 (contextOf s) ch r ∙ prer-bound s ch r v w e _ _ (around-of s ch r v w e ACT (s .ras) _ (last-of s ch r v w e (λ k. k .opened)))
 
   is7 : checkOf (contextOf s) ch r 7 ≡ test7 s v around
   unfolding contextOf
-  is7 = check7 (contextOf s) ch r ∙ kept-of (v .opens) (v .bank) opens-of _ _ (near-bound s ch e PRER (s .rp) (v .bank))
+  is7 =
+      check7 (contextOf s) ch r
+      ∙ kept-of (v .opens) (v .bank) opens-of _ _ (near-bound s ch e PRER (s .rp) (v .bank))
+      ∙ opens-same (λ c x. kept v c (three (trackOf ch (v .bank) .pre .0) (trackOf ch (lowOf s x) .pre .0) (trackOf ch (highOf s x) .pre .0) (s .rp))) (λ x y. refl)
 
-  is8 : checkOf (contextOf s) ch r 8 ≡ kept v (v .precharges) (since (ch .lasts .pre .0) (s .pp))
+  is8 : checkOf (contextOf s) ch r 8 ≡ prerKept prer (since (ch .lasts .pre .0) (s .pp))
   unfolding contextOf
-  is8 = check8 (contextOf s) ch r ∙ kept-of (v .precharges) (v .bank) precharges-of _ _ refl
+  is8 = check8 (contextOf s) ch r ∙ prer-bound s ch r v w e (λ b. since (ch .lasts .pre .0) (s .pp)) _ refl
 
-  is9 : (openFor (stateOf ch) (traits r .reads) && (openFor (stateOf ch) (traits r .writes) && openFor (stateOf ch) (bankOf (leavingOf (contextOf s) ch r)))) ≡ test9 v out around
-  is9 = ap₂ _&&_ (open-of (v .reads) (v .bank) reads-of) (ap₂ _&&_ (open-of (v .writes) (v .bank) writes-of) (open-of out (held .bank) out-of))
+  -- the bank that it names, once the write has left
+  named-of : isOpen (thenState (contextOf s) ch r (v .bank)) ≡ namedOpen s v held out around
+  named-of = rw (leaving-closes s (ch .buffer) (ch .due) r v w) (open-after s (leavesClosing s held v) (held .bank) (v .bank) (stateOf ch (v .bank)))
+
+  then-of : {o : Option ℕ} (c : Bool) → o ≡ only c (some (v .bank)) → openFor (thenState (contextOf s) ch r) o ≡ (not c || namedOpen s v held out around)
+  then-of c q = rw q (open-only c (v .bank) (thenState (contextOf s) ch r) ∙ ap (λ (x : Bool). not c || x) named-of)
+
+  is9 : (openFor (thenState (contextOf s) ch r) (traits r .reads) && (openFor (thenState (contextOf s) ch r) (traits r .writes) && openFor (stateOf ch) (bankOf (leavingOf (contextOf s) ch r)))) ≡ test9 s v held out around
+  is9 = ap₂ _&&_ (then-of (v .reads) reads-of) (ap₂ _&&_ (then-of (v .writes) writes-of) (open-of out (held .bank) out-of))
 
   is10 : checkOf (contextOf s) ch r 10 ≡ test10 s v out around
   unfolding contextOf
@@ -199,27 +187,12 @@ module _ (s : Settings) (ch : Channel) (r : Record) (v : View) (w : Shows r v) (
   is12 : (has (bankOf (leavingOf (contextOf s) ch r)) || stays (waitingOf (ch .buffer)) (traits r)) ≡ test12 v out held
   is12 = ap₂ _||_ (ap has out-of ∙ has-only out (held .bank)) (stays-is s (ch .buffer) (ch .due) r v w)
 
-  is13 : checkOf (contextOf s) ch r 13 ≡ test13 s v around
-  unfolding contextOf
-  is13 =
-      check13 (contextOf s) ch r
-      ∙ ap₂ _&&_ (kept-of (v .precharges) (v .bank) precharges-of _ _ (near-bound s ch e RD (s .rdp) (v .bank)))
-      (kept-of (v .precharges) (v .bank) precharges-of _ _ (near-bound s ch e retire (s .rtp) (v .bank)))
+  is13 : checkOf (contextOf s) ch r 13 ≡ test13 s prer around
+  unfolding contextOf prerOf
+  is13 = check13 (contextOf s) ch r ∙ ap₂ _&&_ (prer-bound s ch r v w e _ _ (around-of s ch r v w e RD (s .rdp) _ (last-of s ch r v w e (λ k. k .rd)))) (prer-bound s ch r v w e _ _ (around-of s ch r v w e retire (s .rtp) _ (last-of s ch r v w e (λ k. k .retire))))
 
-  is14 : not (anyWrite (λ x. closes (contextOf s) (stateOf ch) r (x .bank)) (waitingOf (ch .buffer))) ≡ test14 s v held around
-  is14 =
-      ap not (held-any (ch .buffer) (ch .due) (closes (contextOf s) (stateOf ch) r))
-      ∙ neither-of (held .waits && closes (contextOf s) (stateOf ch) r (held .bank)) (held .two && closes (contextOf s) (stateOf ch) r (held .next))
-      ∙ ap₂ _&&_ (spared-of (held .waits) (held .bank)) (spared-of (held .two) (held .next))
-    where
-      neither-of : (a b : Bool) → not (a || b) ≡ (not a && not b)
-      neither-of true b = refl
-      neither-of false b = refl
-
-      spared-of : (waits : Bool) (x : ℕ) → not (waits && closes (contextOf s) (stateOf ch) r x) ≡ spared s v waits x (trackOf ch x)
-      spared-of waits x =
-          ap (λ (o : Option ℕ). not (waits && (reaches (contextOf s) o x && not (isClosed (stateOf ch x))))) precharges-of
-          ∙ safe-only s waits (v .precharges) (v .bank) x (isClosed (stateOf ch x))
+  is14 : allLoseNone (contextOf s) (stateOf ch) (waitingOf (ch .buffer)) r ≡ test14 s prer held out around
+  is14 = prer-safe s ch r v w e
 
   is15 : dataInPlace (dueOf (contextOf s) ch) r ≡ not (held .due)
   is15 = rw (held-due s ch) (go (held .due))
@@ -231,12 +204,18 @@ module _ (s : Settings) (ch : Channel) (r : Record) (v : View) (w : Shows r v) (
   is16 : (not (traits r .masked) || has (bankOf (leavingOf (contextOf s) ch r))) ≡ (not (v .masked) || out)
   is16 = ap₂ (λ a b. not a || b) (ap (λ (k : Traits). k .masked) (w .traits-of)) (ap has out-of ∙ has-only out (held .bank))
 
-  -- the lowest rule that is found is the one that the sixteen tests find
+  is17 : (fitsBetween (contextOf s) (waitingOf (ch .buffer)) r && checkOf (contextOf s) ch r 17) ≡ test17 v held out (ch .lasts .implied .0)
+  is17 =
+      ap₂ _&&_
+      (ap₂ (λ a b. not a || not b) (left-closing s (ch .buffer) (ch .due) r v w) (ap₂ _||_ (ap (λ (k : Traits). k .row) (w .traits-of)) (ap has writes-of ∙ has-only (v .writes) (v .bank))))
+      (check17 (contextOf s) ch r ∙ kept-of (v .row) 0 (ap (bankAs ROW) (w .traits-of)) _ _ refl)
+
+  -- the lowest rule that is found is the one that the seventeen tests find
   packet-judged : judged (contextOf s) ch r ≡ packetRule s v held around (actOver s (ch .banks) (v .bank)) (ch .lasts)
   unfolding judged checks packetRule pinTests rowTests colTests bufferTests
   packet-judged =
       ap (lowest 1)
-      (cons-same is1 (cons-same is2 (cons-same is3 (cons-same is4 (cons-same is5 (cons-same is6 (cons-same is7 (cons-same is8 (cons-same is9 (cons-same is10 (cons-same is11 (cons-same is12 (cons-same is13 (cons-same is14 (cons-same is15 (cons-same is16 no-more))))))))))))))))
+      (cons-same is1 (cons-same is2 (cons-same is3 (cons-same is4 (cons-same is5 (cons-same is6 (cons-same is7 (cons-same is8 (cons-same is9 (cons-same is10 (cons-same is11 (cons-same is12 (cons-same is13 (cons-same is14 (cons-same is15 (cons-same is16 (cons-same is17 no-more)))))))))))))))))
 
 -- rule 5's bound is not asked of a packet that opens no bank
 act-unused : (s : Settings) (v : View) (h : Held) (k : Tracks) (l : LastInstants) (a b : ℕ) → v .opens ≡ false → packetRule s v h k a l ≡ packetRule s v h k b l
@@ -249,28 +228,34 @@ module _ (s : Settings) (v : View) (h : Held) (l : List BankTrack) (e : length l
   abbrev ruleBy : Tracks → ℕ → ℕ
   ruleBy k act = packetRule s v h k act lasts
 
-  pub rule-read : ruleBy (readAround l e s (v .bank) h) (actOver s l (v .bank)) ≡ ruleBy (tracksOf s l (v .bank) h) (actOver s l (v .bank))
-  rule-read = ap (λ (k : Tracks). ruleBy k (actOver s l (v .bank))) (around-is l e s (v .bank) h)
+  pub rule-read : ruleBy (readAround l e s (v .bank) (centreOf s h v) h) (actOver s l (v .bank)) ≡ ruleBy (tracksOf s l (v .bank) (centreOf s h v) h) (actOver s l (v .bank))
+  rule-read = ap (λ (k : Tracks). ruleBy k (actOver s l (v .bank))) (around-is l e s (v .bank) (centreOf s h v) h)
 
-  pub rule-unopened : v .opens ≡ false → ruleBy (readAround l e s (v .bank) h) 0 ≡ ruleBy (tracksOf s l (v .bank) h) (actOver s l (v .bank))
+  pub rule-unopened : v .opens ≡ false → ruleBy (readAround l e s (v .bank) (centreOf s h v) h) 0 ≡ ruleBy (tracksOf s l (v .bank) (centreOf s h v) h) (actOver s l (v .bank))
   rule-unopened q = unused ∙ rule-read
     where
-      unused : ruleBy (readAround l e s (v .bank) h) 0 ≡ ruleBy (readAround l e s (v .bank) h) (actOver s l (v .bank))
-      unused = act-unused s v h (readAround l e s (v .bank) h) lasts 0 (actOver s l (v .bank)) q
+      unused : ruleBy (readAround l e s (v .bank) (centreOf s h v) h) 0 ≡ ruleBy (readAround l e s (v .bank) (centreOf s h v) h) (actOver s l (v .bank))
+      unused = act-unused s v h (readAround l e s (v .bank) (centreOf s h v) h) lasts 0 (actOver s l (v .bank)) q
 
 -- ---- data
 
 module _ (s : Settings) (ch : Channel) (t : DataAt) (d : Dualoct) where
-  range-of : ((isInstant (instant (DataOf t d)) && leb (instant (DataOf t d) + dataDelay (contextOf s) (DataOf t d)) horizon) && checkOf (contextOf s) ch (DataOf t d) 1) ≡ isInstant (t .0)
-  unfolding instant dataDelay checkOf deeds distances
-  range-of = rw (add-zero (t .0)) (and-true _ ∙ twice (leb 4 (t .0)) (leb (t .0) horizon) ∙ and-true _)
-
-  safe-of : not (anyWrite (λ x. closes (contextOf s) (stateOf ch) (DataOf t d) (x .bank)) (waitingOf (ch .buffer))) ≡ true
-  unfolding traits
-  safe-of = ap not (held-any (ch .buffer) (ch .due) (closes (contextOf s) (stateOf ch) (DataOf t d)) ∙ none (heldOf (ch .buffer) (ch .due) .waits) (heldOf (ch .buffer) (ch .due) .two))
+  range-of : ((isInstant (instant (DataOf t d)) && (leb (instant (DataOf t d) + longestDelay (contextOf s) (DataOf t d)) horizon && leb (instant (DataOf t d) + impliedDelay (contextOf s) (leavingOf (contextOf s) ch (DataOf t d))) horizon)) && checkOf (contextOf s) ch (DataOf t d) 1) ≡ isInstant (t .0)
+  unfolding instant longestDelay checkOf deeds distances leaving traits
+  range-of = rw (add-zero (t .0)) (and-true _ ∙ go (leb 4 (t .0)) (leb (t .0) horizon))
     where
-      none : (a b : Bool) → (a && false) || (b && false) ≡ false
-      none a b = rw (and-false a, and-false b)
+      go : (a b : Bool) → ((a && b) && (b && b)) ≡ (a && b)
+      go true true = refl
+      go true false = refl
+      go false b = refl
+
+  safe-of : allLoseNone (contextOf s) (stateOf ch) (waitingOf (ch .buffer)) (DataOf t d) ≡ true
+  unfolding traits leaving
+  safe-of = rw (safe-none s (stateOf ch) (waitingOf (ch .buffer)))
+
+  fits-of : fitsBetween (contextOf s) (waitingOf (ch .buffer)) (DataOf t d) ≡ true
+  unfolding traits leaving
+  fits-of = or-true (not (anyWrite (λ w. w .close) (waitingOf (ch .buffer))))
 
   stays-of : stays (waitingOf (ch .buffer)) (traits (DataOf t d)) ≡ true
   unfolding traits
@@ -291,7 +276,7 @@ module _ (s : Settings) (ch : Channel) (t : DataAt) (d : Dualoct) where
 
   data-judged : judged (contextOf s) ch (DataOf t d) ≡ dataRule s (heldOf (ch .buffer) (ch .due)) t
   unfolding judged checks lowest dataRule checkOf deeds distances traits leaving
-  data-judged = rw (range-of, stays-of, safe-of, due-of)
+  data-judged = rw (range-of, stays-of, safe-of, fits-of, due-of)
 
 -- ---- a record, by what it is seen as
 
@@ -300,7 +285,7 @@ module _ (s : Settings) (ch : Channel) (r : Record) where
   buffered = heldOf (ch .buffer) (ch .due)
 
   pub judged-packet : length (ch .banks) ≡ 32 → (v : View) → seenOf r ≡ Packet v
-      → packetRule s v buffered (tracksOf s (ch .banks) (v .bank) buffered) (actOver s (ch .banks) (v .bank)) (ch .lasts) ≡ judged (contextOf s) ch r
+      → packetRule s v buffered (tracksOf s (ch .banks) (v .bank) (centreOf s buffered v) buffered) (actOver s (ch .banks) (v .bank)) (ch .lasts) ≡ judged (contextOf s) ch r
   judged-packet e v q = sym (packet-judged s ch r v (seen-shows r v q) e)
 
   pub judged-data : (t : DataAt) → seenOf r ≡ Data t → dataRule s buffered t ≡ judged (contextOf s) ch r

@@ -1,3 +1,5 @@
-pub mod ArrivalLaws
 pub mod ActLaws
+pub mod ArrivalLaws
+pub mod FlagLaws
 pub mod JudgeLaws
+pub mod PrerLaws

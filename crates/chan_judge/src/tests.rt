@@ -1,10 +1,12 @@
-// The rules as tests on what one record concerns.
+// The rules as tests on what one record concerns. Those of a PRER alone, and of an ACT, leave at once where there is none: most
+// packets are neither.
 ghost use mathlib.Core.Path.{_≡_};
 ghost use lib.Dec.{leb};
 ghost use Rattle.settings.specs.Instants.{isInstant};
 ghost use Rattle.spec_rules.specs.Checks.{since};
 ghost use Rattle.chan_view.specs.form.Bounds.{boundIf};
-ghost use Rattle.chan_judge.specs.form.Tests.{inTime, comesAt, dataInTime, test1, test4, test6, test7, test9, test10, test11, test13, spared, test14};
+ghost use Rattle.chan_judge.specs.form.Tests.{inTime, comesAt, dataInTime, prerOf, prerKept, test1, test4, test6, test7, closesNamed, test9, test10, test11, test13, spared, test14, test17};
+use crate::Precharge;
 use chan_view::Held;
 use chan_view::Tracks;
 use chan_view::View;
@@ -21,6 +23,7 @@ use instants::write_arrival;
 use settings::Arrival;
 use settings::DataAt;
 use settings::HORIZON;
+use settings::HORIZON_WIDE;
 use settings::PacketAt;
 use settings::Settings;
 use spec_rules::BankTrack;
@@ -64,14 +67,64 @@ pub fn data_in_time(s: Settings, v: View) -> bool
     true
 }
 
-// Rule 1: instants are in range and never fall.
-pub(crate) fn in_order(s: Settings, v: View, last: PacketAt) -> bool
-    ensures { λ r. ⌜ r ≡ test1 s v (last .0) ⌝ }
+fn prer(
+    applies: bool,
+    at: u64,
+    bank: u32,
+    opened: PacketAt,
+    rd: PacketAt,
+    retire: PacketAt,
+) -> Precharge
+    ensures { λ p. ⌜ p ≡ record { applies = applies; at = at; bank = bank; opened = opened; rd = rd; retire = retire } ⌝ }
 {
-    in_range(v.at.0) & (data_in_time(s, v) & (last.0 <= v.at.0))
+    Precharge {
+        applies: applies,
+        at: at,
+        bank: bank,
+        opened: opened,
+        rd: rd,
+        retire: retire,
+    }
 }
 
-// Rules 2, 3 and 8: a distance after an earlier instant, where it applies.
+// A packet's PRER: implied by a retire, by an RDA, or its own; out says whether the older write is retired.
+pub(crate) fn prer_of(s: Settings, v: View, h: Held, out: bool, k: Tracks) -> Precharge
+    ensures { λ p. ⌜ p ≡ prerOf s v h out k ⌝ }
+{
+    let at = num::wide32(v.at.0);
+    let due = at + num::wide32(s.offp);
+    if h.close & out {
+        return prer(true, due, h.bank, k.held.opened, k.held.rd, k.held.retire);
+    }
+    if v.reads & v.close {
+        return prer(true, due, v.bank, k.own.opened, k.own.rd, k.own.retire);
+    }
+    prer(
+        v.precharges,
+        at,
+        v.bank,
+        k.own.opened,
+        k.own.rd,
+        k.own.retire,
+    )
+}
+
+// Whether a PRER keeps a bound, where there is one: rule 8.
+pub(crate) fn prer_keeps(p: Precharge, bound: u64) -> bool
+    ensures { λ r. ⌜ r ≡ prerKept p bound ⌝ }
+{
+    !p.applies | (bound <= p.at)
+}
+
+// Rule 1: instants are in range and never fall; the PRER at this instant is in time.
+pub(crate) fn in_order(s: Settings, v: View, prer: u64, last: PacketAt) -> bool
+    ensures { λ r. ⌜ r ≡ test1 s v prer (last .0) ⌝ }
+{
+    let due = prer <= HORIZON_WIDE;
+    in_range(v.at.0) & (data_in_time(s, v) & (due & (last.0 <= v.at.0)))
+}
+
+// Rules 2, 3 and 17: a distance after an earlier instant, where it applies.
 pub(crate) fn apart(applies: bool, last: PacketAt, gap: u32, at: PacketAt) -> bool
     ensures { λ r. ⌜ r ≡ leb (boundIf applies (since (last .0) gap)) (at .0) ⌝ }
 {
@@ -86,32 +139,42 @@ pub(crate) fn finds_closed(v: View, k: Tracks) -> bool
 }
 
 // Rule 6: ACT to PRER.
-pub(crate) fn open_long(s: Settings, v: View, k: Tracks) -> bool
-    ensures { λ r. ⌜ r ≡ test6 s v k ⌝ }
+pub(crate) fn open_long(s: Settings, p: Precharge, k: Tracks) -> bool
+    ensures { λ r. ⌜ r ≡ test6 s p k ⌝ }
 {
-    keeps(
-        v.precharges,
-        after_three(k.own.opened, k.low.opened, k.high.opened, s.ras),
-        v.at,
-    )
+    if p.applies {
+        let opened = after_three(p.opened, k.low.opened, k.high.opened, s.ras);
+        return prer_keeps(p, opened);
+    }
+    true
 }
 
 // Rule 7: PRER to ACT.
 pub(crate) fn closed_long(s: Settings, v: View, k: Tracks) -> bool
     ensures { λ r. ⌜ r ≡ test7 s v k ⌝ }
 {
-    keeps(
-        v.opens,
-        after_three(k.own.pre, k.low.pre, k.high.pre, s.rp),
-        v.at,
-    )
+    if v.opens {
+        let pre = after_three(k.own.pre, k.low.pre, k.high.pre, s.rp);
+        return keeps(true, pre, v.at);
+    }
+    true
+}
+
+// Whether the retire closes the bank that a packet names.
+fn closes_named(s: Settings, v: View, h: Held, out: bool) -> bool
+    ensures { λ r. ⌜ r ≡ closesNamed s v h out ⌝ }
+{
+    if h.close & out {
+        return is_near(s, h.bank, v.bank);
+    }
+    false
 }
 
 // Rule 9: RD, WR and a retire find their bank open.
-pub(crate) fn finds_open(v: View, out: bool, k: Tracks) -> bool
-    ensures { λ r. ⌜ r ≡ test9 v out k ⌝ }
+pub(crate) fn finds_open(s: Settings, v: View, h: Held, out: bool, k: Tracks) -> bool
+    ensures { λ r. ⌜ r ≡ test9 s v h out k ⌝ }
 {
-    let open = is_open(k.own);
+    let open = is_open(k.own) & !closes_named(s, v, h, out);
     (!v.reads | open) & ((!v.writes | open) & (!out | is_open(k.held)))
 }
 
@@ -134,25 +197,39 @@ pub(crate) fn turned(s: Settings, v: View, rd: PacketAt) -> bool
 }
 
 // Rule 13: RD and retire to PRER.
-pub(crate) fn columns_done(s: Settings, v: View, k: Tracks) -> bool
-    ensures { λ r. ⌜ r ≡ test13 s v k ⌝ }
+pub(crate) fn columns_done(s: Settings, p: Precharge, k: Tracks) -> bool
+    ensures { λ r. ⌜ r ≡ test13 s p k ⌝ }
 {
-    let read = after_three(k.own.rd, k.low.rd, k.high.rd, s.rdp);
-    let retire = after_three(k.own.retire, k.low.retire, k.high.retire, s.rtp);
-    keeps(v.precharges, read, v.at) & keeps(v.precharges, retire, v.at)
+    if p.applies {
+        let read = after_three(p.rd, k.low.rd, k.high.rd, s.rdp);
+        let retire = after_three(p.retire, k.low.retire, k.high.retire, s.rtp);
+        return prer_keeps(p, read) & prer_keeps(p, retire);
+    }
+    true
 }
 
 // Whether a PRER spares the bank x of a write, where one waits.
-fn spared(s: Settings, v: View, waits: bool, x: u32, k: BankTrack) -> bool
-    ensures { λ r. ⌜ r ≡ spared s v waits x k ⌝ }
+fn spared(s: Settings, p: Precharge, waits: bool, x: u32, k: BankTrack) -> bool
+    ensures { λ r. ⌜ r ≡ spared s p waits x k ⌝ }
 {
-    let reaches = v.precharges & is_near(s, v.bank, x);
+    let reaches = p.applies & is_near(s, p.bank, x);
     !(waits & reaches) | is_closed(k)
 }
 
 // Rule 14: a PRER closes the bank of no waiting write.
-pub(crate) fn write_safe(s: Settings, v: View, h: Held, k: Tracks) -> bool
-    ensures { λ r. ⌜ r ≡ test14 s v h k ⌝ }
+pub(crate) fn write_safe(s: Settings, p: Precharge, h: Held, out: bool, k: Tracks) -> bool
+    ensures { λ r. ⌜ r ≡ test14 s p h out k ⌝ }
 {
-    spared(s, v, h.waits, h.bank, k.held) & spared(s, v, h.two, h.next, k.next)
+    if p.applies {
+        return spared(s, p, h.waits & !out, h.bank, k.held) & spared(s, p, h.two, h.next, k.next);
+    }
+    true
+}
+
+// Rule 17: no ROW packet or WR leaves a closing write waiting, and no ROW packet comes before the implied PRER.
+pub(crate) fn row_free(v: View, h: Held, out: bool, implied: PacketAt) -> bool
+    ensures { λ r. ⌜ r ≡ test17 v h out (implied .0) ⌝ }
+{
+    let left = (h.close & !out) | h.next_close;
+    (!left | !(v.row | v.writes)) & apart(v.row, implied, 0, v.at)
 }

@@ -1,12 +1,13 @@
 -- The quick test on the tracks that stand at the indices of a bank and its neighbours, with the newest ACT or REFA of all banks:
--- where it passes, a record breaks no rule, and just there where tRR is not above tRC.
+-- where it passes, a record breaks no rule. Of a record that implies no PRER, while no closing write waits, it passes just there where
+-- tRR is not above tRC.
 -- Assumes nothing.
 use Prim.Native.Nat.{ℕ, zero, suc, _+_, _≤_, _<_, max}
 use mathlib.Core.Path.{_≡_, refl, ap, ap₂, _∙_, sym}
-use mathlib.Core.Bool.{Bool, true, false, not, _&&_, cond}
+use mathlib.Core.Bool.{Bool, true, false, not, _&&_, _||_, cond}
 use native.Mathlib.Nat.{le-antisymm}
 use native.Mathlib.Omega.{arith}
-use borrow.Author.Tests.{eqb-true, leb-true, le-leb}
+use borrow.Author.Tests.{eqb-true, leb-true, le-leb, not-true}
 use lib.Dec.{eqb, leb}
 use lib.ListN.{length}
 use Rattle.num.proofs.SearchLaws.{all-at, all-intro}
@@ -26,7 +27,7 @@ use Rattle.spec_rules.specs.History.{isClosed}
 use Rattle.spec_rules.specs.Distances.{ACT}
 use Rattle.spec_rules.specs.Channel.{idle, trackOf}
 use Rattle.spec_rules.specs.Checks.{since, maxUpTo, judged}
-use Rattle.spec_rules.proofs.Bools.{leb-maxUpTo}
+use Rattle.spec_rules.proofs.Bools.{neither, and-left, and-right, leb-maxUpTo}
 use Rattle.spec_rules.proofs.ByRule.{act-once}
 use Rattle.chan_view.specs.declared.View.{View}
 use Rattle.chan_view.specs.declared.Seen.the-variants.{Packet, Data}
@@ -40,10 +41,10 @@ use Rattle.chan_view.proofs.BoundLaws.{since-max, latest-near}
 use Rattle.chan_step.specs.form.Lasts.{retiresBy}
 use Rattle.chan_judge.specs.form.Tests.{actTerm, actOver}
 use Rattle.chan_judge.proofs.JudgeLaws.{judged-data}
-use Rattle.chan_least.specs.form.Least.{openBound, openedNear, preNear, rdNear, retireNear}
-use Rattle.chan_least.specs.form.Quick.{actBy, closedNear, loses, losesNone, opensWell, closesWell, readsWell, writesWell, leavesWell, rowWell, colWell, recordWell}
+use Rattle.chan_least.specs.form.Least.{onRow, openBound, openedNear, preNear, rdNear, retireNear}
+use Rattle.chan_least.specs.form.Quick.{comesWell, actBy, closedNear, loses, losesNone, opensWell, closesWell, readsWell, writesWell, leavesWell, rowWell, colWell, recordWell}
 use Rattle.chan_least.proofs.LeastLaws.{near-latest}
-use Rattle.chan_least.proofs.QuickLaws.{packet-well}
+use Rattle.chan_least.proofs.QuickLaws.{isPlain, packet-well}
 
 -- ---- tracks that the test does not tell apart
 
@@ -80,8 +81,8 @@ module _ (s : Settings) (h : Held) (k j : Tracks) (a : Alike h k j) where
   well-alike (RowAt t (Refa b)) l act = rw (a .closed, a .pre)
   well-alike (RowAt t (Refp b)) l act = rw (loses-same b, a .opened, a .rd, a .retire)
   well-alike (ColAt t (Nocop m)) l act = rw (leaves-same t (not (h .waits)) m (leb (h .at .0 + s .rtr) (t .0)))
-  well-alike (ColAt t (Wr b c m)) l act = rw (leaves-same t (not (h .two)) m (leb (h .at .0 + s .rtr) (t .0)), a .same-own)
-  well-alike (ColAt t (Rd b c m)) l act = rw (a .same-own)
+  well-alike (ColAt t (Wr b c m x)) l act = rw (leaves-same t (not (h .two)) m (leb (h .at .0 + s .rtr) (t .0)), a .same-own)
+  well-alike (ColAt t (Rd b c m x)) l act = rw (a .same-own)
   well-alike (DataOf t d) l act = refl
 
 -- ---- the tracks at the indices of a bank, of the first and the last near it, and of the waiting writes' banks
@@ -108,7 +109,7 @@ module _ (s : Settings) (ch : Channel) (b : ℕ) (k : Tracks) (m : Met s ch b k)
   held = heldOf (ch .buffer) (ch .due)
 
   abbrev around : Tracks
-  around = tracksOf s (ch .banks) b held
+  around = tracksOf s (ch .banks) b b held
 
   abbrev shut : ℕ → Bool
   shut x = isClosed (trackOf ch x .bank)
@@ -217,19 +218,43 @@ and-less true true z w f e = f e
 and-less true false z w f e = e
 and-less false y z w f e = e
 
+-- a ROW packet of which less is asked
+row-less : (l : LastInstants) (x y : ℕ) → x ≤ y → onRow l x ≤ onRow l y
+row-less l x y q = later (l .packet .0) _ _ (later (since (l .row .0) 4) _ _ (omega arith))
+  where
+    later : (p x y : ℕ) → x ≤ y → max p x ≤ max p y
+    later p x y q = omega arith
+
 -- an ACT or REFA of which rule 5 asks less
 opens-less : (s : Settings) (t : PacketAt) (k : Tracks) (l : LastInstants) (a c : ℕ) (x : Bool) → a ≤ c → x && opensWell s t k l c ≡ true → x && opensWell s t k l a ≡ true
 unfolding opensWell openBound
-opens-less s t k l a c x q = and-less x (closedNear k) _ _ (λ e. let n : openBound s l c (preNear k) ≤ t .0 = leb-true _ _ e in le-leb (openBound s l a (preNear k)) (t .0) (omega arith))
+opens-less s t k l a c x q =
+    let pre : ℕ = since (preNear k .0) (s .rp) in
+    let less : openBound s l a (preNear k) ≤ openBound s l c (preNear k) = row-less l (max a pre) (max c pre) (omega arith) in
+    and-less x (closedNear k) _ _ (λ e. let n : openBound s l c (preNear k) ≤ t .0 = leb-true _ _ e in le-leb (openBound s l a (preNear k)) (t .0) (omega arith))
 
 well-less : (s : Settings) (r : Record) (h : Held) (k : Tracks) (l : LastInstants) (a c : ℕ) → a ≤ c → recordWell s r h k l c ≡ true → recordWell s r h k l a ≡ true
 unfolding recordWell rowWell
-well-less s (RowAt t (Act b row)) h k l a c q e = opens-less s t k l a c (isInstant (t .0) && not (h .due)) q e
+well-less s (RowAt t (Act b row)) h k l a c q e = opens-less s t k l a c (comesWell t h) q e
 well-less s (RowAt t (Prer b)) h k l a c q e = e
-well-less s (RowAt t (Refa b)) h k l a c q e = opens-less s t k l a c (isInstant (t .0) && not (h .due)) q e
+well-less s (RowAt t (Refa b)) h k l a c q e = opens-less s t k l a c (comesWell t h) q e
 well-less s (RowAt t (Refp b)) h k l a c q e = e
 well-less s (ColAt t p) h k l a c q e = e
 well-less s (DataOf t d) h k l a c q e = e
+
+-- what passes implies no PRER, and no closing write waits
+comes-none : (t : PacketAt) (h : Held) (x : Bool) → comesWell t h && x ≡ true → (h .close ≡ false) × (h .«next_close» ≡ false)
+comes-none t h x e = neither (h .close) _ (neither (h .due) _ (not-true _ (and-right (isInstant (t .0)) _ (and-left (comesWell t h) x e))) .1)
+
+pub plain-well : (s : Settings) (r : Record) (v : View) → seenOf r ≡ Packet v → (h : Held) (k : Tracks) (l : LastInstants) (act : ℕ) → recordWell s r h k l act ≡ true
+    → (isPlain r ≡ true) × ((h .close ≡ false) × (h .«next_close» ≡ false))
+unfolding recordWell colWell isPlain seenOf
+plain-well s (RowAt t p) v q h k l act e = (refl, comes-none t h _ e)
+plain-well s (ColAt t (Nocop m)) v q h k l act e = (refl, comes-none t h _ e)
+plain-well s (ColAt t (Wr b c m x)) v q h k l act e = (refl, comes-none t h _ e)
+plain-well s (ColAt t (Rd b c m x)) v q h k l act e =
+    (ap not (neither (h .two) x (not-true _ (and-left (not (h .two || x)) _ (and-right (comesWell t h) _ e))) .1), comes-none t h _ e)
+plain-well s (DataOf t d) v q h k l act e = absurd (let z : _≡_ {A = ℕ} 0 1 = cc in omega arith)
 
 module _ (s : Settings) (ch : Channel) (r : Record) where
   abbrev waiting : Held
@@ -246,13 +271,17 @@ module _ (s : Settings) (ch : Channel) (r : Record) where
     -- a packet that passes breaks no rule, where no bank was opened later than newest
     pub passes-legal : ((x : ℕ) → x < 32 → trackOf ch x .opened .0 ≤ newest .0) → passing k newest ≡ true → judged (contextOf s) ch r ≡ 0
     passes-legal h e =
+        let z = plain-well s r v q waiting k (ch .lasts) (actBy s k newest) e in
         eqb-true _ _
-        (packet-well s ch (m .size) r v q
+        (packet-well s ch (m .size) (z .1 .0) (z .1 .1) r v q (z .0)
         ∙ well-less s r waiting (around s ch (v .bank) k m) (ch .lasts) _ _ (act-most s ch (v .bank) k m newest h) (sym (by-tracks (actBy s k newest)) ∙ e))
 
-    -- and it passes just where it breaks none, where tRR is not above tRC and newest is the latest of all
-    pub passes-exact : s .rr ≤ s .rc → newest .0 ≡ maxUpTo (λ x. trackOf ch x .opened .0) 32 → passing k newest ≡ eqb (judged (contextOf s) ch r) 0
-    passes-exact n p = by-tracks (actBy s k newest) ∙ rw (act-exact s ch (v .bank) k m newest n p) (sym (packet-well s ch (m .size) r v q))
+    -- and one that implies no PRER passes just where it breaks none, while no closing write waits, where tRR is not above tRC and newest
+    -- is the latest of all
+    pub passes-exact : isPlain r ≡ true → waiting .close ≡ false → waiting .«next_close» ≡ false → s .rr ≤ s .rc → newest .0 ≡ maxUpTo (λ x. trackOf ch x .opened .0) 32
+        → passing k newest ≡ eqb (judged (contextOf s) ch r) 0
+    passes-exact z older newer n p =
+        by-tracks (actBy s k newest) ∙ rw (act-exact s ch (v .bank) k m newest n p) (sym (packet-well s ch (m .size) older newer r v q z))
 
   -- data
   pub passes-data : (t : DataAt) → seenOf r ≡ Data t → (k : Tracks) (newest : PacketAt) → passing k newest ≡ eqb (judged (contextOf s) ch r) 0

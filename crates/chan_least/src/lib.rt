@@ -8,8 +8,9 @@ ghost use Rattle.spec_rules.specs.Earliest.{leastFrom};
 ghost use Rattle.chan_view.specs.form.Beside.{tracksOf};
 ghost use Rattle.chan_view.specs.form.Bounds.{boundIf};
 ghost use Rattle.chan_judge.specs.form.Tests.{actOver};
-ghost use Rattle.chan_least.specs.form.Least.{packetBound, leavesFrom, leastBy};
+ghost use Rattle.chan_least.specs.form.Least.{packetBound, mayStayBy, leavesFrom, retireLeast, centreBy, leastBy};
 use crate::bounds::close_bound;
+use crate::bounds::implied_bound;
 use crate::bounds::latest_of;
 use crate::bounds::nocop_bound;
 use crate::bounds::open_bound;
@@ -50,7 +51,8 @@ fn packet_bound(s: Settings, v: View, k: Tracks, act: u64, l: LastInstants) -> u
         return close_bound(s, l, opened, rd, retire);
     }
     if v.reads {
-        return read_bound(s, l, k.own.act);
+        let read = read_bound(s, l, k.own.act);
+        return later(read, implied_bound(s, v.close, l, k.own, k.low, k.high));
     }
     if v.writes {
         return write_bound(s, l, k.own.act);
@@ -58,12 +60,29 @@ fn packet_bound(s: Settings, v: View, k: Tracks, act: u64, l: LastInstants) -> u
     nocop_bound(s, l)
 }
 
+// Whether a packet may leave the waiting writes as they are: rules 12 and 17.
+fn may_stay(h: Held, v: View) -> bool
+    ensures { λ r. ⌜ r ≡ mayStayBy h v ⌝ }
+{
+    stays(h, v) & (!(h.close | h.next_close) | !(v.row | v.writes))
+}
+
 // Whether a packet that is free to come from an instant on retires the older write: tRTR has passed there, or it may not leave it.
 fn leaves_from(s: Settings, h: Held, v: View, free: u64) -> bool
     ensures { λ r. ⌜ r ≡ leavesFrom s h v free ⌝ }
 {
     let passed = num::wide32(h.at.0) + num::wide32(s.rtr) <= free;
-    h.waits & (v.other & (!stays(h, v) | passed))
+    h.waits & (v.other & (!may_stay(h, v) | passed))
+}
+
+// What the rules ask of the retire of the older write.
+fn retire_least(s: Settings, h: Held, k: Tracks, l: LastInstants) -> u64
+    ensures { λ r. ⌜ r ≡ retireLeast s h k l ⌝ }
+{
+    later(
+        retire_bound(s, h.at, k.held.act),
+        implied_bound(s, h.close, l, k.held, k.low, k.high),
+    )
 }
 
 // The least instant of a packet from now on, from the tracks of the banks that it concerns.
@@ -80,7 +99,7 @@ fn least_by(
 {
     let free = later(num::wide32(now.0), later(4, packet_bound(s, v, k, act, l)));
     if leaves_from(s, h, v, free) {
-        return later(free, retire_bound(s, h.at, k.held.act));
+        return later(free, retire_least(s, h, k, l));
     }
     free
 }
@@ -95,16 +114,23 @@ fn act_in(s: Settings, opens: bool, banks: [BankTrack; 32], b: u32) -> u64
     0
 }
 
-// The tracks of a bank, of its neighbours and of the waiting writes' banks.
-fn tracks_in(s: Settings, banks: [BankTrack; 32], b: u32, h: Held) -> Tracks
-    ensures { λ k. ⌜ k ≡ tracksOf s banks b h ⌝ }
+// The bank whose neighbours count: of a packet that may retire a closing write that write's, else the one that it names.
+fn centre_by(h: Held, v: View) -> u32
+    ensures { λ r. ⌜ r ≡ centreBy h v ⌝ }
+{
+    if v.other & h.close { h.bank } else { v.bank }
+}
+
+// The tracks of bank b, of the neighbours of bank c and of the waiting writes' banks.
+fn tracks_in(s: Settings, banks: [BankTrack; 32], b: u32, c: u32, h: Held) -> Tracks
+    ensures { λ k. ⌜ k ≡ tracksOf s banks b c h ⌝ }
 {
     let i = slot_of(b);
-    let j = slot_of(low_of(s, b));
-    let n = slot_of(high_of(s, b));
+    let j = slot_of(low_of(s, c));
+    let n = slot_of(high_of(s, c));
     let m = slot_of(h.bank);
     let o = slot_of(h.next);
-    around(s, b, h, banks[i], banks[j], banks[n], banks[m], banks[o])
+    around(s, b, c, h, banks[i], banks[j], banks[n], banks[m], banks[o])
 }
 
 // The least instant of a record from now on that the rules allow in a state.
@@ -117,7 +143,7 @@ pub fn least_from(s: Settings, ch: Channel, r: Record, now: PacketAt) -> u64
     let buffer = ch.buffer;
     let banks = ch.banks;
     let h = held_of(buffer, ch.due);
-    let k = tracks_in(s, banks, v.bank, h);
+    let k = tracks_in(s, banks, v.bank, centre_by(h, v), h);
     let act = act_in(s, v.opens, banks, v.bank);
     least_by(s, v, h, k, act, ch.lasts, now)
 }

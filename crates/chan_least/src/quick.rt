@@ -1,6 +1,7 @@
-// The quick way through a record that breaks no rule, without a walk over all banks. What fails here is judged rule by rule.
+// The quick way through a record that breaks no rule, without a walk over all banks. What fails here is judged rule by rule; so is a
+// packet that implies a PRER or comes while a closing write waits.
 ghost use mathlib.Core.Path.{_≡_};
-ghost use Rattle.chan_least.specs.form.Quick.{actBy, closedNear, loses, opensWell, closesWell, readsWell, writesWell, leavesWell, rowWell, colWell, recordWell};
+ghost use Rattle.chan_least.specs.form.Quick.{comesWell, actBy, closedNear, loses, opensWell, closesWell, readsWell, writesWell, leavesWell, rowWell, colWell, recordWell};
 use crate::bounds::close_bound;
 use crate::bounds::latest_of;
 use crate::bounds::nocop_bound;
@@ -28,6 +29,13 @@ use settings::PacketAt;
 use settings::Settings;
 use spec_rules::BankTrack;
 use spec_rules::LastInstants;
+
+// Whether a packet is in range, no data are due and no closing write waits.
+fn comes_well(t: PacketAt, h: Held) -> bool
+    ensures { λ r. ⌜ r ≡ comesWell t h ⌝ }
+{
+    in_range(t.0) & !(h.due | (h.close | h.next_close))
+}
 
 // What rule 5 asks at most, where no bank was opened after newest.
 fn act_by(s: Settings, k: Tracks, newest: PacketAt) -> u64
@@ -127,7 +135,7 @@ fn row_well(
     }
 }
 
-// out says whether the packet retires the older write. A NOCOP may leave none, a WR one; no RD comes where two wait.
+// out says whether the packet retires the older write. A NOCOP may leave none, a WR one; no RD comes where two wait, and no RDA here.
 fn col_well(
     s: Settings,
     at: PacketAt,
@@ -146,24 +154,25 @@ fn col_well(
             bank: _,
             column: _,
             mask,
+            close: _,
         } => leaves_well(s, at, k, !h.two, mask, out) & writes_well(s, at, k, l),
         ColPacket::Rd {
             bank: _,
             column: _,
             mask,
-        } => !h.two & reads_well(s, at, k, l, mask),
+            close,
+        } => !(h.two | close) & reads_well(s, at, k, l, mask),
     }
 }
 
-// Whether a record breaks no rule. The tracks low and high are the bank's own where it has no such neighbour; newest is not before
-// any ACT or REFA.
+// Whether a record breaks no rule; never of a packet that implies a PRER or comes while a closing write waits. The tracks low and high
+// are the bank's own where it has no such neighbour; newest is not before any ACT or REFA.
 pub fn passes(s: Settings, r: Record, h: Held, k: Tracks, l: LastInstants, newest: PacketAt) -> bool
     ensures { λ p. ⌜ p ≡ recordWell s r h k l (actBy s k newest) ⌝ }
 {
     match r {
-        Record::RowAt(t, p) => (in_range(t.0) & !h.due) & row_well(s, t, p, h, k, l, newest),
-        Record::ColAt(t, p) => (in_range(t.0) & !h.due)
-            & col_well(s, t, p, h, k, l, retires(s, h, r)),
+        Record::RowAt(t, p) => comes_well(t, h) & row_well(s, t, p, h, k, l, newest),
+        Record::ColAt(t, p) => comes_well(t, h) & col_well(s, t, p, h, k, l, retires(s, h, r)),
         Record::DataOf(t, _) => data_rule(s, h, t) == 0,
     }
 }

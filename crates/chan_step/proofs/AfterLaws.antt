@@ -1,10 +1,10 @@
 -- The state after a record, part by part: banks, last instants, write buffer, and whether data are due.
 -- Assumes nothing.
 use Prim.Native.Nat.{ℕ, _+_}
-use mathlib.Core.Path.{_≡_, refl, ap, sym, _∙_}
+use mathlib.Core.Path.{_≡_, refl, ap, ap₂, sym, _∙_}
 use mathlib.Core.Bool.{Bool, true, false, _&&_, and-false}
 use mathlib.Core.List.{List}
-use mathlib.Core.Option.{Option}
+use mathlib.Core.Option.{Option, none, some}
 use native.Mathlib.Omega.{arith}
 use lib.Dec.{leb}
 use lib.ListN.{length}
@@ -23,19 +23,21 @@ use Rattle.spec_rules.specs.declared.Write.{Write}
 use Rattle.spec_rules.specs.declared.Buffer.{Buffer}
 use Rattle.spec_rules.specs.declared.Buffer.the-variants.{Empty, One, Two}
 use Rattle.spec_rules.specs.declared.Channel.{Channel}
-use Rattle.spec_rules.specs.Neighbour.{contextOf}
+use Rattle.spec_rules.specs.Neighbour.{Context, contextOf}
 use Rattle.spec_rules.specs.Packets.{traits, rowTraits, colTraits, instant}
-use Rattle.spec_rules.specs.History.{first, onlyWrite, loads}
-use Rattle.spec_rules.specs.Channel.{waitingOf, bufferOf, afterPacket, afterRetire, afterData, after}
+use Rattle.spec_rules.specs.History.{first, onlyWrite, loads, only, retireImplies}
+use Rattle.spec_rules.specs.Channel.{waitingOf, bufferOf, afterPacket, afterRetire, afterImplied, afterData, leavingOf, after}
+use Rattle.spec_rules.proofs.TrackLaws.{keeps-all}
+use Rattle.spec_rules.proofs.ByRule.{impliedBank, row-implied-bank}
 use Rattle.chan_view.specs.declared.View.{View}
 use Rattle.chan_view.specs.declared.Seen.the-variants.{Packet, Data}
 use Rattle.chan_view.specs.declared.Held.{Held}
 use Rattle.chan_view.specs.form.Beside.{lowOf, highOf}
-use Rattle.chan_view.specs.form.View.{rowView, colView, seenOf, heldOf, leaves}
-use Rattle.chan_view.proofs.ViewLaws.{col-shows, leaving-is}
-use Rattle.chan_step.specs.form.Banks.{rowBanks, colBanks, retiredBanks, banksNext}
-use Rattle.chan_step.specs.form.Lasts.{lastsNext, leftBuffer, joinedBuffer, colBuffer, bufferNext}
-use Rattle.chan_step.proofs.BankLaws.{sides, act-banks, refa-banks, prer-banks, refp-banks, rd-banks, wr-banks, nocop-banks, retired-banks}
+use Rattle.chan_view.specs.form.View.{rowView, colView, seenOf, heldOf, leaves, impliesBy, centreOf}
+use Rattle.chan_view.proofs.ViewLaws.{row-shows, col-shows, leaving-is, implies-at}
+use Rattle.chan_step.specs.form.Banks.{closedBanks, rowBanks, colBanks, retiredBanks, banksNext}
+use Rattle.chan_step.specs.form.Lasts.{lastsNext, impliedLasts, leftBuffer, joinedBuffer, colBuffer, bufferNext}
+use Rattle.chan_step.proofs.BankLaws.{sides, act-banks, refa-banks, prer-banks, refp-banks, implied-banks, rd-banks, wr-banks, nocop-banks, retired-banks}
 
 -- a state from its parts
 abbrev pub channelOf : List BankTrack → LastInstants → Buffer → Bool → Channel
@@ -66,8 +68,8 @@ module _ (s : Settings) (banks : List BankTrack) (lasts : LastInstants) (out : B
   col-packet : (p : ColPacket) → afterPacket (contextOf s) left (ColAt t p) ≡ channelOf (colBanks t p banks) (lastsNext (ColAt t p) lasts) (colBuffer t p out b) (colView t p .writes)
   unfolding afterPacket colBanks lastsNext colBuffer joinedBuffer colView traits colTraits instant loads
   col-packet (Nocop m) = rw (nocop-banks (contextOf s) left t m, buffer-same (leftBuffer out b))
-  col-packet (Wr x c m) = rw (wr-banks (contextOf s) left t x c m)
-  col-packet (Rd x c m) = rw (rd-banks (contextOf s) left t x c m, buffer-same (leftBuffer out b))
+  col-packet (Wr x c m z) = rw (wr-banks (contextOf s) left t x c m z)
+  col-packet (Rd x c m z) = rw (rd-banks (contextOf s) left t x c m z, buffer-same (leftBuffer out b))
 
 -- ---- the retire before it
 
@@ -89,39 +91,98 @@ module _ (s : Settings) (ch : Channel) (t : PacketAt) (v : View) where
       go (Two x y) q true p = rw (p, q, retired-banks t x (ch .banks))
       go (Two x y) q false p = rw (p, q)
 
+-- ---- the PRER that it implies
+
+module _ (cx : Context) (ch : Channel) (t : PacketAt) where
+  -- that of a retire may as well come after the packet, which changes no bank
+  later-nocop : (u m : ℕ) (o : Option ℕ) → afterPacket cx (afterImplied cx u o ch) (ColAt t (Nocop m)) ≡ afterImplied cx u o (afterPacket cx ch (ColAt t (Nocop m)))
+  unfolding afterPacket afterImplied traits colTraits
+  later-nocop u m none = refl
+  later-nocop u m (some x) = rw (nocop-banks cx (afterImplied cx u (some x) ch) t m, nocop-banks cx ch t m)
+
+  later-wr : (u b c m : ℕ) (z : Bool) (o : Option ℕ) → afterPacket cx (afterImplied cx u o ch) (ColAt t (Wr b c m z)) ≡ afterImplied cx u o (afterPacket cx ch (ColAt t (Wr b c m z)))
+  unfolding afterPacket afterImplied traits colTraits
+  later-wr u b c m z none = refl
+  later-wr u b c m z (some x) = rw (wr-banks cx (afterImplied cx u (some x) ch) t b c m z, wr-banks cx ch t b c m z)
+
+module _ (cx : Context) (ch : Channel) (t : PacketAt) where
+  abbrev retired : ColPacket → Channel
+  retired p = afterRetire (t .0) (leavingOf cx ch (ColAt t p)) ch
+
+  abbrev then : ℕ
+  then = t .0 + cx .settings .offp
+
+  -- so a COL packet comes first, with its retire, and one PRER at most last
+  implied-last : (p : ColPacket) → after cx ch (ColAt t p) ≡ afterImplied cx then (impliedBank cx ch (ColAt t p)) (afterPacket cx (retired p) (ColAt t p))
+  unfolding after afterImplied traits colTraits
+  implied-last (Nocop m) = later-nocop cx (retired (Nocop m)) t then m (retireImplies (leavingOf cx ch (ColAt t (Nocop m))))
+  implied-last (Wr b c m z) = later-wr cx (retired (Wr b c m z)) t then b c m z (retireImplies (leavingOf cx ch (ColAt t (Wr b c m z))))
+  implied-last (Rd b c m true) = rw (keeps-all cx (ColAt t (Rd b c m true)) (waitingOf (ch .buffer)) refl)
+  implied-last (Rd b c m false) = rw (keeps-all cx (ColAt t (Rd b c m false)) (waitingOf (ch .buffer)) refl)
+
+-- by the banks beside
+pub implied-after : (s : Settings) (ch : Channel) → length (ch .banks) ≡ 32 → (t : PacketAt) (b : ℕ)
+    → afterImplied (contextOf s) (t .0) (some b) ch ≡ channelOf (closedBanks t b (lowOf s b) (highOf s b) (ch .banks)) (impliedLasts t (ch .lasts)) (ch .buffer) (ch .due)
+unfolding afterImplied
+implied-after s ch e t b = rw (implied-banks (contextOf s) ch t e b (lowOf s b) (highOf s b) (sides s b))
+
 -- ---- the record
 
 col-at : (t : PacketAt) (p : ColPacket) → colView t p .at ≡ t
 unfolding colView
 col-at t (Nocop m) = refl
-col-at t (Wr b c m) = refl
-col-at t (Rd b c m) = refl
+col-at t (Wr b c m z) = refl
+col-at t (Rd b c m z) = refl
 
 module _ (s : Settings) (ch : Channel) (e : length (ch .banks) ≡ 32) where
-  abbrev nextBy : Record → View → Channel
+  abbrev waiting : Held
+  waiting = heldOf (ch .buffer) (ch .due)
+
+  -- after a packet and the retire that it makes, but for the PRER that either implies
+  abbrev pub nextBy : Record → View → Channel
   nextBy r v =
-      let h : Held = heldOf (ch .buffer) (ch .due) in
-      channelOf (banksNext s r (retiredBanks (leaves s h v) (h .bank) (v .at) (ch .banks))) (lastsNext r (ch .lasts)) (bufferNext r (leaves s h v) (ch .buffer)) (v .writes)
+      channelOf (banksNext s r (retiredBanks (leaves s waiting v) (waiting .bank) (v .at) (ch .banks))) (lastsNext r (ch .lasts))
+      (bufferNext r (leaves s waiting v) (ch .buffer)) (v .writes)
 
-  -- a ROW packet retires nothing
-  row-after : (t : PacketAt) (p : RowPacket) → after (contextOf s) ch (RowAt t p) ≡ nextBy (RowAt t p) (rowView t p)
+  -- and after that PRER
+  abbrev impliedBy : View → ℕ → Channel → Channel
+  impliedBy v u c = afterImplied (contextOf s) u (only (impliesBy s waiting v) (some (centreOf s waiting v))) c
+
+  -- a ROW packet retires nothing and implies none
+  row-next : (t : PacketAt) (p : RowPacket) → after (contextOf s) ch (RowAt t p) ≡ nextBy (RowAt t p) (rowView t p)
   unfolding after banksNext bufferNext rowView
-  row-after t (Act b row) = rw (and-false (heldOf (ch .buffer) (ch .due) .waits)) (row-packet s ch e t (Act b row))
-  row-after t (Prer b) = rw (and-false (heldOf (ch .buffer) (ch .due) .waits)) (row-packet s ch e t (Prer b))
-  row-after t (Refa b) = rw (and-false (heldOf (ch .buffer) (ch .due) .waits)) (row-packet s ch e t (Refa b))
-  row-after t (Refp b) = rw (and-false (heldOf (ch .buffer) (ch .due) .waits)) (row-packet s ch e t (Refp b))
+  row-next t (Act b row) = rw (and-false (waiting .waits)) (row-packet s ch e t (Act b row))
+  row-next t (Prer b) = rw (and-false (waiting .waits)) (row-packet s ch e t (Prer b))
+  row-next t (Refa b) = rw (and-false (waiting .waits)) (row-packet s ch e t (Refa b))
+  row-next t (Refp b) = rw (and-false (waiting .waits)) (row-packet s ch e t (Refp b))
 
-  col-after : (t : PacketAt) (p : ColPacket) → after (contextOf s) ch (ColAt t p) ≡ nextBy (ColAt t p) (colView t p)
-  unfolding after banksNext bufferNext
-  col-after t p =
+  row-after : (t : PacketAt) (p : RowPacket) → let v = rowView t p in after (contextOf s) ch (RowAt t p) ≡ impliedBy v (v .at .0 + s .offp) (nextBy (RowAt t p) v)
+  unfolding afterImplied
+  row-after t p =
+      let v : View = rowView t p in
+      row-next t p
+      ∙ ap (λ (o : Option ℕ). afterImplied (contextOf s) (v .at .0 + s .offp) o (nextBy (RowAt t p) v))
+      (sym (sym (implies-at s ch (RowAt t p) v (row-shows t p)) ∙ row-implied-bank (contextOf s) ch t p))
+
+  col-next : (t : PacketAt) (p : ColPacket) → let v = colView t p in
+      afterPacket (contextOf s) (afterRetire (t .0) (leavingOf (contextOf s) ch (ColAt t p)) ch) (ColAt t p)
+      ≡ channelOf (colBanks t p (retiredBanks (leaves s waiting v) (waiting .bank) t (ch .banks))) (lastsNext (ColAt t p) (ch .lasts)) (colBuffer t p (leaves s waiting v) (ch .buffer)) (v .writes)
+  col-next t p =
       let v : View = colView t p in
-      let h : Held = heldOf (ch .buffer) (ch .due) in
       ap (λ (o : Option Write). afterPacket (contextOf s) (afterRetire (t .0) o ch) (ColAt t p)) (leaving-is s (ch .buffer) (ch .due) (ColAt t p) v (col-shows t p))
       ∙ ap (λ (c : Channel). afterPacket (contextOf s) c (ColAt t p)) (retire-after s ch t v)
-      ∙ col-packet s (retiredBanks (leaves s h v) (h .bank) t (ch .banks)) (ch .lasts) (leaves s h v) (ch .buffer) (ch .due) t p
-      ∙ ap (λ (u : PacketAt). channelOf (colBanks t p (retiredBanks (leaves s h v) (h .bank) u (ch .banks))) (lastsNext (ColAt t p) (ch .lasts)) (colBuffer t p (leaves s h v) (ch .buffer)) (v .writes)) (sym (col-at t p))
+      ∙ col-packet s (retiredBanks (leaves s waiting v) (waiting .bank) t (ch .banks)) (ch .lasts) (leaves s waiting v) (ch .buffer) (ch .due) t p
 
-  pub packet-after : (r : Record) (v : View) → seenOf r ≡ Packet v → after (contextOf s) ch r ≡ nextBy r v
+  col-after : (t : PacketAt) (p : ColPacket) → let v = colView t p in after (contextOf s) ch (ColAt t p) ≡ impliedBy v (v .at .0 + s .offp) (nextBy (ColAt t p) v)
+  unfolding banksNext bufferNext contextOf
+  col-after t p =
+      let v : View = colView t p in
+      implied-last (contextOf s) ch t p
+      ∙ ap₂ (afterImplied (contextOf s) (t .0 + s .offp)) (implies-at s ch (ColAt t p) v (col-shows t p)) (col-next t p)
+      ∙ ap (λ (u : PacketAt). impliedBy v (u .0 + s .offp)
+      (channelOf (colBanks t p (retiredBanks (leaves s waiting v) (waiting .bank) u (ch .banks))) (lastsNext (ColAt t p) (ch .lasts)) (colBuffer t p (leaves s waiting v) (ch .buffer)) (v .writes))) (sym (col-at t p))
+
+  pub packet-after : (r : Record) (v : View) → seenOf r ≡ Packet v → after (contextOf s) ch r ≡ impliedBy v (v .at .0 + s .offp) (nextBy r v)
   unfolding seenOf
   packet-after (RowAt t p) v q = let z : rowView t p ≡ v = cc in rw z at (row-after t p)
   packet-after (ColAt t p) v q = let z : colView t p ≡ v = cc in rw z at (col-after t p)

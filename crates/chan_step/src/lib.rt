@@ -2,14 +2,16 @@
 pub mod tracks;
 
 ghost use mathlib.Core.Path.{_≡_};
+ghost use mathlib.Core.Option.{some};
+ghost use Prim.Native.Nat.{_+_, _<_, _^_};
 ghost use lib.ListN.{getD, set};
-ghost use Rattle.spec_rules.specs.Packets.{rowTraits, colTraits};
+ghost use Rattle.spec_rules.specs.Packets.{rowTraits, colTraits, instant};
 ghost use Rattle.spec_rules.specs.Neighbour.{contextOf};
-ghost use Rattle.spec_rules.specs.Channel.{idle, fresh, after};
+ghost use Rattle.spec_rules.specs.Channel.{idle, fresh, afterImplied, after};
 ghost use Rattle.chan_view.specs.form.Beside.{lowOf, highOf};
 ghost use Rattle.chan_view.specs.form.View.{seenOf};
 ghost use Rattle.chan_step.specs.form.Banks.{sideTrack, changed, closedBanks, rowBanks, colBanks, retiredBanks, banksNext};
-ghost use Rattle.chan_step.specs.form.Lasts.{lastsBy, lastsNext, leftBuffer, joinedBuffer, colBuffer, bufferNext, retiresBy};
+ghost use Rattle.chan_step.specs.form.Lasts.{lastsBy, lastsNext, impliedLasts, leftBuffer, joinedBuffer, colBuffer, bufferNext, retiresBy};
 use crate::tracks::act_track;
 use crate::tracks::closed_track;
 use crate::tracks::read_track;
@@ -23,7 +25,9 @@ use chan_view::banks::track_of;
 use chan_view::banks::unused;
 use chan_view::neighbours::high_of;
 use chan_view::neighbours::low_of;
+use chan_view::views::centre;
 use chan_view::views::held_of;
+use chan_view::views::implies;
 use chan_view::views::leaving;
 use chan_view::views::seen_of;
 use packet::ColPacket;
@@ -65,7 +69,7 @@ fn side_banks(b: u32, at: PacketAt, banks: [BankTrack; 32]) -> [BankTrack; 32]
     put_bank(banks, b, side_track(at, bank_at(banks, b)))
 }
 
-// The banks after a PRER or REFP to a bank.
+// The banks after a PRER or REFP to a bank, its own packet or implied.
 fn closed_banks(s: Settings, b: u32, at: PacketAt, banks: [BankTrack; 32]) -> [BankTrack; 32]
     ensures { λ r. ⌜ r ≡ closedBanks at b (lowOf s b) (highOf s b) banks ⌝ }
 {
@@ -97,11 +101,13 @@ fn col_banks(at: PacketAt, p: ColPacket, banks: [BankTrack; 32]) -> [BankTrack; 
             bank: _,
             column: _,
             mask: _,
+            close: _,
         } => banks,
         ColPacket::Rd {
             bank,
             column: _,
             mask: _,
+            close: _,
         } => put_bank(banks, bank, read_track(at, bank_at(banks, bank))),
     }
 }
@@ -148,16 +154,18 @@ fn col_lasts(at: PacketAt, p: ColPacket, l: LastInstants) -> LastInstants
             bank: _,
             column: _,
             mask: _,
+            close: _,
         } => next,
         ColPacket::Rd {
             bank: _,
             column: _,
             mask: _,
+            close: _,
         } => LastInstants { rd: at, ..next },
     }
 }
 
-// The last instants after a record.
+// The last instants after a record, but for the PRER that it implies.
 pub fn lasts_after(r: Record, l: LastInstants) -> LastInstants
     ensures { λ x. ⌜ x ≡ lastsNext r l ⌝ }
 {
@@ -165,6 +173,17 @@ pub fn lasts_after(r: Record, l: LastInstants) -> LastInstants
         Record::RowAt(t, p) => row_lasts(t, p, l),
         Record::ColAt(t, p) => col_lasts(t, p, l),
         Record::DataOf(_, _) => l,
+    }
+}
+
+// The last instants after an implied PRER, which is no packet.
+pub fn implied_lasts(at: PacketAt, l: LastInstants) -> LastInstants
+    ensures { λ x. ⌜ x ≡ impliedLasts at l ⌝ }
+{
+    LastInstants {
+        pre: at,
+        implied: at,
+        ..l
     }
 }
 
@@ -203,11 +222,21 @@ fn col_buffer(at: PacketAt, p: ColPacket, leaves: bool, b: Buffer) -> Buffer
             bank,
             column,
             mask: _,
-        } => joined(left(leaves, b), Write { bank, column, at }),
+            close,
+        } => joined(
+            left(leaves, b),
+            Write {
+                bank,
+                column,
+                at,
+                close,
+            },
+        ),
         ColPacket::Rd {
             bank: _,
             column: _,
             mask: _,
+            close: _,
         } => left(leaves, b),
     }
 }
@@ -245,8 +274,30 @@ fn banks_after(s: Settings, r: Record, banks: [BankTrack; 32]) -> [BankTrack; 32
     }
 }
 
-// The state after a record.
+// The instant of the PRER that a packet implies.
+pub fn implied_at(s: Settings, at: PacketAt) -> PacketAt
+    requires { ⌜ at .0 + s .offp < 2 ^ 32 ⌝ }
+    ensures { λ u. ⌜ u .0 ≡ at .0 + s .offp ⌝ }
+{
+    PacketAt(at.0 + s.offp)
+}
+
+// The state after an implied PRER to a bank.
+fn after_implied(s: Settings, at: PacketAt, b: u32, ch: Channel) -> Channel
+    ensures { λ c. ⌜ c ≡ afterImplied (contextOf s) (at .0) (some b) ch ⌝ }
+{
+    let banks = ch.banks;
+    let lasts = ch.lasts;
+    Channel {
+        banks: closed_banks(s, b, at, banks),
+        lasts: implied_lasts(at, lasts),
+        ..ch
+    }
+}
+
+// The state after a record. The PRER that a retire implies comes last too: a packet that retires is no RD and changes no bank itself.
 pub fn after(s: Settings, ch: Channel, r: Record) -> Channel
+    requires { ⌜ instant r + s .offp < 2 ^ 32 ⌝ }
     ensures { λ c. ⌜ c ≡ after (contextOf s) ch r ⌝ }
 {
     let Seen::Packet(v) = seen_of(r) else {
@@ -257,12 +308,16 @@ pub fn after(s: Settings, ch: Channel, r: Record) -> Channel
     let lasts = ch.lasts;
     let h = held_of(buffer, ch.due);
     let leaves = leaving(s, h, v);
-    Channel {
+    let next = Channel {
         banks: banks_after(s, r, retired_banks(leaves, h.bank, v.at, banks)),
         lasts: lasts_after(r, lasts),
         buffer: buffer_after(r, leaves, buffer),
         due: v.writes,
+    };
+    if implies(s, h, v) {
+        return after_implied(s, implied_at(s, v.at), centre(s, h, v), next);
     }
+    next
 }
 
 // The state before every record.
@@ -277,6 +332,7 @@ pub fn fresh() -> Channel
         col: never,
         pre: never,
         rd: never,
+        implied: never,
     };
     Channel {
         banks: banks,

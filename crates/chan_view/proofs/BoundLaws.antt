@@ -13,7 +13,7 @@ use Rattle.settings.specs.declared.Settings.{Settings}
 use Rattle.spec_rules.specs.declared.BankTrack.{BankTrack}
 use Rattle.spec_rules.specs.declared.Channel.{Channel}
 use Rattle.spec_rules.specs.Neighbour.{bankCount, contextOf, near}
-use Rattle.spec_rules.specs.Distances.{Kind, packet, ROW, COL, ACT, onlyACT, PRER, RD, WR, retire}
+use Rattle.spec_rules.specs.Distances.{Kind, packet, ROW, COL, ACT, onlyACT, PRER, RD, WR, retire, implied}
 use Rattle.spec_rules.specs.Channel.{idle, trackOf}
 use Rattle.spec_rules.specs.Checks.{since, lastAt, boundBanks}
 use Rattle.chan_view.specs.form.Beside.{lowOf, highOf, firstNear, lastNear}
@@ -32,6 +32,7 @@ idle-asks PRER = refl
 idle-asks RD = refl
 idle-asks WR = refl
 idle-asks retire = refl
+idle-asks implied = refl
 
 module _ (s : Settings) (ch : Channel) (e : length (ch .banks) ≡ 32) (a : Kind) (gap b : ℕ) where
   none-past : (x : ℕ) → 32 ≤ x → lastAt (trackOf ch x) a ≡ 0
@@ -61,6 +62,9 @@ since-max a b g = go (eqb a 0) refl (eqb b 0) refl
     go false p true q = let e = eqb-true b 0 q in rw e (ap (λ x. since x g) (max-zero a) ∙ sym (max-zero (since a g)))
     go false p false q = both (eqb-false a 0 p) (eqb-false b 0 q)
 
+pub three-since : (a b c gap : ℕ) → since (max (max a b) c) gap ≡ three a b c gap
+three-since a b c gap = since-max (max a b) c gap ∙ ap (λ x. max x (since c gap)) (since-max a b gap)
+
 module _ (s : Settings) (f : BankTrack → ℕ) (zero : f idle ≡ 0) (banks : List BankTrack) (e : length banks ≡ 32) (b : ℕ) where
   abbrev at : ℕ → ℕ
   at x = f (getD banks x idle)
@@ -81,6 +85,4 @@ module _ (s : Settings) (f : BankTrack → ℕ) (zero : f idle ≡ 0) (banks : L
       high (one-high p q) x = rw q
 
   pub three-latest : (gap : ℕ) → three (at b) (at (lowOf s b)) (at (highOf s b)) gap ≡ since (max (max (at b) (at (firstNear s b))) (at (lastNear s b))) gap
-  three-latest gap =
-      sym (since-max (max (at b) (at (lowOf s b))) (at (highOf s b)) gap ∙ ap (λ x. max x (since (at (highOf s b)) gap)) (since-max (at b) (at (lowOf s b)) gap))
-      ∙ ap (λ x. since x gap) latest-near
+  three-latest gap = sym (three-since (at b) (at (lowOf s b)) (at (highOf s b)) gap) ∙ ap (λ x. since x gap) latest-near

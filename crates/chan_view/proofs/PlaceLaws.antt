@@ -31,9 +31,9 @@ module _ (l : List BankTrack) (e : length l ≡ 32) where
       go false q = sym (past b (ltb-false b 32 q))
 
   -- the tracks from what was read at the indices
-  abbrev pub readAround : Settings → ℕ → Held → Tracks
-  readAround s b h =
-      aroundOf s b h (getD l (slotOf b) idle) (getD l (slotOf (lowOf s b)) idle) (getD l (slotOf (highOf s b)) idle) (getD l (slotOf (h .bank)) idle) (getD l (slotOf (h .next)) idle)
+  abbrev pub readAround : Settings → ℕ → ℕ → Held → Tracks
+  readAround s b c h =
+      aroundOf s b c h (getD l (slotOf b) idle) (getD l (slotOf (lowOf s c)) idle) (getD l (slotOf (highOf s c)) idle) (getD l (slotOf (h .bank)) idle) (getD l (slotOf (h .next)) idle)
 
-  pub around-is : (s : Settings) (b : ℕ) (h : Held) → readAround s b h ≡ tracksOf s l b h
-  around-is s b h = rw (slot-read b, slot-read (lowOf s b), slot-read (highOf s b), slot-read (h .bank), slot-read (h .next))
+  pub around-is : (s : Settings) (b c : ℕ) (h : Held) → readAround s b c h ≡ tracksOf s l b c h
+  around-is s b c h = rw (slot-read b, slot-read (lowOf s c), slot-read (highOf s c), slot-read (h .bank), slot-read (h .next))

@@ -42,10 +42,11 @@ pub fn track_of(b: u32, t: BankTrack) -> BankTrack
     if b < 32 { t } else { unused() }
 }
 
-// The tracks of a bank, of its neighbours and of the waiting writes' banks, from what stands at their indices.
+// The tracks of bank b, of the neighbours of bank c and of the waiting writes' banks, from what stands at their indices.
 pub fn around(
     s: Settings,
     b: u32,
+    c: u32,
     h: Held,
     own: BankTrack,
     low: BankTrack,
@@ -53,12 +54,12 @@ pub fn around(
     held: BankTrack,
     next: BankTrack,
 ) -> Tracks
-    ensures { λ k. ⌜ k ≡ aroundOf s b h own low high held next ⌝ }
+    ensures { λ k. ⌜ k ≡ aroundOf s b c h own low high held next ⌝ }
 {
     Tracks {
         own: track_of(b, own),
-        low: track_of(low_of(s, b), low),
-        high: track_of(high_of(s, b), high),
+        low: track_of(low_of(s, c), low),
+        high: track_of(high_of(s, c), high),
         held: track_of(h.bank, held),
         next: track_of(h.next, next),
     }

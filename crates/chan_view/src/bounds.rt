@@ -30,14 +30,16 @@ pub fn after_gap(last: PacketAt, gap: u32) -> u64
     since_wide(last, num::wide32(gap))
 }
 
-// The latest that three earlier instants ask.
+// The latest that three earlier instants ask: what the latest of them asks.
 pub fn after_three(a: PacketAt, b: PacketAt, c: PacketAt, gap: u32) -> u64
     ensures { λ r. ⌜ r ≡ three (a .0) (b .0) (c .0) gap ⌝ }
 {
-    later(
-        later(after_gap(a, gap), after_gap(b, gap)),
-        after_gap(c, gap),
-    )
+    let two = later(num::wide32(a.0), num::wide32(b.0));
+    let last = later(two, num::wide32(c.0));
+    if last == 0 {
+        return 0;
+    }
+    last + num::wide32(gap)
 }
 
 // Whether an instant keeps a bound, where the bound applies.

@@ -12,7 +12,7 @@ use spec_rules::BankTrack;
 
 // What a packet is to the rules: its instant, the bank and column that it names (0: none) and what it makes of that bank; then
 // whether it opens the bank (ACT, REFA), is an ACT, precharges (PRER, REFP), reads (RD), writes (WR), takes the ROW pins or
-// the COL pins, is a COL packet other than RD, and has M = 1.
+// the COL pins, is a COL packet other than RD, has M = 1, and closes the bank (RDA, WRA).
 pub struct View {
     pub at: PacketAt,
     pub bank: u32,
@@ -27,6 +27,7 @@ pub struct View {
     pub col: bool,
     pub other: bool,
     pub masked: bool,
+    pub close: bool,
 }
 
 // A record: a packet, or data at their own instant.
@@ -36,19 +37,22 @@ pub enum Seen {
 }
 
 // The write buffer in numbers: whether a write waits, whether two do, whether the data of the newest are due; the older write's
-// bank and the instant of its WR; the newer write's bank where two wait; the instant of the newest WR. Number 32 stands for no bank.
+// bank, the instant of its WR and whether it is a WRA; the newer write's bank where two wait and whether it is a WRA; the instant
+// of the newest WR. Number 32 stands for no bank.
 pub struct Held {
     pub waits: bool,
     pub two: bool,
     pub due: bool,
     pub bank: u32,
     pub at: PacketAt,
+    pub close: bool,
     pub next: u32,
+    pub next_close: bool,
     pub newest: PacketAt,
 }
 
-// The tracks of the banks that a packet concerns: the bank that it names, the neighbours below and above that, the banks of the
-// older and of the newer waiting write; idle where there is none.
+// The tracks of the banks that a packet concerns: the bank that it names, the neighbours below and above the bank of its PRER or
+// else of the bank that it names, the banks of the older and of the newer waiting write; idle where there is none.
 pub struct Tracks {
     pub own: BankTrack,
     pub low: BankTrack,

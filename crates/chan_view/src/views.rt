@@ -1,6 +1,6 @@
 // What a record and the write buffer are to the rules.
 ghost use mathlib.Core.Path.{_≡_};
-ghost use Rattle.chan_view.specs.form.View.{plain, rowView, colView, seenOf, heldOf, leaves, staysBy};
+ghost use Rattle.chan_view.specs.form.View.{plain, rowView, colView, seenOf, heldOf, leaves, leavesClosing, impliesBy, centreOf, staysBy};
 use crate::Held;
 use crate::Seen;
 use crate::View;
@@ -31,6 +31,7 @@ fn plain_view(at: PacketAt) -> View
         col: false,
         other: false,
         masked: false,
+        close: false,
     }
 }
 
@@ -81,19 +82,31 @@ fn col_view(at: PacketAt, p: ColPacket) -> View
             masked: mask != FULL,
             ..v
         },
-        ColPacket::Wr { bank, column, mask } => View {
+        ColPacket::Wr {
+            bank,
+            column,
+            mask,
+            close,
+        } => View {
             bank: bank,
             column: column,
             writes: true,
             other: true,
             masked: mask != FULL,
+            close: close,
             ..v
         },
-        ColPacket::Rd { bank, column, mask } => View {
+        ColPacket::Rd {
+            bank,
+            column,
+            mask,
+            close,
+        } => View {
             bank: bank,
             column: column,
             reads: true,
             masked: mask != FULL,
+            close: close,
             ..v
         },
     }
@@ -121,7 +134,9 @@ pub fn held_of(b: Buffer, due: bool) -> Held
             due: false,
             bank: 32,
             at: PacketAt(0),
+            close: false,
             next: 32,
+            next_close: false,
             newest: PacketAt(0),
         },
         Buffer::One(x) => {
@@ -132,7 +147,9 @@ pub fn held_of(b: Buffer, due: bool) -> Held
                 due: due,
                 bank: x.bank,
                 at: at,
+                close: x.close,
                 next: 32,
+                next_close: false,
                 newest: at,
             }
         }
@@ -145,7 +162,9 @@ pub fn held_of(b: Buffer, due: bool) -> Held
                 due: due,
                 bank: x.bank,
                 at: at,
+                close: x.close,
                 next: y.bank,
+                next_close: y.close,
                 newest: newest,
             }
         }
@@ -157,6 +176,31 @@ pub fn leaving(s: Settings, h: Held, v: View) -> bool
     ensures { λ r. ⌜ r ≡ leaves s h v ⌝ }
 {
     h.waits & (v.other & (num::wide32(h.at.0) + num::wide32(s.rtr) <= num::wide32(v.at.0)))
+}
+
+// Whether a packet retires a closing write.
+pub fn leaves_closing(s: Settings, h: Held, v: View) -> bool
+    ensures { λ r. ⌜ r ≡ leavesClosing s h v ⌝ }
+{
+    h.close & leaving(s, h, v)
+}
+
+// Whether a packet implies a PRER.
+pub fn implies(s: Settings, h: Held, v: View) -> bool
+    ensures { λ r. ⌜ r ≡ impliesBy s h v ⌝ }
+{
+    (v.reads & v.close) | leaves_closing(s, h, v)
+}
+
+// The bank of a packet's PRER, its own or an implied one; of other packets the bank that they name.
+pub fn centre(s: Settings, h: Held, v: View) -> u32
+    ensures { λ r. ⌜ r ≡ centreOf s h v ⌝ }
+{
+    if leaves_closing(s, h, v) {
+        h.bank
+    } else {
+        v.bank
+    }
 }
 
 // Whether a packet may leave the waiting writes as they are.

@@ -1,4 +1,5 @@
 pub mod ViaLaws
 pub mod StopLaws
+pub mod ImpliedLaws
 pub mod StoreLaws
 pub mod TurnLaws

@@ -31,7 +31,7 @@ use Rattle.chan_view.specs.form.View.{rowView, colView, seenOf, heldOf}
 use Rattle.chan_step.specs.form.Banks.{actTrack, refaTrack, prerTrack, sideTrack, readTrack, retiredTrack, changed, closedBanks, rowBanks, colBanks, retiredBanks, banksNext}
 use Rattle.chan_step.specs.form.Lasts.{leftBuffer, joinedBuffer, colBuffer, bufferNext}
 use Rattle.chan_step.proofs.BankLaws.{changed-at, length-changed, closed-near}
-use Rattle.check_walk.specs.form.Turn.{viewIn, openedTrack, newestNext, noLasts, channelOf}
+use Rattle.check_walk.specs.form.Turn.{viewIn, openedTrack, newestNext, noLasts, channelOf, threeStores, closedNear}
 
 -- ---- the banks that records name
 
@@ -42,8 +42,8 @@ fits-bank s (RowAt t (Prer b)) p = ltb-true b 32 p
 fits-bank s (RowAt t (Refa b)) p = ltb-true b 32 p
 fits-bank s (RowAt t (Refp b)) p = ltb-true b 32 p
 fits-bank s (ColAt t (Nocop m)) p = omega arith
-fits-bank s (ColAt t (Wr b c m)) p = ltb-true b 32 (and-left (ltb b 32) _ p)
-fits-bank s (ColAt t (Rd b c m)) p = ltb-true b 32 (and-left (ltb b 32) _ p)
+fits-bank s (ColAt t (Wr b c m q)) p = ltb-true b 32 (and-left (ltb b 32) _ p)
+fits-bank s (ColAt t (Rd b c m q)) p = ltb-true b 32 (and-left (ltb b 32) _ p)
 fits-bank s (DataOf t d) p = omega arith
 
 -- the waiting writes have one too
@@ -85,8 +85,8 @@ pub within-next : (r : Record) (out : Bool) (b : Buffer) → viewIn (seenOf r) .
 unfolding bufferNext colBuffer viewIn seenOf colView
 within-next (RowAt t p) out b i f = f
 within-next (ColAt t (Nocop m)) out b i f = left-within out b f
-within-next (ColAt t (Wr x c m)) out b i f = joined-within (leftBuffer out b) _ i (left-within out b f)
-within-next (ColAt t (Rd x c m)) out b i f = left-within out b f
+within-next (ColAt t (Wr x c m q)) out b i f = joined-within (leftBuffer out b) _ i (left-within out b f)
+within-next (ColAt t (Rd x c m q)) out b i f = left-within out b f
 within-next (DataOf t d) out b i f = f
 
 -- ---- the newest ACT or REFA
@@ -123,7 +123,7 @@ pub length-retired : (out : Bool) (w : ℕ) (t : PacketAt) (l : List BankTrack) 
 length-retired true w t l = length-changed (retiredTrack t) w l
 length-retired false w t l = refl
 
-length-closed : (t : PacketAt) (b low high : ℕ) (l : List BankTrack) → length (closedBanks t b low high l) ≡ length l
+pub length-closed : (t : PacketAt) (b low high : ℕ) (l : List BankTrack) → length (closedBanks t b low high l) ≡ length l
 length-closed t b low high l = length-changed (sideTrack t) high _ ∙ length-changed (sideTrack t) low _ ∙ length-changed (prerTrack t) b l
 
 pub length-next : (s : Settings) (r : Record) (l : List BankTrack) → length (banksNext s r l) ≡ length l
@@ -133,15 +133,15 @@ length-next s (RowAt t (Prer b)) l = length-closed t b (lowOf s b) (highOf s b) 
 length-next s (RowAt t (Refa b)) l = length-changed (refaTrack t) b l
 length-next s (RowAt t (Refp b)) l = length-closed t b (lowOf s b) (highOf s b) l
 length-next s (ColAt t (Nocop m)) l = refl
-length-next s (ColAt t (Wr b c m)) l = refl
-length-next s (ColAt t (Rd b c m)) l = length-changed (readTrack t) b l
+length-next s (ColAt t (Wr b c m q)) l = refl
+length-next s (ColAt t (Rd b c m q)) l = length-changed (readTrack t) b l
 length-next s (DataOf t d) l = refl
 
 module _ (s : Settings) (u : ℕ) (l : List BankTrack) (e : length l ≡ 32) (o : Opened u l) where
   opens-opened : (t : PacketAt) (f : BankTrack → BankTrack) → ((k : BankTrack) → f k .opened ≡ t) → (x : ℕ) → Opened (max u (t .0)) (changed f x l)
   opens-opened t f g x = changed-opened (max u (t .0)) l e (λ i h. omega (arith, o i h)) f (λ k n. rw (g k) (omega arith)) x
 
-  closes-opened : (t : PacketAt) (b : ℕ) → Opened u (closedBanks t b (lowOf s b) (highOf s b) l)
+  pub closes-opened : (t : PacketAt) (b : ℕ) → Opened u (closedBanks t b (lowOf s b) (highOf s b) l)
   closes-opened t b =
       let l1 : List BankTrack = changed (prerTrack t) b l in
       let e1 : length l1 ≡ 32 = length-changed (prerTrack t) b l ∙ e in
@@ -156,8 +156,8 @@ module _ (s : Settings) (u : ℕ) (l : List BankTrack) (e : length l ≡ 32) (o 
   own-opened (RowAt t (Refa b)) = opens-opened t (refaTrack t) (λ k. refl) b
   own-opened (RowAt t (Refp b)) = closes-opened t b
   own-opened (ColAt t (Nocop m)) = o
-  own-opened (ColAt t (Wr b c m)) = o
-  own-opened (ColAt t (Rd b c m)) = changed-opened u l e o (readTrack t) (λ k m. m) b
+  own-opened (ColAt t (Wr b c m q)) = o
+  own-opened (ColAt t (Rd b c m q)) = changed-opened u l e o (readTrack t) (λ k m. m) b
   own-opened (DataOf t d) = o
 
 pub opened-next : (s : Settings) (r : Record) (u : ℕ) (out : Bool) (w : ℕ) (t : PacketAt) (l : List BankTrack) → length l ≡ 32 → Opened u l
@@ -172,22 +172,16 @@ withRd t k = record { bank = k .bank; opened = k .opened; act = k .act; pre = k 
 abbrev pub withRetire : ℕ → BankTrack → BankTrack
 withRetire t k = record { bank = k .bank; opened = k .opened; act = k .act; pre = k .pre; rd = k .rd; retire = record { 0 = t } }
 
--- of every record, at the bank of the older write
+-- of a COL packet other than RD, at the bank of the older write
 abbrev pub retireStore : Bool → ℕ → PacketAt → List BankTrack → List BankTrack
 retireStore out w t l = set l w (withRetire (cond out (t .0) (getD l w idle .retire .0)) (getD l w idle))
 
--- the three of a PRER or REFP
-abbrev pub threeStores : PacketAt → ℕ → ℕ → ℕ → List BankTrack → List BankTrack
-threeStores t x y z l =
-    let l1 : List BankTrack = set l x (prerTrack t (getD l x idle)) in
-    let l2 : List BankTrack = set l1 y (sideTrack t (getD l1 y idle)) in
-    set l2 z (sideTrack t (getD l2 z idle))
-
--- of the packet itself
-abbrev pub ownStores : View → ℕ → ℕ → ℕ → List BankTrack → List BankTrack
-ownStores v x y z l =
+-- of a packet, where the older write, to bank w, leaves or does not
+abbrev pub ownStores : View → ℕ → ℕ → ℕ → ℕ → Bool → List BankTrack → List BankTrack
+ownStores v x y z w out l =
     cond (v .opens) (set l x (openedTrack v (getD l x idle)))
-    (cond (v .precharges) (threeStores (v .at) x y z l) (cond (v .reads) (set l x (withRd (v .at .0) (getD l x idle))) l))
+    (cond (v .precharges) (threeStores (v .at) x y z l)
+    (cond (v .reads) (set l x (withRd (v .at .0) (getD l x idle))) (cond (v .other) (retireStore out w (v .at) l) l)))
 
 pub slot-in : (b : ℕ) → b < 32 → slotOf b ≡ b
 slot-in b i = rw (lt-ltb b 32 i)
@@ -198,27 +192,24 @@ unfolding changed
 retire-stored true w t l f = rw (slot-in w (f refl))
 retire-stored false w t l f = set-getD l (slotOf w) idle
 
-abbrev pub storedAt : Settings → View → List BankTrack → List BankTrack
-storedAt s v l = ownStores v (slotOf (v .bank)) (firstNear s (slotOf (v .bank))) (lastNear s (slotOf (v .bank))) l
+pub close-stored : (s : Settings) (l : List BankTrack) → length l ≡ 32 → (t : PacketAt) (b : ℕ) → b < 32
+    → closedNear s t b l ≡ closedBanks t b (lowOf s b) (highOf s b) l
+unfolding changed
+close-stored s l e t b i = rw (slot-in b i) (sym (closed-near s t b (channelOf l noLasts Empty false) e))
 
-module _ (s : Settings) (l : List BankTrack) (e : length l ≡ 32) where
-  close-stored : (t : PacketAt) (b : ℕ) → b < 32 → storedAt s (viewIn (seenOf (RowAt t (Prer b)))) l ≡ banksNext s (RowAt t (Prer b)) l
-  unfolding viewIn seenOf rowView banksNext rowBanks changed
-  close-stored t b i = rw (slot-in b i) (sym (closed-near s t b (channelOf l noLasts Empty false) e))
+module _ (s : Settings) (w : ℕ) (l : List BankTrack) (e : length l ≡ 32) where
+  abbrev storedAt : View → Bool → List BankTrack
+  storedAt v out = ownStores v (slotOf (v .bank)) (firstNear s (slotOf (v .bank))) (lastNear s (slotOf (v .bank))) (slotOf w) out l
 
-  own-stored : (r : Record) → viewIn (seenOf r) .bank < 32 → storedAt s (viewIn (seenOf r)) l ≡ banksNext s r l
+  -- only a COL packet other than RD retires
+  pub turn-stored : (r : Record) (out : Bool) → (out ≡ true → w < 32) → (viewIn (seenOf r) .other ≡ false → out ≡ false) → viewIn (seenOf r) .bank < 32
+      → storedAt (viewIn (seenOf r)) out ≡ banksNext s r (retiredBanks out w (viewIn (seenOf r) .at) l)
   unfolding viewIn seenOf rowView colView banksNext rowBanks colBanks changed
-  own-stored (RowAt t (Act b row)) i = rw (slot-in b i)
-  own-stored (RowAt t (Prer b)) i = close-stored t b i
-  own-stored (RowAt t (Refa b)) i = rw (slot-in b i)
-  own-stored (RowAt t (Refp b)) i = close-stored t b i
-  own-stored (ColAt t (Nocop m)) i = refl
-  own-stored (ColAt t (Wr b c m)) i = refl
-  own-stored (ColAt t (Rd b c m)) i = rw (slot-in b i)
-  own-stored (DataOf t d) i = refl
-
-pub turn-stored : (s : Settings) (r : Record) (out : Bool) (w : ℕ) (l : List BankTrack) → length l ≡ 32 → (out ≡ true → w < 32) → viewIn (seenOf r) .bank < 32
-    → storedAt s (viewIn (seenOf r)) (retireStore out (slotOf w) (viewIn (seenOf r) .at) l) ≡ banksNext s r (retiredBanks out w (viewIn (seenOf r) .at) l)
-turn-stored s r out w l e f i =
-    let t : PacketAt = viewIn (seenOf r) .at in
-    ap (storedAt s (viewIn (seenOf r))) (retire-stored out w t l f) ∙ own-stored s (retiredBanks out w t l) (length-retired out w t l ∙ e) r i
+  turn-stored (RowAt t (Act b row)) out f g i = rw (g refl, slot-in b i)
+  turn-stored (RowAt t (Prer b)) out f g i = rw (g refl) (close-stored s l e t b i)
+  turn-stored (RowAt t (Refa b)) out f g i = rw (g refl, slot-in b i)
+  turn-stored (RowAt t (Refp b)) out f g i = rw (g refl) (close-stored s l e t b i)
+  turn-stored (ColAt t (Nocop m)) out f g i = retire-stored out w t l f
+  turn-stored (ColAt t (Wr b c m q)) out f g i = retire-stored out w t l f
+  turn-stored (ColAt t (Rd b c m q)) out f g i = rw (g refl, slot-in b i)
+  turn-stored (DataOf t d) out f g i = rw (g refl)

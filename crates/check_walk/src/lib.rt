@@ -6,8 +6,11 @@ ghost use Prim.Native.Nat.{ℕ, _+_, _<_, _≤_, _^_};
 ghost use lib.ListN.{length};
 ghost use Rattle.spec_rules.specs.Neighbour.{contextOf};
 ghost use Rattle.check_walk.specs.form.Walk.{placeIn, stopOf};
+use crate::turn::banks_implied;
+use crate::turn::buffer_next;
 use crate::turn::channel_of;
-use crate::turn::larger;
+use crate::turn::lasts_implied;
+use crate::turn::latest_after;
 use crate::turn::next_slot;
 use crate::turn::no_lasts;
 use crate::turn::opened_track;
@@ -16,7 +19,6 @@ use crate::turn::tracks_of;
 use crate::turn::view_of;
 use chan_judge::judge;
 use chan_least::quick::passes;
-use chan_step::buffer_after;
 use chan_step::lasts_after;
 use chan_step::tracks::closed_track;
 use chan_step::tracks::side_track;
@@ -38,6 +40,12 @@ pub struct Stop {
     pub rule: u32,
 }
 
+// An instant after which no bank was opened, and whether the last record is a WR, whose data are due.
+pub struct Latest {
+    pub opened: u32,
+    pub due: bool,
+}
+
 // Where record i stands, in a log or in a list.
 fn place_of(blocks: bool, i: usize) -> usize
     requires { ⌜ i < 2 ^ 58 ⌝ }
@@ -51,7 +59,8 @@ fn place_of(blocks: bool, i: usize) -> usize
 }
 
 // The first of n records that is none or breaks a rule. The state of the channel stands in locals: only a record that fails the
-// quick test is judged by all of it. No bank was opened after newest.
+// quick test is judged by all of it. So does every one that implies a PRER; that PRER may be stored before the packet itself, which
+// changes other parts of the state.
 pub fn walk(s: Settings, b: &[u8], n: usize, blocks: bool) -> Stop
     requires { ⌜ n < 2 ^ 58 ⌝ }
     requires { ⌜ ((i : ℕ) → i < n → placeIn blocks i + 32 ≤ length (now b)) ⌝ }
@@ -59,43 +68,44 @@ pub fn walk(s: Settings, b: &[u8], n: usize, blocks: bool) -> Stop
 {
     let mut banks = [unused(); 32];
     let mut l = no_lasts();
-    let mut newest = 0;
     let mut buffer = Buffer::Empty;
-    let mut due = false;
+    let mut latest = Latest {
+        opened: 0,
+        due: false,
+    };
     for i in 0..n {
         let RecordRead::Known(r) = read_record(s, b, place_of(blocks, i)) else {
             return Stop { at: i, rule: 0 };
         };
         let v = view_of(r);
-        let h = held_of(buffer, due);
+        let h = held_of(buffer, latest.due);
         let x = slot_of(v.bank);
         let y = first_near(s, x);
         let z = last_near(s, x);
         let w = slot_of(h.bank);
         let k = tracks_of(banks[x], banks[y], banks[z], banks[w], banks[next_slot(h)]);
-        if !passes(s, r, h, k, l, PacketAt(newest)) {
-            let rule = judge(s, channel_of(banks, l, buffer, due), r);
+        if !passes(s, r, h, k, l, PacketAt(latest.opened)) {
+            let rule = judge(s, channel_of(banks, l, buffer, latest.due), r);
             if rule != 0 {
                 return Stop { at: i, rule: rule };
             }
-        }
-        if v.other {
-            let leaves = leaving(s, h, v);
-            banks[w].retire.0 = pick(leaves, v.at.0, banks[w].retire.0);
-            buffer = buffer_after(r, leaves, buffer);
+            banks = banks_implied(s, buffer, r, banks);
+            l = lasts_implied(s, buffer, r, l);
         }
         if v.opens {
             banks[x] = opened_track(v, banks[x]);
-            newest = larger(newest, v.at.0);
         } else if v.precharges {
             banks[x] = closed_track(v.at, banks[x]);
             banks[y] = side_track(v.at, banks[y]);
             banks[z] = side_track(v.at, banks[z]);
         } else if v.reads {
             banks[x].rd.0 = v.at.0;
+        } else if v.other {
+            banks[w].retire.0 = pick(leaving(s, h, v), v.at.0, banks[w].retire.0);
+            buffer = buffer_next(s, r, v, h, buffer);
         }
         l = lasts_after(r, l);
-        due = v.writes;
+        latest = latest_after(v, latest);
     }
     Stop { at: n, rule: 0 }
 }

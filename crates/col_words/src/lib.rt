@@ -3,15 +3,17 @@ ghost use mathlib.Core.Path.{_≡_};
 ghost use mathlib.Core.Bool.{cond, _&&_};
 ghost use Prim.Native.Nat.{_+_, _/_, _%_, _^_, _<_};
 ghost use lib.Dec.{eqb, ltb};
-ghost use Rattle.packet.specs.Col.{maskBit, maskField, colFields, colWord, colFits, colCoded, maskSaid, maskOf, colOf, colDecoded};
+ghost use Rattle.packet.specs.Col.{maskBit, maskField, colFields, closeBit, colWord, colFits, colCoded, maskSaid, maskOf, colOf, colDecoded};
 use num::wide32;
 use packet::Coded;
 use packet::ColDecoded;
 use packet::ColPacket;
 use packet::FULL;
 
-// Opcodes by command: NOCOP, WR, RD.
+// Opcodes by command: NOCOP, WR, RD. A WR or RD that closes its bank (WRA, RDA) has bit 2 too.
 const COP: [u32; 3] = [0, 1, 3];
+
+const CLOSE_BIT: u32 = 4;
 
 // The lowest bit of each field; the gap is the zero below the bank, and the device stands again where M = 0.
 const S_BIT: u64 = 0x80_0000_0000;
@@ -58,6 +60,14 @@ fn col_fields(device: u32, bank: u32, column: u32, cop: u32, mask: u32) -> u64
     top + middle + mask_bit(mask) * M_BIT + mask_field(device, mask)
 }
 
+// The opcode of WR or RD, or of the one that closes its bank.
+fn access_cop(plain: u32, close: bool) -> u32
+    requires { ⌜ plain < 4 ⌝ }
+    ensures { λ r. ⌜ r ≡ plain + closeBit close ⌝ }
+{
+    if close { plain + CLOSE_BIT } else { plain }
+}
+
 // The word of a COL packet, whether or not the packet fits the settings.
 pub fn col_word(device: u32, p: ColPacket) -> u64
     requires { ⌜ device < 32 ⌝ }
@@ -65,8 +75,18 @@ pub fn col_word(device: u32, p: ColPacket) -> u64
 {
     match p {
         ColPacket::Nocop { mask } => col_fields(device, 0, 0, COP[0], mask),
-        ColPacket::Wr { bank, column, mask } => col_fields(device, bank, column, COP[1], mask),
-        ColPacket::Rd { bank, column, mask } => col_fields(device, bank, column, COP[2], mask),
+        ColPacket::Wr {
+            bank,
+            column,
+            mask,
+            close,
+        } => col_fields(device, bank, column, access_cop(COP[1], close), mask),
+        ColPacket::Rd {
+            bank,
+            column,
+            mask,
+            close,
+        } => col_fields(device, bank, column, access_cop(COP[2], close), mask),
     }
 }
 
@@ -88,8 +108,18 @@ fn col_fits(columns: u32, p: ColPacket) -> bool
 {
     match p {
         ColPacket::Nocop { mask } => mask < 65536,
-        ColPacket::Wr { bank, column, mask } => access_fits(columns, bank, column, mask),
-        ColPacket::Rd { bank, column, mask } => access_fits(columns, bank, column, mask),
+        ColPacket::Wr {
+            bank,
+            column,
+            mask,
+            ..
+        } => access_fits(columns, bank, column, mask),
+        ColPacket::Rd {
+            bank,
+            column,
+            mask,
+            ..
+        } => access_fits(columns, bank, column, mask),
     }
 }
 
@@ -146,6 +176,30 @@ fn nocop_of(bank: u32, column: u32, mask: u32) -> ColDecoded
     ColDecoded::NoCol
 }
 
+// WR or WRA.
+fn wr_of(bank: u32, column: u32, mask: u32, close: bool) -> ColDecoded
+    ensures { λ r. ⌜ r ≡ ColDecoded.Col (ColPacket.Wr bank column mask close) ⌝ }
+{
+    ColDecoded::Col(ColPacket::Wr {
+        bank,
+        column,
+        mask,
+        close,
+    })
+}
+
+// RD or RDA.
+fn rd_of(bank: u32, column: u32, mask: u32, close: bool) -> ColDecoded
+    ensures { λ r. ⌜ r ≡ ColDecoded.Col (ColPacket.Rd bank column mask close) ⌝ }
+{
+    ColDecoded::Col(ColPacket::Rd {
+        bank,
+        column,
+        mask,
+        close,
+    })
+}
+
 // The packet of an opcode.
 fn col_of(columns: u32, bank: u32, column: u32, cop: u32, mask: u32) -> ColDecoded
     ensures { λ r. ⌜ r ≡ colOf columns bank column cop mask ⌝ }
@@ -157,10 +211,16 @@ fn col_of(columns: u32, bank: u32, column: u32, cop: u32, mask: u32) -> ColDecod
         return ColDecoded::NoCol;
     }
     if cop == COP[1] {
-        return ColDecoded::Col(ColPacket::Wr { bank, column, mask });
+        return wr_of(bank, column, mask, false);
+    }
+    if cop == COP[1] + CLOSE_BIT {
+        return wr_of(bank, column, mask, true);
     }
     if cop == COP[2] {
-        return ColDecoded::Col(ColPacket::Rd { bank, column, mask });
+        return rd_of(bank, column, mask, false);
+    }
+    if cop == COP[2] + CLOSE_BIT {
+        return rd_of(bank, column, mask, true);
     }
     ColDecoded::NoCol
 }

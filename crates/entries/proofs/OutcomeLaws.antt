@@ -45,7 +45,7 @@ module _ (cx : Context) (p : PlannerState) where
   counted-by : (x : RequestRead) (room : ℕ) → Counted (outcomeBy cx p x room) (draftBy cx p x .records) room
   unfolding Counted outcomeBy outcomeOf draftBy madeCount isMade
   counted-by (RefusedRequest why) room = (refl, omega arith)
-  counted-by (Accepted q) room = go (unretired q p) (timely cx (planned cx q p)) (leb (length (planned cx q p .records)) (room / 32)) refl
+  counted-by (Accepted q) room = go (unretired q p) (timely cx p (planned cx q p)) (leb (length (planned cx q p .records)) (room / 32)) refl
     where
       l : List Record
       l = planned cx q p .records

@@ -22,9 +22,8 @@ use Rattle.spec_rules.specs.Broken.{recordIn}
 use Rattle.spec_plan.specs.declared.PlannerState.{PlannerState}
 use Rattle.spec_plan.specs.Planner.{plannerValid}
 use Rattle.spec_plan.specs.Call.{listBytes, planRecords, planRoom}
-use Rattle.spec_plan.proofs.Invariant.{valid-inv}
 use Rattle.spec_plan.proofs.Trace.{each-at, Placed}
-use Rattle.spec_plan.proofs.CallLaws.{Made, InTime, each-in-time, called, call-made, call-in-time}
+use Rattle.spec_plan.proofs.CallLaws.{Made, InTime, each-in-time, valid-rest, called, call-made, call-in-time}
 use Rattle.spec_check.specs.Check.{known, recordsUpTo}
 use Rattle.text.specs.Text.{recordLine, writeBank, writeColumn, recordLines}
 
@@ -103,8 +102,8 @@ module _ (cx : Context) (ns : Neighbours cx) (p : PlannerState) (request : List 
   call-coded : (room j : ℕ) → j < length (planRecords cx p request room) → Coded (cx .settings) (recordIn (planRecords cx p request room) j)
   call-coded room j m =
       let l : List Record = planRecords cx p request room in
-      let made : Made cx p (called cx p request room) = call-made cx p request room ns w (valid-inv cx p v) in
-      let late = each-at (InTime cx) l (each-in-time cx l (call-in-time cx p request room)) j m in
+      let made : Made cx p (called cx p request room) = call-made cx p request room ns w (valid-rest cx p v) in
+      let late = each-at (InTime cx (p .channel)) l (each-in-time cx (p .channel) l (call-in-time cx p request room)) j m .0 in
       record { word = each-at (Placed cx p) l (made .each) j m .word; early = omega (arith, late) }
 
   pub room-lines : (room : List ℕ) → valid (cx .settings) ≡ true

@@ -54,24 +54,28 @@ row-bank : (at device rows w b : ℕ) → isKnown (rowRecord at (rowDecoded devi
 unfolding rowDecoded rowOf
 row-bank at device rows w b e = row-tests at (w / 2 ^ 13 % 32) (w % 2 ^ 12) b (eqb (w / 2 ^ 18) (deviceHead device)) (eqb (w / 2 ^ 12 % 2) 1) (ltb (w % 2 ^ 12) rows) (eqb (w % 2 ^ 12) 0x600) (eqb (w % 2 ^ 12) 0x0C0) (eqb (w % 2 ^ 12) 0x540) e
 
-col-tests : (at bank column mask b : ℕ) (head none-named zeros low w r : Bool)
-    → let d : ColDecoded = cond head (cond none-named (cond zeros (Col (Nocop mask)) NoCol) (cond low (cond w (Col (Wr bank column mask)) (cond r (Col (Rd bank column mask)) NoCol)) NoCol)) NoCol in
+col-tests : (at bank column mask b : ℕ) (head none-named zeros low w wa r ra : Bool)
+    → let access : ColDecoded =
+    cond w (Col (Wr bank column mask false)) (cond wa (Col (Wr bank column mask true)) (cond r (Col (Rd bank column mask false)) (cond ra (Col (Rd bank column mask true)) NoCol))) in
+    let d : ColDecoded = cond head (cond none-named (cond zeros (Col (Nocop mask)) NoCol) (cond low access NoCol)) NoCol in
     isKnown (colRecord at d) ≡ true → saidNames (colRecord at d) b ≡ (not none-named && eqb bank b)
 unfolding colRecord isKnown saidNames names colNames
-col-tests at bank column mask b false n z low w r e = none e
-col-tests at bank column mask b true true true low w r e = refl
-col-tests at bank column mask b true true false low w r e = none e
-col-tests at bank column mask b true false z false w r e = none e
-col-tests at bank column mask b true false z true true r e = refl
-col-tests at bank column mask b true false z true false true e = refl
-col-tests at bank column mask b true false z true false false e = none e
+col-tests at bank column mask b false n z low w wa r ra e = none e
+col-tests at bank column mask b true true true low w wa r ra e = refl
+col-tests at bank column mask b true true false low w wa r ra e = none e
+col-tests at bank column mask b true false z false w wa r ra e = none e
+col-tests at bank column mask b true false z true true wa r ra e = refl
+col-tests at bank column mask b true false z true false true r ra e = refl
+col-tests at bank column mask b true false z true false false true ra e = refl
+col-tests at bank column mask b true false z true false false false true e = refl
+col-tests at bank column mask b true false z true false false false false e = none e
 
 col-bank : (at device columns w b : ℕ) → isKnown (colRecord at (colDecoded device columns w)) ≡ true
     → saidNames (colRecord at (colDecoded device columns w)) b ≡ (not (eqb (w / 2 ^ 17 % 16) 0) && eqb (w / 2 ^ 29 % 32) b)
 unfolding colDecoded colOf
 col-bank at device columns w b e = col-tests at (w / 2 ^ 29 % 32) (w / 2 ^ 21 % 128) (maskOf (w / 2 ^ 16 % 2) (w % 2 ^ 16)) b
     ((eqb (w / 2 ^ 34) (2 ^ 5 + device) && eqb (w / 2 ^ 28 % 2) 0) && maskSaid device (w / 2 ^ 16 % 2) (w % 2 ^ 16))
-    (eqb (w / 2 ^ 17 % 16) 0) (eqb (w / 2 ^ 29 % 32) 0 && eqb (w / 2 ^ 21 % 128) 0) (ltb (w / 2 ^ 21 % 128) columns) (eqb (w / 2 ^ 17 % 16) 1) (eqb (w / 2 ^ 17 % 16) 3) e
+    (eqb (w / 2 ^ 17 % 16) 0) (eqb (w / 2 ^ 29 % 32) 0 && eqb (w / 2 ^ 21 % 128) 0) (ltb (w / 2 ^ 21 % 128) columns) (eqb (w / 2 ^ 17 % 16) 1) (eqb (w / 2 ^ 17 % 16) 5) (eqb (w / 2 ^ 17 % 16) 3) (eqb (w / 2 ^ 17 % 16) 7) e
 
 -- ---- a record
 

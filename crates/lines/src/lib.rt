@@ -1,5 +1,6 @@
 // The lines of records that stand in a buffer, as the planner leaves them.
 ghost use mathlib.Core.Path.{_≡_};
+ghost use mathlib.Core.Bool.{cond};
 ghost use Prim.Native.Nat.{_+_, _*_, _≤_};
 ghost use lib.ListN.{length};
 ghost use Rattle.num.specs.Bytes.{part};
@@ -34,6 +35,7 @@ pub fn set_h() -> Settings
         cc: 4,
         cac: 8,
         cwd: 6,
+        offp: 4,
         rows: 2,
         columns: 4,
         device: 0,
@@ -41,13 +43,13 @@ pub fn set_h() -> Settings
     }
 }
 
-// Bank and column of the latest WR.
+// Bank and column of the latest WR or WRA.
 struct Latest {
     bank: u32,
     column: u32,
 }
 
-// The latest WR after one more record.
+// The latest WR or WRA after one more record.
 fn latest_after(r: Record, before: Latest) -> Latest
     ensures { λ q. ⌜ (q .bank ≡ writeBank r (before .bank)) × (q .column ≡ writeColumn r (before .column)) ⌝ }
 {
@@ -55,16 +57,8 @@ fn latest_after(r: Record, before: Latest) -> Latest
         Record::RowAt(_, _) => before,
         Record::ColAt(_, p) => match p {
             ColPacket::Nocop { mask: _ } => before,
-            ColPacket::Wr {
-                bank,
-                column,
-                mask: _,
-            } => Latest { bank, column },
-            ColPacket::Rd {
-                bank: _,
-                column: _,
-                mask: _,
-            } => before,
+            ColPacket::Wr { bank, column, .. } => Latest { bank, column },
+            ColPacket::Rd { .. } => before,
         },
         Record::DataOf(_, _) => before,
     }
@@ -82,30 +76,39 @@ fn put_row_line(out: &mut [u8], at: usize, instant: u32, p: RowPacket) -> usize
     }
 }
 
+// How many letters of WRA or RDA are the name of the packet: the A stands where it closes its bank.
+fn letters(close: bool) -> usize
+    ensures { λ r. ⌜ (r ≡ cond close 3 2) × (r ≤ 3) ⌝ }
+{
+    if close { 3 } else { 2 }
+}
+
 fn put_col_line(out: &mut [u8], at: usize, instant: u32, p: ColPacket) -> usize
     requires { ⌜ at + lineRoom ≤ length (now out) ⌝ }
     ensures { λ r. ⌜ Put (now (out .entry)) at (colLine instant p) (now (out .exit)) r × (r ≤ at + lineRoom) ⌝ }
 {
     match p {
         ColPacket::Nocop { mask } => put_line(out, at, instant, b"NOCOP", 0, 0, mask),
-        ColPacket::Wr { bank, column, mask } => put_line(
-            out,
-            at,
-            instant,
-            b"WR",
+        ColPacket::Wr {
             bank,
             column,
             mask,
-        ),
-        ColPacket::Rd { bank, column, mask } => put_line(
-            out,
-            at,
-            instant,
-            b"RD",
+            close,
+        } => {
+            let name: &[u8] = b"WRA";
+            let n = letters(close);
+            put_line(out, at, instant, &name[..n], bank, column, mask)
+        }
+        ColPacket::Rd {
             bank,
             column,
             mask,
-        ),
+            close,
+        } => {
+            let name: &[u8] = b"RDA";
+            let n = letters(close);
+            put_line(out, at, instant, &name[..n], bank, column, mask)
+        }
     }
 }
 

@@ -22,7 +22,8 @@ unfoldable pub someUpTo : (ℕ → Bool) → ℕ → Bool
 someUpTo f zero = false
 someUpTo f (suc n) = someUpTo f n || f n
 
--- whether a packet names bank b: "a ROW packet, RD or WR"; "NOCOP and D set nothing"
+-- whether a packet names bank b: "a ROW packet, RD or WR"; "NOCOP and D set nothing"; "An RDA counts as RD", "A WRA counts as WR"
+-- (document 02 f)
 unfoldable pub rowNames : RowPacket → ℕ → Bool
 rowNames (Act bank row) b = eqb bank b
 rowNames (Prer bank) b = eqb bank b
@@ -31,8 +32,8 @@ rowNames (Refp bank) b = eqb bank b
 
 unfoldable pub colNames : ColPacket → ℕ → Bool
 colNames (Nocop mask) b = false
-colNames (Wr bank column mask) b = eqb bank b
-colNames (Rd bank column mask) b = eqb bank b
+colNames (Wr bank column mask close) b = eqb bank b
+colNames (Rd bank column mask close) b = eqb bank b
 
 unfoldable pub names : Record → ℕ → Bool
 names (RowAt t p) b = rowNames p b

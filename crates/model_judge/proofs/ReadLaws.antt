@@ -14,7 +14,8 @@ use Rattle.spec_rules.specs.History.{isClosed}
 use Rattle.chan_view.specs.declared.View.{View}
 use Rattle.chan_view.specs.declared.Held.{Held}
 use Rattle.chan_view.specs.form.Beside.{lowOf, highOf, slotOf, aroundOf}
-use Rattle.chan_judge.specs.form.Tests.{rowTests, colTests, bufferTests, packetRule}
+use Rattle.chan_view.specs.form.View.{centreOf}
+use Rattle.chan_judge.specs.form.Tests.{prerOf, pinTests, rowTests, colTests, bufferTests, packetRule}
 use Rattle.spec_rules.specs.Neighbour.{bankCount, Context}
 use Rattle.spec_rules.specs.Channel.{never, idle}
 use Rattle.spec_rules.proofs.Bools.{and-left}
@@ -49,10 +50,11 @@ right-length cx b r = eqb-true (length b) 792 (and-left (eqb (length b) 792) _ r
 -- of the newer write's bank the state is enough
 pub state-enough : (s : Settings) (v : View) (h : Held) (l : List BankTrack) (act : ℕ) (lasts : LastInstants)
     → let at : ℕ → BankTrack = λ x. getD l (slotOf x) idle in
+    let c : ℕ = centreOf s h v in
     let next : BankTrack = record { bank = at (h .next) .bank; opened = never; act = never; pre = never; rd = never; retire = never } in
-    packetRule s v h (aroundOf s (v .bank) h (at (v .bank)) (at (lowOf s (v .bank))) (at (highOf s (v .bank))) (at (h .bank)) next) act lasts
-    ≡ packetRule s v h (aroundOf s (v .bank) h (at (v .bank)) (at (lowOf s (v .bank))) (at (highOf s (v .bank))) (at (h .bank)) (at (h .next))) act lasts
-unfolding packetRule rowTests colTests bufferTests
+    packetRule s v h (aroundOf s (v .bank) c h (at (v .bank)) (at (lowOf s c)) (at (highOf s c)) (at (h .bank)) next) act lasts
+    ≡ packetRule s v h (aroundOf s (v .bank) c h (at (v .bank)) (at (lowOf s c)) (at (highOf s c)) (at (h .bank)) (at (h .next))) act lasts
+unfolding packetRule pinTests rowTests colTests bufferTests prerOf
 state-enough s v h l act lasts = rw (shut (getD l (slotOf (h .next)) idle) (ltb (h .next) 32))
   where
     shut : (k : BankTrack) (q : Bool) → isClosed (cond q (record { bank = k .bank; opened = never; act = never; pre = never; rd = never; retire = never }) idle .bank) ≡ isClosed (cond q k idle .bank)

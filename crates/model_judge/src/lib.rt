@@ -10,7 +10,7 @@ ghost use Rattle.spec_state.specs.ChannelBytes.{channelIn};
 ghost use Rattle.spec_model.specs.ModelBytes.{modelIn, modelRight};
 ghost use Rattle.state_bytes.specs.form.Stored.{InRange};
 ghost use Rattle.chan_view.specs.form.Beside.{slotOf, tracksOf};
-ghost use Rattle.chan_view.specs.form.View.{heldOf};
+ghost use Rattle.chan_view.specs.form.View.{heldOf, centreOf};
 ghost use Rattle.chan_judge.specs.form.Tests.{actOver, packetRule};
 use chan_judge::acts::act_with;
 use chan_judge::data_rule;
@@ -23,6 +23,7 @@ use chan_view::banks::slot_of;
 use chan_view::banks::unused;
 use chan_view::neighbours::high_of;
 use chan_view::neighbours::low_of;
+use chan_view::views::centre;
 use chan_view::views::held_of;
 use chan_view::views::seen_of;
 use record::Record;
@@ -83,14 +84,15 @@ fn act_in(s: Settings, b: &[u8], bank: u32) -> u64
 fn packet_in(s: Settings, b: &[u8], h: Held, v: View) -> u32
     requires { ⌜ 752 ≤ length (now b) ⌝ }
     requires { ⌜ InRange (now b) ⌝ }
-    ensures { λ n. ⌜ n ≡ packetRule s v h (tracksOf s (channelIn (now (b .entry)) .banks) (v .bank) h) (actOver s (channelIn (now (b .entry)) .banks) (v .bank)) (channelIn (now (b .entry)) .lasts) ⌝ }
+    ensures { λ n. ⌜ n ≡ packetRule s v h (tracksOf s (channelIn (now (b .entry)) .banks) (v .bank) (centreOf s h v) h) (actOver s (channelIn (now (b .entry)) .banks) (v .bank)) (channelIn (now (b .entry)) .lasts) ⌝ }
 {
     let own = track_for(b, v.bank);
-    let low = track_for(b, low_of(s, v.bank));
-    let high = track_for(b, high_of(s, v.bank));
+    let c = centre(s, h, v);
+    let low = track_for(b, low_of(s, c));
+    let high = track_for(b, high_of(s, c));
     let held = track_for(b, h.bank);
     let next = state_alone(track_for(b, h.next));
-    let k = around(s, v.bank, h, own, low, high, held, next);
+    let k = around(s, v.bank, c, h, own, low, high, held, next);
     let l = lasts_at(b);
     if v.opens {
         return packet_rule(s, v, h, k, act_in(s, b, v.bank), l);

@@ -1,8 +1,8 @@
 -- What the code stores into bytes that are a model's, for a record that breaks no rule, is the model after the record.
 -- Assumes nothing.
-use Prim.Native.Nat.{ℕ, _-_}
+use Prim.Native.Nat.{ℕ, _+_, _-_}
 use mathlib.Core.Path.{_≡_, refl, sym, ap, _∙_}
-use mathlib.Core.Bool.{true, false, cond}
+use mathlib.Core.Bool.{Bool, true, false, cond}
 use mathlib.Core.List.{List, _++_}
 use mathlib.Core.Option.{none}
 use native.Mathlib.Omega.{arith}
@@ -27,21 +27,22 @@ use Rattle.record.specs.declared.Record.the-variants.{RowAt, ColAt, DataOf}
 use Rattle.spec_rules.specs.declared.Buffer.the-variants.{Empty}
 use Rattle.spec_rules.specs.Neighbour.{contextOf}
 use Rattle.spec_rules.specs.Packets.{isPacket, traits, colTraits, instant}
-use Rattle.spec_rules.specs.History.{leaving}
-use Rattle.spec_rules.specs.Channel.{waitingOf, leavingOf, afterData, after}
-use Rattle.spec_rules.specs.Checks.{judged}
-use Rattle.spec_rules.proofs.Bools.{not-both}
+use Rattle.spec_rules.specs.History.{isOpen, leaving}
+use Rattle.spec_rules.specs.Channel.{stateOf, waitingOf, leavingOf, afterImplied, afterData, after}
+use Rattle.spec_rules.specs.Checks.{checks, judged}
+use Rattle.spec_rules.proofs.Bools.{not-both, and-left}
+use Rattle.spec_rules.proofs.BrokenLaws.{lowest-none}
 use Rattle.spec_state.specs.ChannelBytes.{channelBytes}
-use Rattle.spec_state.specs.form.Stores.{actStored, refaStored, prerStored, rdStored, dataStored}
+use Rattle.spec_state.specs.form.Stores.{actStored, refaStored, prerStored, rdStored, impliedStored, dataStored}
 use Rattle.spec_state.proofs.StoreLaws.{act-stored, refa-stored, rd-stored}
 use Rattle.spec_state.proofs.ColLaws.{data-stored}
 use Rattle.chan_view.specs.form.Beside.{lowOf, highOf}
-use Rattle.state_stores.proofs.SideLaws.{prer-after, refp-after}
+use Rattle.state_stores.proofs.SideLaws.{prer-after, refp-after, rda-after}
 use Rattle.spec_model.specs.declared.ModelState.{ModelState}
 use Rattle.spec_model.specs.Store.{dualoctBytes}
 use Rattle.spec_model.specs.Model.{retiredWrite, refrBy, refrNext, bytesNext, secondNext, modelNext}
 use Rattle.spec_model.specs.ModelBytes.{modelBytes, modelIn, modelRight}
-use Rattle.model_next.specs.form.Next.{refaNext, rowNext, leavesAt, colNext, dataNext}
+use Rattle.model_next.specs.form.Next.{refaNext, rowNext, leavesAt, impliedNext, colNext, dataNext}
 use Rattle.model_next.proofs.FitLaws.{act-in, wr-in, rd-in}
 use Rattle.model_next.proofs.TailLaws.{tailOf, refr-put, data-put, second-put}
 use Rattle.model_next.proofs.TakenLaws.{no-due, some-waits, col-late}
@@ -73,34 +74,48 @@ module _ (s : Settings) (b : List ℕ) (r : modelRight (contextOf s) b ≡ true)
       ap (λ (l : List ℕ). prerStored l x (lowOf s x) (highOf s x) (t .0 - 3)) (exact s b r v w)
       ∙ refp-after s v (m .channel) (channel-right s b r) (tail s b r v w) (no-data (RowAt t (Refp x)) refl j) x (t .0) (ltb-true x 32 f)
 
-  rd-next : (t : PacketAt) (x c mask : ℕ) → colFits (s .columns) (Rd x c mask) ≡ true → judged (contextOf s) (m .channel) (ColAt t (Rd x c mask)) ≡ 0
-      → rdStored b x (t .0 - 3) ≡ channelBytes (after (contextOf s) (m .channel) (ColAt t (Rd x c mask))) ++ tail s b r v w
-  unfolding isPacket
-  rd-next t x c mask f j =
-      let d : m .channel .due ≡ false = no-data (ColAt t (Rd x c mask)) refl j in
-      ap (λ (l : List ℕ). rdStored l x (t .0 - 3)) (exact s b r v w)
-      ∙ rd-stored (contextOf s) (m .channel) (tail s b r v w) (size s b r v w) (write s b r v w) d x (t .0) (rd-in (s .columns) x c mask f) c mask
+  -- rule 9
+  read-open : (t : PacketAt) (x c mask : ℕ) → judged (contextOf s) (m .channel) (ColAt t (Rd x c mask true)) ≡ 0 → isOpen (stateOf (m .channel) x) ≡ true
+  unfolding judged checks traits colTraits leaving
+  read-open t x c mask j =
+      let q : Record = ColAt t (Rd x c mask true) in
+      and-left (isOpen (stateOf (m .channel) x)) _ (lowest-none 0 (checks (contextOf s) (m .channel) q) j 8)
 
-  rd-leaves : (t : PacketAt) (x c mask : ℕ) → leavingOf (contextOf s) (m .channel) (ColAt t (Rd x c mask)) ≡ none
+  rd-next : (t : PacketAt) (x c mask : ℕ) (close : Bool) → colFits (s .columns) (Rd x c mask close) ≡ true → judged (contextOf s) (m .channel) (ColAt t (Rd x c mask close)) ≡ 0
+      → impliedNext s (rdStored b x (t .0 - 3)) close x (t .0 - 3) ≡ channelBytes (after (contextOf s) (m .channel) (ColAt t (Rd x c mask close))) ++ tail s b r v w
+  unfolding isPacket
+  rd-next t x c mask false f j =
+      let d : m .channel .due ≡ false = no-data (ColAt t (Rd x c mask false)) refl j in
+      ap (λ (l : List ℕ). rdStored l x (t .0 - 3)) (exact s b r v w)
+      ∙ rd-stored (contextOf s) (m .channel) (tail s b r v w) (size s b r v w) (write s b r v w) d x (t .0) (rd-in (s .columns) x c mask false f) c mask
+  rd-next t x c mask true f j =
+      let d : m .channel .due ≡ false = no-data (ColAt t (Rd x c mask true)) refl j in
+      let later : t .0 - 3 + s .offp ≡ t .0 + s .offp - 3 = omega (arith, col-late (contextOf s) (m .channel) t (Rd x c mask true) j) in
+      rw later
+      (ap (λ (l : List ℕ). impliedStored (rdStored l x (t .0 - 3)) x (t .0 + s .offp - 3)) (exact s b r v w)
+      ∙ rda-after s v (m .channel) (channel-right s b r) (tail s b r v w) d x (t .0) (rd-in (s .columns) x c mask true f) (read-open t x c mask j) c mask)
+
+  rd-leaves : (t : PacketAt) (x c mask : ℕ) (close : Bool) → leavingOf (contextOf s) (m .channel) (ColAt t (Rd x c mask close)) ≡ none
   unfolding leaving traits colTraits
-  rd-leaves t x c mask = refl
+  rd-leaves t x c mask close = refl
 
   pub col-next : (t : PacketAt) (p : ColPacket) → colFits (s .columns) p ≡ true → judged (contextOf s) (m .channel) (ColAt t p) ≡ 0
       → colNext s b p (t .0 - 3) ≡ modelBytes (modelNext (contextOf s) m (ColAt t p))
-  unfolding colNext modelBytes modelNext refrNext bytesNext secondNext retiredWrite after isPacket traits colTraits instant
+  unfolding colNext modelBytes modelNext refrNext bytesNext secondNext retiredWrite after afterImplied isPacket traits colTraits instant contextOf
   col-next t (Nocop mask) f j =
       let d : m .channel .due ≡ false = no-data (ColAt t (Nocop mask)) refl j in
       let h = leaving-as s b r (ColAt t (Nocop mask)) refl (col-late (contextOf s) (m .channel) t (Nocop mask) j) in
-      rw h (nocop-next s b r v w d (t .0) mask (leavesAt s b (t .0 - 3)) refl)
-  col-next t (Wr x c mask) f j =
-      let d : m .channel .due ≡ false = no-data (ColAt t (Wr x c mask)) refl j in
-      let i = wr-in (s .columns) x c mask f in
-      let h = leaving-as s b r (ColAt t (Wr x c mask)) refl (col-late (contextOf s) (m .channel) t (Wr x c mask) j) in
-      rw h (wr-next s b r v w d (t .0) x c mask (i .0) (omega (arith, bounds s v .columns-most)) j (leavesAt s b (t .0 - 3)) refl h)
-  col-next t (Rd x c mask) f j = rd-next t x c mask f j ∙ sym (ends t x c mask)
+      rw h (nocop-next s b r v w d (t .0) (col-late (contextOf s) (m .channel) t (Nocop mask) j) mask (leavesAt s b (t .0 - 3)) refl)
+  col-next t (Wr x c mask close) f j =
+      let d : m .channel .due ≡ false = no-data (ColAt t (Wr x c mask close)) refl j in
+      let i = wr-in (s .columns) x c mask close f in
+      let l = col-late (contextOf s) (m .channel) t (Wr x c mask close) j in
+      let h = leaving-as s b r (ColAt t (Wr x c mask close)) refl l in
+      rw h (wr-next s b r v w d (t .0) l x c mask close (i .0) (omega (arith, bounds s v .columns-most)) j (leavesAt s b (t .0 - 3)) refl h)
+  col-next t (Rd x c mask close) f j = rd-next t x c mask close f j ∙ sym (ends t x c mask close)
     where
-      ends : (t : PacketAt) (x c mask : ℕ) → modelBytes (modelNext (contextOf s) m (ColAt t (Rd x c mask))) ≡ channelBytes (after (contextOf s) (m .channel) (ColAt t (Rd x c mask))) ++ tail s b r v w
-      ends t x c mask = rw (rd-leaves t x c mask)
+      ends : (t : PacketAt) (x c mask : ℕ) (close : Bool) → modelBytes (modelNext (contextOf s) m (ColAt t (Rd x c mask close))) ≡ channelBytes (after (contextOf s) (m .channel) (ColAt t (Rd x c mask close))) ++ tail s b r v w
+      ends t x c mask close = rw (rd-leaves t x c mask close)
 
   -- D comes
   data-come : dataStored b (getD b 728 0) ≡ channelBytes (afterData (m .channel)) ++ tail s b r v w

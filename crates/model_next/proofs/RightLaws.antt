@@ -67,7 +67,7 @@ module _ (s : Settings) (b : List ℕ) (r : modelRight (contextOf s) b ≡ true)
   count-in =
       let spare = and-left (channelSpare b) (zeroPart b 754 6) (and-left (channelSpare b && zeroPart b 754 6) _ rest-right) in
       leb-true (getD b 728 0) 2
-      (and-left (leb (getD b 728 0) 2) _ (and-left (leb (getD b 728 0) 2 && (leb (getD b 729 0) 1 && zeroPart b 730 6)) _ (and-right (zeroPart b 724 4) _ spare)))
+      (and-left (leb (getD b 728 0) 2) _ (and-left (leb (getD b 728 0) 2 && (leb (getD b 729 0) 1 && zeroPart b 730 6)) _ spare))
 
   pub waits : Waits b (modelIn b .channel .buffer)
   unfolding modelIn channelIn

@@ -1,9 +1,12 @@
 -- What is known of a state and a record that breaks no rule in it.
 -- Assumes nothing.
-use Prim.Native.Nat.{_≤_}
+use Prim.Native.Nat.{_+_, _≤_}
 use mathlib.Core.Path.{_≡_, refl, sym}
-use mathlib.Core.Bool.{Bool, true, false, not, _||_}
+use mathlib.Core.Bool.{Bool, true, false, not, _&&_, _||_}
+use lib.Dec.{leb}
+use borrow.Author.Tests.{leb-true}
 use Rattle.settings.specs.declared.PacketAt.{PacketAt}
+use Rattle.settings.specs.Instants.{horizon, isInstant}
 use Rattle.packet.specs.declared.RowPacket.{RowPacket}
 use Rattle.packet.specs.declared.ColPacket.{ColPacket}
 use Rattle.record.specs.declared.Record.{Record}
@@ -14,22 +17,28 @@ use Rattle.spec_rules.specs.declared.Channel.{Channel}
 use Rattle.spec_rules.specs.Neighbour.{Context}
 use Rattle.spec_rules.specs.Packets.{instant, isPacket}
 use Rattle.spec_rules.specs.History.{only, anyWrite}
-use Rattle.spec_rules.specs.Rules.{dataInPlace}
-use Rattle.spec_rules.specs.Channel.{waitingOf, newestDue, dueOf}
-use Rattle.spec_rules.specs.Checks.{checks, judged}
-use Rattle.spec_rules.proofs.Bools.{not-both}
+use Rattle.spec_rules.specs.Rules.{dataInPlace, longestDelay, impliedDelay}
+use Rattle.spec_rules.specs.Channel.{waitingOf, newestDue, dueOf, leavingOf}
+use Rattle.spec_rules.specs.Checks.{checkOf, checks, judged}
+use Rattle.spec_rules.proofs.Bools.{not-both, and-left}
 use Rattle.spec_rules.proofs.BrokenLaws.{lowest-none}
-use Rattle.spec_rules.proofs.CheckerRight.{in-time}
 use Rattle.spec_state.proofs.NextValid.{Sound}
 
 -- rule 1: an instant can be stored less 3
+in-range : (cx : Context) (ch : Channel) (r : Record) → judged cx ch r ≡ 0 → 4 ≤ instant r
+unfolding judged checks
+in-range cx ch r j =
+    let within : Bool = isInstant (instant r) && (leb (instant r + longestDelay cx r) horizon && leb (instant r + impliedDelay cx (leavingOf cx ch r)) horizon) in
+    let one : within && checkOf cx ch r 1 ≡ true = lowest-none 0 (checks cx ch r) j 0 in
+    leb-true 4 (instant r) (and-left (leb 4 (instant r)) _ (and-left (isInstant (instant r)) _ (and-left within _ one)))
+
 pub row-late : (cx : Context) (ch : Channel) (t : PacketAt) (p : RowPacket) → judged cx ch (RowAt t p) ≡ 0 → 4 ≤ t .0
 unfolding isPacket instant
-row-late cx ch t p j = in-time cx ch (RowAt t p) j refl .0
+row-late cx ch t p j = in-range cx ch (RowAt t p) j
 
 pub col-late : (cx : Context) (ch : Channel) (t : PacketAt) (p : ColPacket) → judged cx ch (ColAt t p) ≡ 0 → 4 ≤ t .0
 unfolding isPacket instant
-col-late cx ch t p j = in-time cx ch (ColAt t p) j refl .0
+col-late cx ch t p j = in-range cx ch (ColAt t p) j
 
 module _ (cx : Context) (ch : Channel) (k : Sound cx ch) where
   module _ (r : Record) (j : judged cx ch r ≡ 0) where

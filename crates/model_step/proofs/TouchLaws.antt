@@ -98,8 +98,8 @@ module _ (cx : Context) (ch : Channel) (k : Sound cx ch) where
   unfolding recordFits colFits traits colTraits named seenOf colView
   read-at (RowAt t p) f b e = absurd (let n = row-none p in let z : _≡_ {A = ℕ} 0 1 = cc in omega arith)
   read-at (ColAt t (Nocop m)) f b e = absurd (let z : _≡_ {A = ℕ} 0 1 = cc in omega arith)
-  read-at (ColAt t (Wr x c m)) f b e = absurd (let z : _≡_ {A = ℕ} 0 1 = cc in omega arith)
-  read-at (ColAt t (Rd x c m)) f b e = let q : x ≡ b = cc in rw (slot-is x (and-left (ltb x 32) _ f), q)
+  read-at (ColAt t (Wr x c m close)) f b e = absurd (let z : _≡_ {A = ℕ} 0 1 = cc in omega arith)
+  read-at (ColAt t (Rd x c m close)) f b e = let q : x ≡ b = cc in rw (slot-is x (and-left (ltb x 32) _ f), q)
   read-at (DataOf t d) f b e = absurd (let z : _≡_ {A = ℕ} 0 1 = cc in omega arith)
 
   found : (r : Record) → recordFits (cx .settings) r ≡ true

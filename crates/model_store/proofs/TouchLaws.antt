@@ -107,8 +107,8 @@ module _ (cx : Context) (m : ModelState) (own held : Bank) where
   touch-answer (RowAt t p) f room = rw (row-keeps p)
   touch-answer (DataOf t d) f room = refl
   touch-answer (ColAt t (Nocop x)) f room = retire-answer cx (m .channel) _ held (f .retired) x room
-  touch-answer (ColAt t (Wr b c x)) f room = retire-answer cx (m .channel) _ held (f .retired) x room
-  touch-answer (ColAt t (Rd b c x)) f room = refl
+  touch-answer (ColAt t (Wr b c x close)) f room = retire-answer cx (m .channel) _ held (f .retired) x room
+  touch-answer (ColAt t (Rd b c x close)) f room = refl
 
   module _ (store : List ℕ) where
     pub touch-store : (r : Record) → finds r → storeNext cx m r store ≡ touchStore cx (touched r) (m .bytes) store
@@ -116,8 +116,8 @@ module _ (cx : Context) (m : ModelState) (own held : Bank) where
     touch-store (RowAt t p) f = rw (row-keeps p)
     touch-store (DataOf t d) f = refl
     touch-store (ColAt t (Nocop x)) f = retire-store cx (m .channel) _ held (f .retired) x (m .bytes) store
-    touch-store (ColAt t (Wr b c x)) f = retire-store cx (m .channel) _ held (f .retired) x (m .bytes) store
-    touch-store (ColAt t (Rd b c x)) f = refl
+    touch-store (ColAt t (Wr b c x close)) f = retire-store cx (m .channel) _ held (f .retired) x (m .bytes) store
+    touch-store (ColAt t (Rd b c x close)) f = refl
 
     -- the bytes that a record answers go to the answer buffer where there is room for them
     pub touch-bytes : (r : Record) → finds r → (room : ℕ)
@@ -126,8 +126,8 @@ module _ (cx : Context) (m : ModelState) (own held : Bank) where
     touch-bytes (RowAt t p) f room = refl
     touch-bytes (DataOf t d) f room = refl
     touch-bytes (ColAt t (Nocop x)) f room = same-both (isTaken (touchAnswer (touched (ColAt t (Nocop x))) room)) [] ∙ sym (retire-bytes cx (m .channel) _ held (f .retired) x room store)
-    touch-bytes (ColAt t (Wr b c x)) f room = same-both (isTaken (touchAnswer (touched (ColAt t (Wr b c x))) room)) [] ∙ sym (retire-bytes cx (m .channel) _ held (f .retired) x room store)
-    touch-bytes (ColAt t (Rd b c x)) f room = rw (f .read b refl, read-taken (leb 16 room))
+    touch-bytes (ColAt t (Wr b c x close)) f room = same-both (isTaken (touchAnswer (touched (ColAt t (Wr b c x close))) room)) [] ∙ sym (retire-bytes cx (m .channel) _ held (f .retired) x room store)
+    touch-bytes (ColAt t (Rd b c x close)) f room = rw (f .read b refl, read-taken (leb 16 room))
 
   -- ---- places are in the store, where the state is not refused
 
@@ -162,8 +162,8 @@ module _ (cx : Context) (m : ModelState) (own held : Bank) where
     touch-in (RowAt t p) f e = tt
     touch-in (DataOf t d) f e = tt
     touch-in (ColAt t (Nocop x)) f e = retire-in (passed cx (first (waitingOf (m .channel .buffer))) (t .0)) x (ltb-true _ _ e) _ refl (f .retired)
-    touch-in (ColAt t (Wr b c x)) f e = retire-in (passed cx (first (waitingOf (m .channel .buffer))) (t .0)) x (fits-bank b c x e .2) _ refl (f .retired)
-    touch-in (ColAt t (Rd b c x)) f e = let p = fits-bank b c x e in (p .0, rw (f .read b refl) (found-in b (p .0)), p .1)
+    touch-in (ColAt t (Wr b c x close)) f e = retire-in (passed cx (first (waitingOf (m .channel .buffer))) (t .0)) x (fits-bank b c x e .2) _ refl (f .retired)
+    touch-in (ColAt t (Rd b c x close)) f e = let p = fits-bank b c x e in (p .0, rw (f .read b refl) (found-in b (p .0)), p .1)
 
 -- a refused record leaves the store
 pub refused-store : (cx : Context) (t : Touch) (d : Dualoct) (store : List ℕ) (room : ℕ) → isTaken (touchAnswer t room) ≡ false → touchStore cx t d store ≡ store

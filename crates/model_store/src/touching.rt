@@ -64,16 +64,8 @@ fn col_touch(p: ColPacket, b: Buffer, leaves: bool, own: BankTrack, held: BankTr
 {
     match p {
         ColPacket::Nocop { mask } => retire_touch(b, leaves, held, mask),
-        ColPacket::Wr {
-            bank: _,
-            column: _,
-            mask,
-        } => retire_touch(b, leaves, held, mask),
-        ColPacket::Rd {
-            bank,
-            column,
-            mask: _,
-        } => Touch::Reads(Place {
+        ColPacket::Wr { mask, .. } => retire_touch(b, leaves, held, mask),
+        ColPacket::Rd { bank, column, .. } => Touch::Reads(Place {
             bank: bank,
             row: row_of(own),
             column: column,

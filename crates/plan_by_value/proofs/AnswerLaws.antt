@@ -46,26 +46,26 @@ module _ (s : Settings) (p : PlannerState) where
   unretired-is q room e = rw e
 
   -- a request, with what code makes of it
-  module _ (q : Request) (v : plannerValid (contextOf s) p ≡ true) (u : unretired q p ≡ false) (d : Drawn) (k : Draws s d (planned (contextOf s) q p)) (room : ℕ) where
+  module _ (q : Request) (v : plannerValid (contextOf s) p ≡ true) (u : unretired q p ≡ false) (d : Drawn) (k : Draws s p d (planned (contextOf s) q p)) (room : ℕ) where
     pub late-is : d .late ≡ true → outcomeBy (contextOf s) p (Accepted q) room ≡ Refused Horizon
     unfolding outcomeBy outcomeOf
-    late-is l = rw (u, not-passes (d .late) (timely (contextOf s) (planned (contextOf s) q p)) (k .late) l)
+    late-is l = rw (u, not-passes (d .late) (timely (contextOf s) p (planned (contextOf s) q p)) (k .late) l)
 
     -- of one that is in time
     module _ (l : d .late ≡ false) where
       pub count-is : d .count ≡ length (planned (contextOf s) q p .records)
-      count-is = draws-count s d (planned (contextOf s) q p) k (most-any s p v q u) l
+      count-is = draws-count s p d (planned (contextOf s) q p) k (most-any s p v q u) l
 
       pub count-most : d .count ≤ 32
       count-most = omega (arith, count-is, most-any s p v q u)
 
       pub full-is : room / 32 < d .count → outcomeBy (contextOf s) p (Accepted q) room ≡ Refused Full
       unfolding outcomeBy outcomeOf
-      full-is h = rw (u, in-time s d (planned (contextOf s) q p) k l, lt-leb (length (planned (contextOf s) q p .records)) (room / 32) (omega (arith, h, count-is)))
+      full-is h = rw (u, in-time s p d (planned (contextOf s) q p) k l, lt-leb (length (planned (contextOf s) q p .records)) (room / 32) (omega (arith, h, count-is)))
 
       pub made-is : d .count ≤ room / 32 → outcomeBy (contextOf s) p (Accepted q) room ≡ Made (d .count)
       unfolding outcomeBy outcomeOf
-      made-is h = rw (u, in-time s d (planned (contextOf s) q p) k l, le-leb (length (planned (contextOf s) q p .records)) (room / 32) (omega (arith, h, count-is)), count-is)
+      made-is h = rw (u, in-time s p d (planned (contextOf s) q p) k l, le-leb (length (planned (contextOf s) q p .records)) (room / 32) (omega (arith, h, count-is)), count-is)
 
       pub next-is : d .count ≤ room / 32 → d .planner ≡ nextBy (contextOf s) p (Accepted q) room
       unfolding isMade draftBy

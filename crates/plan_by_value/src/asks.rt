@@ -3,6 +3,7 @@ ghost use mathlib.Core.Path.{_≡_};
 ghost use mathlib.Core.Bool.{not, _&&_};
 ghost use Rattle.spec_rules.specs.Neighbour.{contextOf};
 ghost use Rattle.spec_rules.specs.History.{isClosed, two};
+ghost use Rattle.spec_rules.specs.Rules.{impliedDelay};
 ghost use Rattle.spec_rules.specs.Channel.{trackOf, stateOf, waitingOf, leavingOf};
 ghost use Rattle.spec_plan.specs.Plan.{carried, shifted, openOn};
 ghost use Rattle.spec_plan.specs.Call.{unretired};
@@ -31,8 +32,10 @@ fn concerns(s: Settings, next: Before, w: Write) -> bool
 {
     match next {
         Before::Prer(x) => is_near(s, x, w.bank),
-        Before::Rd(bank, column) => (w.bank == bank) & (w.column == column),
+        Before::Rd(bank, column, close) => ((w.bank == bank) & (w.column == column))
+            | (close & is_near(s, bank, w.bank)),
         Before::Flush => true,
+        Before::WriteEnd => w.close,
     }
 }
 
@@ -41,8 +44,9 @@ fn reads(next: Before) -> bool
 {
     match next {
         Before::Prer(_) => false,
-        Before::Rd(_, _) => true,
+        Before::Rd(_, _, _) => true,
         Before::Flush => false,
+        Before::WriteEnd => false,
     }
 }
 
@@ -64,8 +68,8 @@ pub(crate) fn unretired(s: Settings, q: Request, p: PlannerState) -> bool
     ensures { λ r. ⌜ r ≡ unretired q p ⌝ }
 {
     match q {
-        Request::Read(_) => false,
-        Request::Write(_, _, _) => false,
+        Request::Read(_, _) => false,
+        Request::Write(_, _, _, _) => false,
         Request::Refresh => false,
         Request::Wait(_) => false,
         Request::Flush => false,
@@ -108,6 +112,19 @@ pub(crate) fn shifted(s: Settings, p: PlannerState, q: Record) -> u32
         return p.second;
     }
     p.mask
+}
+
+// How long after a packet in its place the PRER comes that its retire implies, if it does.
+pub(crate) fn implied_delay(s: Settings, p: PlannerState, q: Record) -> u32
+    ensures { λ r. ⌜ r ≡ impliedDelay (contextOf s) (leavingOf (contextOf s) (p .channel) q) ⌝ }
+{
+    let ch = p.channel;
+    let b = ch.buffer;
+    let h = held_of(b, ch.due);
+    if retires(s, h, q) & h.close {
+        return s.offp;
+    }
+    0
 }
 
 fn track_in(p: PlannerState, x: u32) -> BankTrack

@@ -8,6 +8,7 @@ ghost use lib.ListN.{set};
 ghost use Rattle.settings.specs.declared.Settings.{Settings as SettingsOf};
 ghost use Rattle.settings.specs.Instants.{horizon};
 ghost use Rattle.spec_rules.specs.Neighbour.{contextOf};
+ghost use Rattle.spec_plan.specs.declared.PlannerState.{PlannerState as PlannerOf};
 ghost use Rattle.spec_plan.specs.Plan.{Draft as DraftOf, turned, plannedWait};
 ghost use Rattle.plan_by_value.specs.form.Drawn.{Draws, addedTo, movedTo};
 use crate::Draft;
@@ -68,7 +69,7 @@ pub(crate) fn moved(d: Draft, planner: PlannerState, late: bool) -> Draft
 
 // No record yet.
 pub(crate) fn start(p: PlannerState) -> Draft
-    ensures { λ z. ⌜ ((s : SettingsOf) → leb (p .now .0) horizon ≡ true → Draws s z (record { planner = p; records = [] })) ⌝ }
+    ensures { λ z. ⌜ ((s : SettingsOf) → leb (p .now .0) horizon ≡ true → Draws s p z (record { planner = p; records = [] })) ⌝ }
 {
     let none = Record::RowAt(PacketAt(0), RowPacket::Act { bank: 0, row: 0 });
     let list = [Entry { made: none }; 32];
@@ -82,7 +83,7 @@ pub(crate) fn start(p: PlannerState) -> Draft
 
 // The next bank's turn.
 pub(crate) fn turned(d: Draft) -> Draft
-    ensures { λ z. ⌜ ((s : SettingsOf) (e : DraftOf) → Draws s d e → Draws s z (turned (contextOf s) e)) ⌝ }
+    ensures { λ z. ⌜ ((s : SettingsOf) (p : PlannerOf) (e : DraftOf) → Draws s p d e → Draws s p z (turned (contextOf s) e)) ⌝ }
 {
     let p = d.planner;
     let planner = PlannerState {
@@ -94,7 +95,7 @@ pub(crate) fn turned(d: Draft) -> Draft
 
 // wait adds to now.
 pub(crate) fn waited(cycles: u32, d: Draft) -> Draft
-    ensures { λ z. ⌜ ((s : SettingsOf) (e : DraftOf) → Draws s d e → Draws s z (plannedWait (contextOf s) cycles e)) ⌝ }
+    ensures { λ z. ⌜ ((s : SettingsOf) (p : PlannerOf) (e : DraftOf) → Draws s p d e → Draws s p z (plannedWait (contextOf s) cycles e)) ⌝ }
 {
     let p = d.planner;
     let slot = num::wide32(p.now.0);

@@ -26,12 +26,14 @@ pub(crate) enum Command {
     Col(ColPacket),
 }
 
-// What NOCOPs are sent before: a PRER to a bank, which writes near it concern; an RD of a bank and column, which a write of these
-// concerns, and two writes of any; or the end of a flush, which every write concerns.
+// What NOCOPs are sent before: a PRER to a bank, which writes near it concern; an RD or RDA of a bank and column, which a write of these
+// concerns, two writes of any, and an RDA also writes near the bank; the end of a flush, which every write concerns; or the end of a
+// closing write, which a WRA that waits concerns.
 pub(crate) enum Before {
     Prer(u32),
-    Rd(u32, u32),
+    Rd(u32, u32, bool),
     Flush,
+    WriteEnd,
 }
 
 // Which banks are closed: those near a bank, or all.

@@ -1,11 +1,11 @@
 // The packets that the steps send: their data's delay, and their place.
 ghost use mathlib.Core.Path.{_≡_};
-ghost use mathlib.Core.Bool.{not};
-ghost use Prim.Native.Nat.{_+_};
+ghost use mathlib.Core.Bool.{not, cond};
+ghost use Prim.Native.Nat.{_+_, max};
 ghost use lib.Dec.{leb};
 ghost use Rattle.settings.specs.Instants.{horizon};
 ghost use Rattle.spec_rules.specs.Neighbour.{contextOf};
-ghost use Rattle.spec_rules.specs.Rules.{dataDelay, colDelay};
+ghost use Rattle.spec_rules.specs.Rules.{longestDelay, colDelay};
 ghost use Rattle.spec_rules.specs.Earliest.{placedAt, colUnder, under};
 ghost use Rattle.plan_by_value.specs.form.Drawn.{packetOf, placedBy, clip};
 use crate::Command;
@@ -37,12 +37,24 @@ fn col_under(mask: u32, p: ColPacket) -> ColPacket
             bank,
             column,
             mask: _,
-        } => ColPacket::Wr { bank, column, mask },
+            close,
+        } => ColPacket::Wr {
+            bank,
+            column,
+            mask,
+            close,
+        },
         ColPacket::Rd {
             bank,
             column,
             mask: _,
-        } => ColPacket::Rd { bank, column, mask },
+            close,
+        } => ColPacket::Rd {
+            bank,
+            column,
+            mask,
+            close,
+        },
     }
 }
 
@@ -64,27 +76,33 @@ pub(crate) fn placed_in(s: Settings, p: PlannerState, at: PacketAt, c: Command) 
     record_at(at, under_mask(mask, c))
 }
 
+// The longer of two delays.
+pub(crate) fn longer(a: u32, b: u32) -> u32
+    ensures { λ r. ⌜ r ≡ max a b ⌝ }
+{
+    if a < b { b } else { a }
+}
+
+// The data of an RD, and the PRER that an RDA implies.
+fn read_delay(s: Settings, close: bool) -> u32
+    ensures { λ r. ⌜ r ≡ cond close (max (s .cac) (s .offp)) (s .cac) ⌝ }
+{
+    if close { longer(s.cac, s.offp) } else { s.cac }
+}
+
 fn col_delay(s: Settings, p: ColPacket) -> u32
     ensures { λ r. ⌜ r ≡ colDelay (contextOf s) p ⌝ }
 {
     match p {
         ColPacket::Nocop { mask: _ } => 0,
-        ColPacket::Wr {
-            bank: _,
-            column: _,
-            mask: _,
-        } => s.cwd,
-        ColPacket::Rd {
-            bank: _,
-            column: _,
-            mask: _,
-        } => s.cac,
+        ColPacket::Wr { .. } => s.cwd,
+        ColPacket::Rd { close, .. } => read_delay(s, close),
     }
 }
 
-// How long after a packet its data come.
+// How long after a packet the last of what it sets itself comes.
 pub(crate) fn data_delay(s: Settings, c: Command) -> u32
-    ensures { λ r. ⌜ r ≡ dataDelay (contextOf s) (packetOf c) ⌝ }
+    ensures { λ r. ⌜ r ≡ longestDelay (contextOf s) (packetOf c) ⌝ }
 {
     match c {
         Command::Row(_) => 0,

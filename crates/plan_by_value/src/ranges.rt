@@ -72,7 +72,7 @@ fn lasts_valid(ch: Channel) -> bool
     ensures { λ r. ⌜ r ≡ lastsValid ch ⌝ }
 {
     let l = ch.lasts;
-    let rest = is_stamp(l.col) & (is_stamp(l.pre) & is_stamp(l.rd));
+    let rest = is_stamp(l.col) & (is_stamp(l.pre) & (is_stamp(l.rd) & is_stamp(l.implied)));
     is_stamp(l.packet) & (is_stamp(l.row) & rest)
 }
 
@@ -146,6 +146,17 @@ fn waits(b: Buffer) -> bool
     }
 }
 
+// Whether a WRA waits.
+fn closing(b: Buffer) -> bool
+    ensures { λ r. ⌜ r ≡ anyWrite (λ w. w .close) (waitingOf b) ⌝ }
+{
+    match b {
+        Buffer::Empty => false,
+        Buffer::One(w) => w.close,
+        Buffer::Two(x, y) => x.close | y.close,
+    }
+}
+
 fn channel_valid(s: Settings, ch: Channel) -> bool
     ensures { λ r. ⌜ r ≡ channelValid (contextOf s) ch ⌝ }
 {
@@ -185,6 +196,7 @@ pub(crate) fn planner_valid(s: Settings, p: PlannerState) -> bool
 {
     let ch = p.channel;
     let fields = is_instant(p.now) & ((p.refresh < 32) & ((p.mask < 65536) & (p.second < 65536)));
-    let between = none_refreshed(ch) & (!ch.due & fields);
+    let b = ch.buffer;
+    let between = none_refreshed(ch) & (!closing(b) & (!ch.due & fields));
     channel_valid(s, ch) & between
 }

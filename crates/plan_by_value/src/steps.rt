@@ -1,9 +1,11 @@
 // The steps of the plan's definition (spec_plan/specs/Plan.antt).
 ghost use mathlib.Core.Path.{_≡_};
 ghost use mathlib.Core.Bool.{true, cond};
+ghost use Prim.Native.Nat.{_≤_};
 ghost use lib.Dec.{leb};
 ghost use Rattle.settings.specs.Instants.{horizon};
 ghost use Rattle.spec_rules.specs.Neighbour.{bankCount, contextOf};
+ghost use Rattle.spec_plan.specs.declared.PlannerState.{PlannerState as PlannerOf};
 ghost use Rattle.spec_plan.specs.Plan.{Draft as DraftOf, when, waiting, sent, flushed, flushedWhile, closed, closedUpTo, reached, plannedRead, loaded, written, plannedWrite, plannedRefresh, plannedFlush, plannedClose, planned};
 ghost use Rattle.plan_by_value.specs.form.Drawn.{packetOf, holdsUp, bankIn, Draws};
 use crate::Banks;
@@ -11,6 +13,7 @@ use crate::Before;
 use crate::Command;
 use crate::Draft;
 use crate::asks::holds_up;
+use crate::asks::implied_delay;
 use crate::asks::open_on;
 use crate::asks::shifted;
 use crate::asks::to_close;
@@ -23,6 +26,7 @@ use crate::drafts::waited;
 use crate::packets::clipped;
 use crate::packets::data_delay;
 use crate::packets::is_late;
+use crate::packets::longer;
 use crate::packets::placed_in;
 use crate::packets::record_at;
 use chan_least::least_from;
@@ -41,7 +45,8 @@ use spec_plan::PlannerState;
 
 // A packet sent at its least instant, under the mask of the write that it retires.
 fn sent(s: Settings, c: Command, d: Draft) -> Draft
-    ensures { λ z. ⌜ ((e : DraftOf) → Draws s d e → Draws s z (sent (contextOf s) (packetOf c) e)) ⌝ }
+    requires { ⌜ s .offp ≤ 32 ⌝ }
+    ensures { λ z. ⌜ ((p : PlannerOf) (e : DraftOf) → Draws s p d e → Draws s p z (sent (contextOf s) (packetOf c) e)) ⌝ }
 {
     let p = d.planner;
     let ch = p.channel;
@@ -55,19 +60,22 @@ fn sent(s: Settings, c: Command, d: Draft) -> Draft
         mask: shifted(s, p, record_at(at, c)),
         ..p
     };
-    added(d, planner, q, is_late(slot, data_delay(s, c)))
+    let delay = longer(data_delay(s, c), implied_delay(s, p, record_at(at, c)));
+    added(d, planner, q, is_late(slot, delay))
 }
 
 // NOCOP, which retires the older write.
 fn flushed(s: Settings, d: Draft) -> Draft
-    ensures { λ z. ⌜ ((e : DraftOf) → Draws s d e → Draws s z (flushed (contextOf s) e)) ⌝ }
+    requires { ⌜ s .offp ≤ 32 ⌝ }
+    ensures { λ z. ⌜ ((p : PlannerOf) (e : DraftOf) → Draws s p d e → Draws s p z (flushed (contextOf s) e)) ⌝ }
 {
     sent(s, Command::Col(ColPacket::Nocop { mask: FULL }), d)
 }
 
 // NOCOP where the waiting writes ask for one.
 fn flushed_if(s: Settings, next: Before, d: Draft) -> Draft
-    ensures { λ z. ⌜ ((e : DraftOf) → Draws s d e → Draws s z (when (holdsUp s next (waiting e)) (flushed (contextOf s)) e)) ⌝ }
+    requires { ⌜ s .offp ≤ 32 ⌝ }
+    ensures { λ z. ⌜ ((p : PlannerOf) (e : DraftOf) → Draws s p d e → Draws s p z (when (holdsUp s next (waiting e)) (flushed (contextOf s)) e)) ⌝ }
 {
     let p = d.planner;
     if holds_up(s, next, p) {
@@ -78,14 +86,16 @@ fn flushed_if(s: Settings, next: Before, d: Draft) -> Draft
 
 // NOCOP while the waiting writes ask for one; two wait at most.
 fn flushed_while(s: Settings, next: Before, d: Draft) -> Draft
-    ensures { λ z. ⌜ ((e : DraftOf) → Draws s d e → Draws s z (flushedWhile (contextOf s) (holdsUp s next) e)) ⌝ }
+    requires { ⌜ s .offp ≤ 32 ⌝ }
+    ensures { λ z. ⌜ ((p : PlannerOf) (e : DraftOf) → Draws s p d e → Draws s p z (flushedWhile (contextOf s) (holdsUp s next) e)) ⌝ }
 {
     flushed_if(s, next, flushed_if(s, next, d))
 }
 
 // PRER; first NOCOP until no write waits in a bank that it closes.
 fn closed(s: Settings, x: u32, d: Draft) -> Draft
-    ensures { λ z. ⌜ ((e : DraftOf) → Draws s d e → Draws s z (closed (contextOf s) x e)) ⌝ }
+    requires { ⌜ s .offp ≤ 32 ⌝ }
+    ensures { λ z. ⌜ ((p : PlannerOf) (e : DraftOf) → Draws s p d e → Draws s p z (closed (contextOf s) x e)) ⌝ }
 {
     let z = flushed_while(s, Before::Prer(x), d);
     sent(s, Command::Row(RowPacket::Prer { bank: x }), z)
@@ -93,7 +103,8 @@ fn closed(s: Settings, x: u32, d: Draft) -> Draft
 
 // Of these banks, the open ones in rising order.
 fn closed_up_to(s: Settings, banks: Banks, d: Draft) -> Draft
-    ensures { λ z. ⌜ ((e : DraftOf) → Draws s d e → Draws s z (closedUpTo (contextOf s) (bankIn s banks) bankCount e)) ⌝ }
+    requires { ⌜ s .offp ≤ 32 ⌝ }
+    ensures { λ z. ⌜ ((p : PlannerOf) (e : DraftOf) → Draws s p d e → Draws s p z (closedUpTo (contextOf s) (bankIn s banks) bankCount e)) ⌝ }
 {
     let mut z = d;
     let mut x: u32 = 0;
@@ -109,7 +120,8 @@ fn closed_up_to(s: Settings, banks: Banks, d: Draft) -> Draft
 
 // A row that is not open: of the bank and its neighbours, close the open ones, then ACT.
 fn reached(s: Settings, bank: u32, row: u32, d: Draft) -> Draft
-    ensures { λ z. ⌜ ((e : DraftOf) → Draws s d e → Draws s z (reached (contextOf s) bank row e)) ⌝ }
+    requires { ⌜ s .offp ≤ 32 ⌝ }
+    ensures { λ z. ⌜ ((p : PlannerOf) (e : DraftOf) → Draws s p d e → Draws s p z (reached (contextOf s) bank row e)) ⌝ }
 {
     let p = d.planner;
     if open_on(p, bank, row) {
@@ -119,16 +131,18 @@ fn reached(s: Settings, bank: u32, row: u32, d: Draft) -> Draft
     sent(s, Command::Row(RowPacket::Act { bank, row }), z)
 }
 
-// RD; first NOCOP while two writes wait or one has that bank and column.
-fn planned_read(s: Settings, at: Place, d: Draft) -> Draft
-    ensures { λ z. ⌜ ((e : DraftOf) → Draws s d e → Draws s z (plannedRead (contextOf s) at e)) ⌝ }
+// RD or RDA; first NOCOP while two writes wait, or one has that bank and column, or one would lose its bank.
+fn planned_read(s: Settings, close: bool, at: Place, d: Draft) -> Draft
+    requires { ⌜ s .offp ≤ 32 ⌝ }
+    ensures { λ z. ⌜ ((p : PlannerOf) (e : DraftOf) → Draws s p d e → Draws s p z (plannedRead (contextOf s) close at e)) ⌝ }
 {
     let y = reached(s, at.bank, at.row, d);
-    let z = flushed_while(s, Before::Rd(at.bank, at.column), y);
+    let z = flushed_while(s, Before::Rd(at.bank, at.column, close), y);
     let rd = ColPacket::Rd {
         bank: at.bank,
         column: at.column,
         mask: FULL,
+        close: close,
     };
     sent(s, Command::Col(rd), z)
 }
@@ -141,7 +155,8 @@ fn pick(test: bool, yes: u32, no: u32) -> u32
 
 // D after a WR, which now waits with its own mask, beside an older write or alone.
 fn loaded(s: Settings, mask: u32, bytes: Dualoct, d: Draft) -> Draft
-    ensures { λ z. ⌜ ((e : DraftOf) → Draws s d e → Draws s z (loaded (contextOf s) mask bytes e)) ⌝ }
+    requires { ⌜ s .offp ≤ 32 ⌝ }
+    ensures { λ z. ⌜ ((p : PlannerOf) (e : DraftOf) → Draws s p d e → Draws s p z (loaded (contextOf s) mask bytes e)) ⌝ }
 {
     let p = d.planner;
     let Arrival::At(t) = instants::write_arrival(s, p.now) else {
@@ -159,27 +174,33 @@ fn loaded(s: Settings, mask: u32, bytes: Dualoct, d: Draft) -> Draft
     added(d, planner, q, false)
 }
 
-// WR, which carries the mask of the write that it retires and never its own; then D.
-fn written(s: Settings, at: Place, mask: u32, bytes: Dualoct, d: Draft) -> Draft
-    ensures { λ z. ⌜ ((e : DraftOf) → Draws s d e → Draws s z (written (contextOf s) at mask bytes e)) ⌝ }
+// WR or WRA, which carries the mask of the write that it retires and never its own; then D.
+fn written(s: Settings, close: bool, at: Place, mask: u32, bytes: Dualoct, d: Draft) -> Draft
+    requires { ⌜ s .offp ≤ 32 ⌝ }
+    ensures { λ z. ⌜ ((p : PlannerOf) (e : DraftOf) → Draws s p d e → Draws s p z (written (contextOf s) close at mask bytes e)) ⌝ }
 {
     let wr = ColPacket::Wr {
         bank: at.bank,
         column: at.column,
         mask: FULL,
+        close: close,
     };
     loaded(s, mask, bytes, sent(s, Command::Col(wr), d))
 }
 
-fn planned_write(s: Settings, at: Place, mask: u32, bytes: Dualoct, d: Draft) -> Draft
-    ensures { λ z. ⌜ ((e : DraftOf) → Draws s d e → Draws s z (plannedWrite (contextOf s) at mask bytes e)) ⌝ }
+// Then, after a WRA, the NOCOPs until it has retired.
+fn planned_write(s: Settings, close: bool, at: Place, mask: u32, bytes: Dualoct, d: Draft) -> Draft
+    requires { ⌜ s .offp ≤ 32 ⌝ }
+    ensures { λ z. ⌜ ((p : PlannerOf) (e : DraftOf) → Draws s p d e → Draws s p z (plannedWrite (contextOf s) close at mask bytes e)) ⌝ }
 {
-    written(s, at, mask, bytes, reached(s, at.bank, at.row, d))
+    let z = written(s, close, at, mask, bytes, reached(s, at.bank, at.row, d));
+    flushed_while(s, Before::WriteEnd, z)
 }
 
 // Close as above, REFA, REFP, next bank modulo 32.
 fn planned_refresh(s: Settings, d: Draft) -> Draft
-    ensures { λ z. ⌜ ((e : DraftOf) → Draws s d e → Draws s z (plannedRefresh (contextOf s) e)) ⌝ }
+    requires { ⌜ s .offp ≤ 32 ⌝ }
+    ensures { λ z. ⌜ ((p : PlannerOf) (e : DraftOf) → Draws s p d e → Draws s p z (plannedRefresh (contextOf s) e)) ⌝ }
 {
     let bank = d.planner.refresh;
     let y = closed_up_to(s, Banks::Near(bank), d);
@@ -189,27 +210,30 @@ fn planned_refresh(s: Settings, d: Draft) -> Draft
 
 // NOCOP until no write waits.
 fn planned_flush(s: Settings, d: Draft) -> Draft
-    ensures { λ z. ⌜ ((e : DraftOf) → Draws s d e → Draws s z (plannedFlush (contextOf s) e)) ⌝ }
+    requires { ⌜ s .offp ≤ 32 ⌝ }
+    ensures { λ z. ⌜ ((p : PlannerOf) (e : DraftOf) → Draws s p d e → Draws s p z (plannedFlush (contextOf s) e)) ⌝ }
 {
     flushed_while(s, Before::Flush, d)
 }
 
 // PRER to each open bank in rising order.
 fn planned_close(s: Settings, d: Draft) -> Draft
-    ensures { λ z. ⌜ ((e : DraftOf) → Draws s d e → Draws s z (plannedClose (contextOf s) e)) ⌝ }
+    requires { ⌜ s .offp ≤ 32 ⌝ }
+    ensures { λ z. ⌜ ((p : PlannerOf) (e : DraftOf) → Draws s p d e → Draws s p z (plannedClose (contextOf s) e)) ⌝ }
 {
     closed_up_to(s, Banks::All, d)
 }
 
 // What a request makes of a planner, with its records.
 pub(crate) fn planned(s: Settings, q: Request, p: PlannerState) -> Draft
+    requires { ⌜ s .offp ≤ 32 ⌝ }
     requires { ⌜ leb (p .now .0) horizon ≡ true ⌝ }
-    ensures { λ d. ⌜ Draws s d (planned (contextOf s) q p) ⌝ }
+    ensures { λ d. ⌜ Draws s p d (planned (contextOf s) q p) ⌝ }
 {
     let d = start(p);
     match q {
-        Request::Read(at) => planned_read(s, at, d),
-        Request::Write(at, mask, bytes) => planned_write(s, at, mask, bytes, d),
+        Request::Read(at, close) => planned_read(s, close, at, d),
+        Request::Write(at, mask, bytes, close) => planned_write(s, close, at, mask, bytes, d),
         Request::Refresh => planned_refresh(s, d),
         Request::Wait(cycles) => waited(cycles, d),
         Request::Flush => planned_flush(s, d),

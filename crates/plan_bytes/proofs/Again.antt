@@ -23,12 +23,12 @@ use Rattle.spec_state.proofs.NextValid.{valid-sound}
 use Rattle.spec_state.proofs.RoundTrip.{Back, some-back, Kept, valid-kept}
 use Rattle.spec_plan.specs.declared.PlannerState.{PlannerState}
 use Rattle.spec_plan.specs.Planner.{plannerValid}
-use Rattle.spec_plan.specs.Plan.{Draft}
+use Rattle.spec_plan.specs.Plan.{Draft, waiting, anyCloses}
 use Rattle.spec_plan.specs.PlannerBytes.{plannerLength, plannerBytes, plannerIn, plannerRight}
-use Rattle.spec_plan.proofs.Invariant.{Inv, valid-tested, valid-inv}
+use Rattle.spec_plan.proofs.Invariant.{Inv, valid-tested, valid-inv, valid-plain}
 use Rattle.spec_plan.proofs.PlannerRoundTrip.{planner-length, planner-back, planner-encode-decode}
 use Rattle.plan_bytes.specs.form.Numbers.{word, waitsIn, twoIn, Tops, Below}
-use Rattle.plan_bytes.specs.form.Drawn.{drafted, Ready}
+use Rattle.plan_bytes.specs.form.Drawn.{drafted, Ready, Rested}
 use Rattle.plan_bytes.proofs.Tops.{Under}
 use Rattle.plan_bytes.proofs.Marks.{far, Marked}
 use Rattle.plan_bytes.proofs.Instants.{said-top}
@@ -78,6 +78,7 @@ module _ (s : Settings) (top : ℕ) (b : List ℕ) (low : 4 ≤ plannerIn b .now
         col = said-top (word b 712) top (u .lasts .col);
         pre = said-top (word b 716) top (u .lasts .pre);
         rd = said-top (word b 720) top (u .lasts .rd);
+        implied = said-top (word b 724) top (u .lasts .implied);
         wrote = wrote-under;
         second = second-under;
         now = said-top (word b 752) top n;
@@ -109,6 +110,16 @@ after-step s v top d h m i b e =
       size = ap length e ∙ planner-length p;
     }
 
+-- the same where no write that waits closes its bank
+pub record AtRest (s : Settings) (top : ℕ) (d : Draft) (b : List ℕ) : Type 0 where
+  pub back : plannerIn b ≡ d .planner
+  pub ready : Rested s top b
+  pub size : length b ≡ 768
+
+pub rest-step : (s : Settings) (top : ℕ) (d : Draft) → anyCloses (waiting d) ≡ false → (b : List ℕ) → After s top d b → AtRest s top d b
+unfolding Rested
+rest-step s top d e b a = record { back = a .back; ready = record { ready = a .ready; plain = rw (a .back) e }; size = a .size }
+
 -- a higher top
 pub ready-more : (s : Settings) (top high : ℕ) (b : List ℕ) → top ≤ high → Ready s top b → Ready s high b
 unfolding Ready Below
@@ -126,6 +137,7 @@ ready-more s top high b l k =
         col = omega (arith, t .col);
         pre = omega (arith, t .pre);
         rd = omega (arith, t .rd);
+        implied = omega (arith, t .implied);
         wrote = λ w. omega (arith, t .wrote w);
         second = λ e. omega (arith, t .second e);
         now = omega (arith, t .now);
@@ -137,13 +149,26 @@ pub ready-below : (s : Settings) (top low : ℕ) (b : List ℕ) → Ready s top 
 unfolding Ready
 ready-below s top low b k t = record { figures = k .figures; exact = k .exact; inv = k .inv; instants = k .instants; below = t }
 
+-- both of bytes at rest
+pub rested-more : (s : Settings) (top high : ℕ) (b : List ℕ) → top ≤ high → Rested s top b → Rested s high b
+unfolding Rested
+rested-more s top high b l k = record { ready = ready-more s top high b l (k .ready); plain = k .plain }
+
+pub rested-below : (s : Settings) (top low : ℕ) (b : List ℕ) → Rested s top b → Below low b → Rested s low b
+unfolding Rested
+rested-below s top low b k t = record { ready = ready-below s top low b (k .ready) t; plain = k .plain }
+
 -- the bytes of a call: no instant is past the last one, which is stored less 3
-pub ready-call : (s : Settings) (b : List ℕ) → valid s ≡ true → Bytes b → plannerRight (contextOf s) b ≡ true → Ready s 999999997 b
-unfolding Ready plannerRight plannerLength plannerValid
+right-valid : (s : Settings) (b : List ℕ) → plannerRight (contextOf s) b ≡ true → plannerValid (contextOf s) (plannerIn b) ≡ true
+unfolding plannerRight plannerLength
+right-valid s b r = and-right (channelSpare b && (zeroPart b 758 2 && zeroPart b 764 4)) _ (and-right (eqb (length b) 768) _ r)
+
+ready-call : (s : Settings) (b : List ℕ) → valid s ≡ true → Bytes b → plannerRight (contextOf s) b ≡ true → Ready s 999999997 b
+unfolding Ready plannerValid
 ready-call s b v w r =
     let cx : Context = contextOf s in
     let p : PlannerState = plannerIn b in
-    let right : plannerValid cx p ≡ true = and-right (channelSpare b && (zeroPart b 758 2 && zeroPart b 764 4)) _ (and-right (eqb (length b) 768) _ r) in
+    let right : plannerValid cx p ≡ true = right-valid s b r in
     let channel : channelValid cx (p .channel) ≡ true = and-left (channelValid cx (p .channel)) _ right in
     let i : Inv cx p = valid-inv cx p right in
     let most : Under horizon (p .channel) = all-more Stamp IsInstant (λ t. t ≤ horizon) (λ t. t ≤ horizon) stamp-most instant-most (p .channel) (valid-sound cx (p .channel) channel .stamped) in
@@ -164,3 +189,7 @@ ready-call s b v w r =
         go : (z : Bool) → eqb t 0 ≡ z → z || isInstant t ≡ true → t ≤ horizon
         go true f i = omega (arith, eqb-true t 0 f)
         go false f i = instant-most t i
+
+pub rested-call : (s : Settings) (b : List ℕ) → valid s ≡ true → Bytes b → plannerRight (contextOf s) b ≡ true → Rested s 999999997 b
+unfolding Rested
+rested-call s b v w r = record { ready = ready-call s b v w r; plain = valid-plain (contextOf s) (plannerIn b) (right-valid s b r) }

@@ -45,7 +45,7 @@ module _ (cx : Context) where
   unfolding sent
   sent-blind r l d = rw (append-assoc l (d .records))
 
-  flushed-blind : Blind (flushed cx)
+  pub flushed-blind : Blind (flushed cx)
   unfolding flushed
   flushed-blind l d = sent-blind (colPacket (Nocop 0xFFFF)) l d
 
@@ -72,10 +72,10 @@ module _ (cx : Context) where
       let z : Draft = closedUpTo cx pick n d in
       rw (up-to-blind pick n l d) (when-blind (closed cx n) (closed-blind n) (pick n && not (isClosed (stateIn z n))) l z)
 
-  pub written-blind : (at : Place) (mask : ℕ) (bytes : Dualoct) → Blind (written cx at mask bytes)
+  pub written-blind : (close : Bool) (at : Place) (mask : ℕ) (bytes : Dualoct) → Blind (written cx close at mask bytes)
   unfolding written loaded
-  written-blind at mask bytes l d =
-      let r : Record = colPacket (Wr (at .bank) (at .column) 0xFFFF) in
+  written-blind close at mask bytes l d =
+      let r : Record = colPacket (Wr (at .bank) (at .column) 0xFFFF close) in
       rw (sent-blind r l d) (rw (append-assoc l (sent cx r d .records)))
 
 -- a draft is its records before those of its planner alone

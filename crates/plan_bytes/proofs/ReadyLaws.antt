@@ -15,23 +15,27 @@ use Rattle.spec_rules.specs.declared.Write.{Write}
 use Rattle.spec_rules.specs.declared.Buffer.{Buffer}
 use Rattle.spec_rules.specs.declared.Buffer.the-variants.{Empty, One, Two}
 use Rattle.spec_rules.specs.Neighbour.{bankCount, contextOf}
-use Rattle.spec_rules.specs.Channel.{waitingOf}
+use Rattle.spec_rules.specs.History.{isOpen}
+use Rattle.spec_rules.specs.Channel.{stateOf, waitingOf}
 use Rattle.spec_rules.specs.Earliest.{leastFrom, earliest}
+use Rattle.spec_rules.proofs.Bools.{and-left, neither}
 use Rattle.spec_rules.proofs.EarliestLaws.{picked-late}
 use Rattle.spec_state.specs.ChannelBytes.{instantOf, trackIn, lastsIn, writeIn, bufferIn, channelIn}
 use Rattle.spec_state.proofs.EachInstant.{TrackAll, WritesAll}
+use Rattle.spec_state.proofs.NextValid.{open-not-closed}
 use Rattle.spec_state.proofs.RoundTrip.{SomeBack, stored-in, WritesIn}
-use Rattle.spec_state.proofs.StoreLaws.{ByBytes, WriteIn}
+use Rattle.spec_state.proofs.StoreLaws.{ByBytes, WriteIn, SidesClosed, sides-closed}
 use Rattle.spec_plan.specs.declared.PlannerState.{PlannerState}
 use Rattle.spec_plan.specs.Plan.{slot}
 use Rattle.spec_plan.specs.PlannerBytes.{plannerIn}
 use Rattle.spec_plan.proofs.Invariant.{Inv}
+use Rattle.spec_plan.proofs.CallLaws.{Rest}
 use Rattle.spec_plan.proofs.PlannerRoundTrip.{planner-length}
-use Rattle.plan_bytes.specs.form.Numbers.{word, waitsIn, heldBank, twoIn, Tops, Below}
-use Rattle.plan_bytes.specs.form.Drawn.{Readies, Ready}
+use Rattle.plan_bytes.specs.form.Numbers.{word, waitsIn, heldBank, heldCloses, twoIn, Tops, Below}
+use Rattle.plan_bytes.specs.form.Drawn.{Readies, Ready, Rests, Rested, OpenAt}
 use Rattle.plan_bytes.proofs.Tops.{Under, least-top}
 use Rattle.plan_bytes.proofs.Instants.{top-said}
-use Rattle.plan_bytes.proofs.States.{Early, track-at, two-is, one-is}
+use Rattle.plan_bytes.proofs.States.{Early, track-at, two-is, one-is, waiting-is}
 use Rattle.plan_bytes.proofs.Puts.{Plain, BankIn}
 
 -- ---- what ready bytes say
@@ -137,6 +141,7 @@ module _ (s : Settings) (top : ℕ) (b : List ℕ) (k : Ready s top b) where
           col = top-said (word b 712) top (tops .col);
           pre = top-said (word b 716) top (tops .pre);
           rd = top-said (word b 720) top (tops .rd);
+          implied = top-said (word b 724) top (tops .implied);
         };
         writes = writes-top;
       }
@@ -149,6 +154,32 @@ module _ (s : Settings) (top : ℕ) (b : List ℕ) (k : Ready s top b) where
   unfolding slot contextOf
   slot-top r = omega (arith, least-top (contextOf s) (p .channel) (top + 3) under-top (readies .figures) r (p .now .0) now-top)
 
+  -- of an open bank the neighbours are closed
+  pub sides-shut : (x : ℕ) → x < 32 → OpenAt b x → SidesClosed (contextOf s) (p .channel) x
+  unfolding bankCount
+  sides-shut x l o = sides-closed (contextOf s) (p .channel) x (λ y m n. inv .banked .one-closed x y l m n) o
+
+  -- the bank of the older write is open
+  pub held-open : waitsIn b ≡ true → OpenAt b (heldBank b)
+  held-open e = open-not-closed (stateOf (p .channel) (heldBank b)) (and-left (isOpen (stateOf (p .channel) (heldBank b))) _ (rw (waiting-is b e) at (inv .held .opened)))
+
+-- ---- bytes at rest
+
+module _ (s : Settings) (top : ℕ) (b : List ℕ) (k : Rested s top b) where
+  rests : Rests s top b
+  unfolding Rested
+  rests = k
+
+  pub ready : Ready s top b
+  ready = rests .ready
+
+  pub at-rest : Rest (contextOf s) (plannerIn b)
+  at-rest = record { inv = inv s top b ready; plain = rests .plain }
+
+  -- the older write does not close its bank
+  pub held-plain : waitsIn b ≡ true → heldCloses b ≡ false
+  held-plain e = neither (heldCloses b) _ (rw (waiting-is b e) at (rests .plain)) .0
+
 -- ---- least instants
 
 module _ (s : Settings) (b : List ℕ) where
@@ -156,7 +187,7 @@ module _ (s : Settings) (b : List ℕ) where
   pub record Says (v : ℕ) (r : Record) : Type 0 where
     pub stored : v ≡ slot (contextOf s) (plannerIn b) r - 3
     pub instant : v + 3 ≡ slot (contextOf s) (plannerIn b) r
-    pub fits : v + 3 ≤ 1000009100
+    pub fits : v + 3 ≤ 1000012100
 
   slot-low : 4 ≤ plannerIn b .now .0 → (r : Record) → 4 ≤ slot (contextOf s) (plannerIn b) r
   unfolding slot leastFrom
@@ -165,12 +196,12 @@ module _ (s : Settings) (b : List ℕ) where
       let t0 : ℕ = max (p .now .0) (earliest (contextOf s) (p .channel) r) in
       omega (arith, picked-late (contextOf s) (p .channel) r t0 (waitingOf (p .channel .buffer)))
 
-  pub says : 4 ≤ plannerIn b .now .0 → (v : ℕ) (r : Record) → slot (contextOf s) (plannerIn b) r ≤ 1000009100 → instantOf v ≡ slot (contextOf s) (plannerIn b) r → Says v r
+  pub says : 4 ≤ plannerIn b .now .0 → (v : ℕ) (r : Record) → slot (contextOf s) (plannerIn b) r ≤ 1000012100 → instantOf v ≡ slot (contextOf s) (plannerIn b) r → Says v r
   says low v r m e =
       let a : v ≡ slot (contextOf s) (plannerIn b) r - 3 = sym (stored-in v) ∙ ap (λ (n : ℕ). n - 3) e in
       let l = slot-low low r in
       record { stored = a; instant = omega arith; fits = omega arith }
 
 -- on ready bytes
-pub said : (s : Settings) (top : ℕ) (b : List ℕ) (k : Ready s top b) → top ≤ 1000009000 → (v : ℕ) (r : Record) → instantOf v ≡ slot (contextOf s) (plannerIn b) r → Says s b v r
+pub said : (s : Settings) (top : ℕ) (b : List ℕ) (k : Ready s top b) → top ≤ 1000012000 → (v : ℕ) (r : Record) → instantOf v ≡ slot (contextOf s) (plannerIn b) r → Says s b v r
 said s top b k h v r e = says s b (inv s top b k .low) v r (omega (arith, slot-top s top b k r)) e

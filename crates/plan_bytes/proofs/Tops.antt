@@ -1,6 +1,6 @@
 -- No instant of a state is above a top: a record at most at a later one keeps that, and every packet stands at most 64 after it.
 -- Assumes nothing.
-use Prim.Native.Nat.{ℕ, _+_, _<_, _≤_, max}
+use Prim.Native.Nat.{ℕ, _+_, _-_, _<_, _≤_, max}
 use mathlib.Core.Path.{_≡_}
 use mathlib.Core.Bool.{Bool, true, false, not, _&&_, _||_, cond}
 use mathlib.Core.List.{List, [], _∷_}
@@ -14,13 +14,12 @@ use Rattle.record.specs.declared.Record.{Record}
 use Rattle.spec_rules.specs.declared.Write.{Write}
 use Rattle.spec_rules.specs.declared.Channel.{Channel}
 use Rattle.spec_rules.specs.Neighbour.{bankCount, Context, near}
-use Rattle.spec_rules.specs.Packets.{Traits, traits, retireTraits, instant}
-use Rattle.spec_rules.specs.History.{only}
-use Rattle.spec_rules.specs.Distances.{Kind, packet, ROW, COL, ACT, onlyACT, PRER, RD, WR, retire, bankAs, Banks, any, same, sameOrNeighbour, others, sameNeighbourOrClosed, Distance, distances}
-use Rattle.spec_rules.specs.Rules.{stays}
+use Rattle.spec_rules.specs.Packets.{Traits, traits, retireTraits, impliedTraits, instant}
+use Rattle.spec_rules.specs.History.{only, retireImplies}
+use Rattle.spec_rules.specs.Distances.{Kind, packet, ROW, COL, ACT, onlyACT, PRER, RD, WR, retire, implied, bankAs, Banks, any, same, sameOrNeighbour, others, sameNeighbourOrClosed, Distance, distances}
 use Rattle.spec_rules.specs.Channel.{trackOf, waitingOf, after}
 use Rattle.spec_rules.specs.Checks.{asks, boundOf, maxLine, lastOn, lastAt, boundBanks, boundBy, bound, bounds}
-use Rattle.spec_rules.specs.Earliest.{earliest, retireBound, slotFrom, leastFrom}
+use Rattle.spec_rules.specs.Earliest.{earliest, boundImplied, mayStay, retireBound, slotFrom, leastFrom}
 use Rattle.spec_state.proofs.EachInstant.{WritesAll, All, all-more}
 use Rattle.plan_bytes.proofs.Since.{since-top, max-top}
 
@@ -52,7 +51,7 @@ lines s v =
     let rtp : s .rtp ≤ 64 = timing-range s v 8 (omega arith) .1 in
     let cc : s .cc ≤ 16 = timing-range s v 9 (omega arith) .1 in
     let cac : s .cac ≤ 12 = timing-range s v 10 (omega arith) .1 in
-    (omega arith, (omega arith, (omega arith, (rc, (rr, (ras, (rp, (pp, (rcd, (rcd, (omega arith, (omega arith, (rdp, (rtp, tt))))))))))))))
+    (omega arith, (omega arith, (omega arith, (rc, (rr, (ras, (rp, (pp, (rcd, (rcd, (omega arith, (omega arith, (rdp, (rtp, (omega arith, tt)))))))))))))))
 
 module _ (cx : Context) (ch : Channel) (top : ℕ) (k : Under top ch) where
   on-top : (a : Kind) → lastOn ch a ≤ top
@@ -65,6 +64,7 @@ module _ (cx : Context) (ch : Channel) (top : ℕ) (k : Under top ch) where
   on-top RD = k .lasts .rd
   on-top WR = omega arith
   on-top retire = omega arith
+  on-top implied = k .lasts .implied
 
   at-top : (a : Kind) (x : ℕ) → x < bankCount → lastAt (trackOf ch x) a ≤ top
   at-top packet x m = omega arith
@@ -76,6 +76,7 @@ module _ (cx : Context) (ch : Channel) (top : ℕ) (k : Under top ch) where
   at-top RD x m = k .lasts .banks x m .rd
   at-top WR x m = omega arith
   at-top retire x m = k .lasts .banks x m .retire
+  at-top implied x m = omega arith
 
   banks-top : (counts : ℕ → ℕ → Bool) (a : Kind) (g b : ℕ) → g ≤ 64 → boundBanks cx ch counts a g b ≤ top + 64
   banks-top counts a g b l = max-top _ bankCount (top + 64) (λ x m. go (counts b x) (lastAt (trackOf ch x) a) (at-top a x m))
@@ -107,21 +108,33 @@ module _ (cx : Context) (ch : Channel) (top : ℕ) (k : Under top ch) where
   unfolding bounds
   bounds-top v t = lines-top (distances (cx .settings)) t (lines (cx .settings) v)
 
+  implied-top : valid (cx .settings) ≡ true → (r : Record) (o : Option ℕ) → boundImplied cx ch r o ≤ top + 64
+  implied-top v r none = omega arith
+  implied-top v r (some b) = bounds-top v (impliedTraits b)
+
   -- every packet
   pub least-top : valid (cx .settings) ≡ true → (r : Record) (now : ℕ) → now ≤ top → leastFrom cx ch r now ≤ top + 64
   unfolding leastFrom earliest highs
   least-top v r now h = go (waitingOf (ch .buffer)) (k .writes)
     where
+      most : (a b t : ℕ) → a ≤ t → b ≤ t → max a b ≤ t
+      most a b t h g = omega arith
+
+      less : (a g t : ℕ) → a ≤ t → a - g ≤ t
+      less a g t h = omega arith
+
       t0 : ℕ
-      t0 = max now (max 4 (bounds cx ch (traits r)))
+      t0 = max now (earliest cx ch r)
 
       base : t0 ≤ top + 64
-      base = omega (arith, bounds-top v (traits r))
+      base = most now _ (top + 64) (omega arith) (most 4 _ (top + 64) (omega arith) (most _ _ (top + 64) (bounds-top v (traits r)) (less _ (cx .settings .offp) (top + 64) (implied-top v r (traits r .implies)))))
 
       either : (w : Write) → w .at .0 ≤ top → (q : Bool) → cond q (max t0 (retireBound cx ch r w)) t0 ≤ top + 64
-      either w e true = omega (arith, base, bounds-top v (retireTraits (w .bank)), timing-range (cx .settings) v 6 (omega arith) .1)
+      either w e true =
+          let late : w .at .0 + cx .settings .rtr ≤ top + 64 = omega (arith, timing-range (cx .settings) v 6 (omega arith) .1) in
+          most _ _ (top + 64) base (most _ _ (top + 64) late (most _ _ (top + 64) (bounds-top v (retireTraits (w .bank))) (less _ (cx .settings .offp) (top + 64) (implied-top v r (retireImplies (some w))))))
       either w e false = base
 
       go : (ws : List Write) → WritesAll (λ t. t ≤ top) ws → slotFrom cx ch r t0 ws ≤ top + 64
       go [] e = base
-      go (w ∷ ws) e = either w (e .0) (traits r .notRead && (not (stays (w ∷ ws) (traits r)) || leb (w .at .0 + cx .settings .rtr) t0))
+      go (w ∷ ws) e = either w (e .0) (traits r .notRead && (not (mayStay cx ch r (w ∷ ws)) || leb (w .at .0 + cx .settings .rtr) t0))

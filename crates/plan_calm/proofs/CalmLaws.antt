@@ -35,8 +35,9 @@ highest-below b top h =
     let p3 = le-here (word b 712) _ top (p2 .1) in
     let p4 = le-here (word b 716) _ top (p3 .1) in
     let p5 = le-here (word b 720) _ top (p4 .1) in
-    let p6 = le-here (word b 740) _ top (p5 .1) in
-    let p7 = le-here (word b 748) (word b 752) top (p6 .1) in
+    let p6 = le-here (word b 724) _ top (p5 .1) in
+    let p7 = le-here (word b 740) _ top (p6 .1) in
+    let p8 = le-here (word b 748) (word b 752) top (p7 .1) in
     record {
       banks = λ k l. through _ _ top (max-at (λ k. word b (4 * k)) 160 k l) (p0 .0);
       packet = p1 .0;
@@ -44,9 +45,10 @@ highest-below b top h =
       col = p3 .0;
       pre = p4 .0;
       rd = p5 .0;
-      wrote = λ _. p6 .0;
-      second = λ _. p7 .0;
-      now = p7 .1;
+      implied = p6 .0;
+      wrote = λ _. p7 .0;
+      second = λ _. p8 .0;
+      now = p8 .1;
     }
 
 pub calm-below : (b : List ℕ) → isCalm b ≡ true → Below 999990000 b
@@ -70,35 +72,40 @@ pub or-step : (f : ℕ → ℕ) (n : ℕ) {top x y : ℕ} → maxUpTo f n ≤ to
 unfolding maxUpTo
 or-step f n {top} {x} h e g = rw (add-one n, g, ← e) (omega (arith, or-left top x, or-right top x))
 
--- the or that the code makes of the nine numbers
-pub or-highest : (b : List ℕ) (banks a c d e f g k n : ℕ) → maxUpTo (λ k. word b (4 * k)) 160 ≤ banks
-    → a ≡ word b 704 → c ≡ word b 708 → d ≡ word b 716 → e ≡ word b 712 → f ≡ word b 720 → g ≡ word b 740 → k ≡ word b 748 → n ≡ word b 752
-    → highestIn b ≤ bitOr (bitOr (bitOr banks (bitOr (bitOr a c) d)) (bitOr (bitOr (bitOr e f) g) k)) n
+-- each of four
+or-four : (a b c d : ℕ) → let top : ℕ = bitOr (bitOr (bitOr a b) c) d in (a ≤ top) × ((b ≤ top) × ((c ≤ top) × (d ≤ top)))
+or-four a b c d =
+    let two : ℕ = bitOr a b in
+    let three : ℕ = bitOr two c in
+    let last : three ≤ bitOr three d = or-left three d in
+    let third : two ≤ bitOr three d = through two three _ (or-left two c) last in (
+      through a two _ (or-left a b) third,
+      (through b two _ (or-right a b) third, (through c three _ (or-right two c) last, or-right three d)),
+    )
+
+-- the or that the code makes of the ten numbers
+pub or-highest : (b : List ℕ) (banks a c d i e f g k n : ℕ) → maxUpTo (λ k. word b (4 * k)) 160 ≤ banks
+    → a ≡ word b 704 → c ≡ word b 708 → d ≡ word b 716 → i ≡ word b 724 → e ≡ word b 712 → f ≡ word b 720 → g ≡ word b 740 → k ≡ word b 748 → n ≡ word b 752
+    → highestIn b ≤ bitOr (bitOr (bitOr banks (bitOr (bitOr (bitOr a c) d) i)) (bitOr (bitOr (bitOr e f) g) k)) n
 unfolding highestIn
-or-highest b banks a c d e f g k n h0 ha hc hd he hf hg hk hn =
-    let rows : ℕ = bitOr (bitOr a c) d in
+or-highest b banks a c d i e f g k n h0 ha hc hd hi he hf hg hk hn =
+    let rows : ℕ = bitOr (bitOr (bitOr a c) d) i in
     let cols : ℕ = bitOr (bitOr (bitOr e f) g) k in
-    let r0 = or-left a c in
-    let r1 = or-right a c in
-    let r2 = or-left (bitOr a c) d in
-    let r3 = or-right (bitOr a c) d in
-    let c0 = or-left e f in
-    let c1 = or-right e f in
-    let c2 = or-left (bitOr e f) g in
-    let c3 = or-right (bitOr e f) g in
-    let c4 = or-left (bitOr (bitOr e f) g) k in
-    let c5 = or-right (bitOr (bitOr e f) g) k in
-    let x0 = or-left banks rows in
-    let x1 = or-right banks rows in
-    let y0 = or-left (bitOr banks rows) cols in
-    let y1 = or-right (bitOr banks rows) cols in
-    let z0 = or-left (bitOr (bitOr banks rows) cols) n in
-    let z1 = or-right (bitOr (bitOr banks rows) cols) n in
     let all : ℕ = bitOr (bitOr (bitOr banks rows) cols) n in
-    most _ _ all (omega arith)
-    (most _ _ all (omega arith)
-    (most _ _ all (omega arith)
-    (most _ _ all (omega arith) (most _ _ all (omega arith) (most _ _ all (omega arith) (most _ _ all (omega arith) (most (word b 748) (word b 752) all (omega arith) (omega arith))))))))
+    let r = or-four a c d i in
+    let q = or-four e f g k in
+    let m = or-four banks rows cols n in
+    most _ _ all (through _ banks all h0 (m .0))
+    (most _ _ all (within rows all ha (r .0) (m .1 .0))
+    (most _ _ all (within rows all hc (r .1 .0) (m .1 .0))
+    (most _ _ all (within cols all he (q .0) (m .1 .1 .0))
+    (most _ _ all (within rows all hd (r .1 .1 .0) (m .1 .0))
+    (most _ _ all (within cols all hf (q .1 .0) (m .1 .1 .0))
+    (most _ _ all (within rows all hi (r .1 .1 .1) (m .1 .0))
+    (most _ _ all (within cols all hg (q .1 .1 .0) (m .1 .1 .0)) (most _ _ all (within cols all hk (q .1 .1 .1) (m .1 .1 .0)) (within n all hn (omega arith) (m .1 .1 .1))))))))))
   where
     most : (a b top : ℕ) → a ≤ top → b ≤ top → max a b ≤ top
     most a b top h g = omega arith
+
+    within : {x w : ℕ} (part all : ℕ) → x ≡ w → x ≤ part → part ≤ all → w ≤ all
+    within part all e h g = omega (arith, e)

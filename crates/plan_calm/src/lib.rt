@@ -27,7 +27,7 @@ fn top(b: &[u8]) -> u32
     requires { ⌜ length (now b) ≡ 768 ⌝ }
     ensures { λ r. ⌜ highestIn (now (b .entry)) ≤ r ⌝ }
 {
-    let rows = u32_at(b, 704) | u32_at(b, 708) | u32_at(b, 716);
+    let rows = u32_at(b, 704) | u32_at(b, 708) | u32_at(b, 716) | u32_at(b, 724);
     let cols = u32_at(b, 712) | u32_at(b, 720) | u32_at(b, 740) | u32_at(b, 748);
     banks_top(b) | rows | cols | u32_at(b, 752)
 }
@@ -54,7 +54,10 @@ pub fn highest(b: &[u8]) -> u32
     let last = latest(u32_at(b, 740), latest(u32_at(b, 748), u32_at(b, 752)));
     let cols = latest(
         u32_at(b, 712),
-        latest(u32_at(b, 716), latest(u32_at(b, 720), last)),
+        latest(
+            u32_at(b, 716),
+            latest(u32_at(b, 720), latest(u32_at(b, 724), last)),
+        ),
     );
     latest(
         banks_highest(b),

@@ -1,60 +1,54 @@
 -- The requests on bytes, one step after the other.
 -- Assumes nothing.
-use Prim.Native.Nat.{ℕ, zero, suc, _+_, _-_, _/_, _%_, _<_, _≤_}
-use mathlib.Core.Path.{_≡_, refl, sym, ap, ap₂, _∙_}
-use mathlib.Core.Bool.{Bool, true, false, not, _&&_}
-use mathlib.Core.List.{List}
+use Prim.Native.Nat.{ℕ, zero, suc, _+_, _%_, _<_, _≤_, _^_}
+use mathlib.Core.Path.{_≡_, refl, sym, ap, _∙_}
+use mathlib.Core.Bool.{Bool, true, false, not, _&&_, cond, and-false}
+use mathlib.Core.List.{List, []}
+use mathlib.Core.Option.{Option}
 use native.Mathlib.Omega.{arith}
-use borrow.Author.Tests.{leb-true, le-leb}
-use lib.Dec.{leb}
 use lib.ListN.{length}
-use Rattle.num.specs.Bytes.{bytes, splice, Bytes}
-use Rattle.num.proofs.SpliceLaws.{splice-none}
+use Rattle.num.specs.Bytes.{bytes, splice}
 use Rattle.settings.specs.declared.Settings.{Settings}
 use Rattle.settings.specs.Settings.{valid}
-use Rattle.settings.specs.Instants.{horizon}
 use Rattle.settings.proofs.SettingsLaws.{bounds}
-use Rattle.packet.specs.declared.RowPacket.the-variants.{Prer, Refa, Refp}
+use Rattle.packet.specs.declared.RowPacket.the-variants.{Act, Prer, Refa, Refp}
 use Rattle.packet.specs.declared.ColPacket.the-variants.{Nocop, Rd}
 use Rattle.record.specs.declared.Dualoct.{Dualoct}
 use Rattle.record.specs.declared.Place.{Place}
 use Rattle.record.specs.declared.Record.{Record}
 use Rattle.record.specs.declared.Request.{Request}
-use Rattle.record.specs.declared.Request.the-variants.{Read, Write as WriteTo, Refresh as RefreshBank, Wait, Flush, Close}
-use Rattle.record.proofs.RequestLaws.{InPlace, InRange}
+use Rattle.record.specs.declared.Request.the-variants.{Read, Write as WriteTo, Refresh as RefreshBank, Flush, Close}
+use Rattle.record.proofs.RequestLaws.{InPlace}
+use Rattle.spec_rules.specs.declared.Bank.the-variants.{Open}
 use Rattle.spec_rules.specs.declared.Write.{Write}
 use Rattle.spec_rules.specs.Neighbour.{bankCount, Context, contextOf, near}
-use Rattle.spec_rules.specs.History.{isClosed, anyWrite}
-use Rattle.spec_rules.specs.Checks.{since}
-use Rattle.spec_rules.proofs.Bools.{iff-eq}
+use Rattle.spec_rules.specs.History.{isClosed, anyWrite, left}
 use Rattle.spec_rules.proofs.NeighbourLaws.{core-neighbours}
 use Rattle.spec_plan.specs.declared.PlannerState.{PlannerState}
-use Rattle.spec_plan.specs.Plan.{Draft, rowPacket, colPacket, stateIn, delays, anyWaits, sent, flushed, flushedWhile, closed, closedUpTo, reached, plannedRead, loaded, written, plannedWrite, turned, plannedRefresh, plannedWait, plannedFlush, plannedClose, stepsOf, planned}
-use Rattle.spec_plan.specs.Call.{listBytes, inTime, timely, unretired}
-use Rattle.spec_plan.specs.Looked.{lookedUpTo, looked}
-use Rattle.spec_plan.specs.PlannerBytes.{plannerBytes, plannerIn, plannerRight}
-use Rattle.spec_plan.proofs.SentLaws.{when-either, sent-refresh, while-keeps}
-use Rattle.spec_plan.proofs.PlanLaws.{Good, good-while, good-reached}
-use Rattle.spec_plan.proofs.Bound.{most-made}
-use Rattle.spec_plan.proofs.CallLaws.{planned-made}
-use Rattle.spec_plan.proofs.LookedLaws.{looked-le}
+use Rattle.spec_plan.specs.Plan.{Draft, rowPacket, colPacket, stateIn, openOn, delays, anyWaits, anyCloses, leaver, waiting, sent, flushed, flushedWhile, closed, closedUpTo, reached, plannedRead, loaded, written, plannedWrite, turned, plannedRefresh, plannedFlush, plannedClose, stepsOf, planned}
+use Rattle.spec_plan.specs.Call.{unretired}
+use Rattle.spec_plan.specs.PlannerBytes.{plannerBytes, plannerIn}
 use Rattle.spec_plan.proofs.PlannerRoundTrip.{planner-length}
-use Rattle.spec_plan.proofs.Timely.{lastDelay, timely-is}
-use Rattle.plan_bytes.specs.form.Numbers.{word, half, Below}
-use Rattle.plan_bytes.specs.form.Drawn.{bare, drafted, Ready, Fits, Drawn}
-use Rattle.plan_bytes.proofs.Since.{since-some}
-use Rattle.plan_bytes.proofs.Marks.{far, Marked, marked-more, marked-while, marked-reached, marked-read, marked-write, marked-refresh, marked-flush, marked-close}
+use Rattle.spec_plan.proofs.SentLaws.{when-either, wrPacket, sent-refresh, newer, written-waits, written-plain, while-idle, while-keeps, while-state}
+use Rattle.spec_plan.proofs.PlanLaws.{good-written, good-while, good-reached}
+use Rattle.spec_plan.proofs.Invariant.{left-plain}
+use Rattle.spec_plan.proofs.Bound.{most-made}
+use Rattle.spec_plan.proofs.Timely.{dataBefore}
+use Rattle.plan_bytes.specs.form.Numbers.{word, half}
+use Rattle.plan_bytes.specs.form.Drawn.{bare, drafted, Ready, Rested, OpenAt, Fits, Drawn}
+use Rattle.plan_bytes.proofs.Marks.{Marked, marked-more, marked-while, marked-reached, marked-written}
 use Rattle.plan_bytes.proofs.Instants.{said-some, some-said}
-use Rattle.plan_bytes.proofs.Puts.{now-stored, refresh-stored}
-use Rattle.plan_bytes.proofs.ReadyLaws.{readies, inv}
-use Rattle.plan_bytes.proofs.Again.{start, After, after-step, ready-below, ready-call}
-use Rattle.plan_bytes.proofs.Compose.{Blind, sent-blind, while-blind, up-to-blind, written-blind, fits-first, fits-then, drawn-then, one-sent}
-use Rattle.plan_steps.proofs.Ranges.{up-to-ext}
-use Rattle.plan_steps.proofs.Stepwise.{good, after-of, cleared-first, cleared-fits, cleared-drawn}
+use Rattle.plan_bytes.proofs.Puts.{refresh-stored}
+use Rattle.plan_bytes.proofs.ReadyLaws.{readies, inv, ready-length, now-top, ready, at-rest}
+use Rattle.plan_bytes.proofs.Again.{start, After, after-step, AtRest}
+use Rattle.plan_bytes.proofs.Compose.{Blind, sent-blind, while-blind, written-blind, drawn-none, drawn-room, fits-first, fits-then, drawn-then, one-sent}
+use Rattle.plan_steps.proofs.Stepwise.{G, good, after-of, row-open, row-not, cleared-first, cleared-fits, cleared-drawn}
+use Rattle.plan_steps.specs.form.Closing.{NewestCloses}
+use Rattle.plan_steps.proofs.Closing.{newest-closes}
 
-two-written : (cx : Context) (at : Place) (mask : ℕ) (d : Dualoct) (p : PlannerState) → length (written cx at mask d (bare p) .records) ≡ 2
+two-written : (cx : Context) (close : Bool) (at : Place) (mask : ℕ) (d : Dualoct) (p : PlannerState) → length (written cx close at mask d (bare p) .records) ≡ 2
 unfolding written loaded sent
-two-written cx at mask d p = refl
+two-written cx close at mask d p = refl
 
 -- no packet moves the refresh bank
 up-to-refresh : (cx : Context) (pick : ℕ → Bool) (n : ℕ) (d : Draft) → closedUpTo cx pick n d .planner .refresh ≡ d .planner .refresh
@@ -68,100 +62,197 @@ up-to-refresh cx pick (suc n) d =
     when-either (λ y. f y ≡ f d) (pick n && not (isClosed (stateIn z n))) (closed cx n) z
     (λ _. sent-refresh cx (rowPacket (Prer n)) (flushedWhile cx test z) ∙ save ∙ up-to-refresh cx pick n d) (λ _. up-to-refresh cx pick n d)
 
-module _ (s : Settings) (b : List ℕ) (k : Ready s 999999997 b) (room : List ℕ) (m : 1024 ≤ length room) where
+-- ---- a stored now
+
+pub now-some : (s : Settings) (top : ℕ) (b : List ℕ) → Ready s top b → 1 ≤ word b 752
+unfolding plannerIn
+now-some s top b k = some-said (word b 752) (inv s top b k .low)
+
+pub now-is : (s : Settings) (top : ℕ) (b : List ℕ) → Ready s top b → plannerIn b .now .0 ≡ word b 752 + 3
+unfolding plannerIn
+now-is s top b k = said-some (word b 752) (now-some s top b k)
+
+module _ (s : Settings) (b : List ℕ) (k : Rested s 999999997 b) (room : List ℕ) (m : 1024 ≤ length room) where
   abbrev cx : Context
   cx = contextOf s
 
   abbrev d : Draft
   d = drafted b
 
+  r : Ready s 999999997 b
+  r = ready s 999999997 b k
+
+  v : valid s ≡ true
+  v = readies s 999999997 b r .figures
+
   -- no request makes more than 32 records
   enough : (q : Request) → unretired q (plannerIn b) ≡ false → Fits (planned cx q (plannerIn b)) room 0
-  enough q u = omega (arith, most-made s (plannerIn b) (inv s 999999997 b k) q u)
+  enough q u = omega (arith, most-made s (plannerIn b) (at-rest s 999999997 b k) q u)
+
+  -- a request leaves both buffers as long as they were
+  lengths : (z : Draft) → Fits z room 0 → (b1 room1 : List ℕ) (to1 : ℕ) → Drawn s z room 0 b1 room1 to1 → (length b1 ≡ length b) × (length room1 ≡ length room)
+  lengths z f b1 room1 to1 w = (ap length (w .planner) ∙ planner-length (z .planner) ∙ sym (ready-length s 999999997 b r), drawn-room s z room 0 b1 room1 to1 w f)
 
   module _ (at : Place) (i : InPlace s at) where
     -- the row reached
     abbrev there : Draft
     there = reached cx (at .bank) (at .row) d
 
-    reached-good : Good cx (plannerIn b) there
+    -- it is open, or a step opens it
+    module _ (o : Bool) (e : o ≡ openOn (stateIn d (at .bank)) (at .row)) where
+      pub reach-here : o ≡ true → Drawn s there room 0 b room 0
+      reach-here t = rw (row-open cx (at .bank) (at .row) d (sym e ∙ t)) (drawn-none s b room 0 (readies s 999999997 b r .exact))
+
+      module _ (t : o ≡ false) where
+        abbrev opening : Draft
+        opening = sent cx (rowPacket (Act (at .bank) (at .row))) (closedUpTo cx (near cx (at .bank)) bankCount d)
+
+        pub reach-fits : Fits there room 0 → Fits opening room 0
+        reach-fits f = rw (row-not cx (at .bank) (at .row) d (sym e ∙ t)) at f
+
+        pub reach-opened : (b1 room1 : List ℕ) (to1 : ℕ) → Drawn s opening room 0 b1 room1 to1 → Drawn s there room 0 b1 room1 to1
+        reach-opened b1 room1 to1 w = rw (row-not cx (at .bank) (at .row) d (sym e ∙ t)) w
+
+    pub row-in : at .row < 512
+    row-in = omega (arith, i .1, bounds s v .rows-most)
+
+    reached-good : G s 999999997 b k there × (stateIn there (at .bank) ≡ Open (at .row))
     unfolding bankCount contextOf
-    reached-good = good-reached cx (core-neighbours s) (plannerIn b) d (good s 999999997 b k) (at .bank) (at .row) (i .0) (i .1) .0
+    reached-good = good-reached cx (core-neighbours s) (plannerIn b) d (good s 999999997 b k) (at .bank) (at .row) (i .0) (i .1)
 
-    reached-marked : Marked s 1000006208 there
-    reached-marked = marked-reached s (readies s 999999997 b k .figures) (at .bank) (at .row) 1000000000 d (start s 999999997 b k) (omega arith)
+    reached-marked : Marked s 1000009312 there
+    reached-marked = marked-reached s v (at .bank) (at .row) 1000000000 d (start s 999999997 b r) (omega arith)
 
-    pub reached-after : (b1 : List ℕ) → b1 ≡ plannerBytes (there .planner) → After s 1000008000 there b1
-    reached-after = after-of s 999999997 b k 1000006208 1000008000 there (omega arith) (omega arith) reached-marked reached-good
+    pub reached-after : (b1 : List ℕ) → b1 ≡ plannerBytes (there .planner) → AtRest s 1000011000 there b1
+    reached-after = after-of s 999999997 b k 1000009312 1000011000 there (omega arith) (omega arith) reached-marked (reached-good .0)
 
-    -- ---- read
+    -- ---- read, or read and close
 
-    abbrev test : List Write → Bool
-    test = delays at
+    module _ (close : Bool) where
+      abbrev test : List Write → Bool
+      test = delays cx close at
 
-    abbrev rd : Record
-    rd = colPacket (Rd (at .bank) (at .column) 0xFFFF)
+      quiet : test [] ≡ false
+      quiet = and-false close
 
-    -- the row reached, and the writes that delay the RD retired
-    abbrev clean : Draft
-    clean = flushedWhile cx test there
+      abbrev rd : Record
+      rd = colPacket (Rd (at .bank) (at .column) 0xFFFF close)
 
-    read-fits : Fits (sent cx rd clean) room 0
-    unfolding planned stepsOf plannedRead unretired
-    read-fits = enough (Read at) refl
+      -- the row reached, and the writes that delay the RD retired
+      abbrev clean : Draft
+      clean = flushedWhile cx test there
 
-    clean-fits : Fits clean room 0
-    clean-fits = fits-first (sent cx rd) (sent-blind cx rd) clean room 0 read-fits
+      read-fits : Fits (sent cx rd clean) room 0
+      unfolding planned stepsOf plannedRead unretired
+      read-fits = enough (Read at close) refl
 
-    pub read-first : Fits there room 0
-    read-first = fits-first (flushedWhile cx test) (while-blind cx test) there room 0 clean-fits
+      clean-fits : Fits clean room 0
+      clean-fits = fits-first (sent cx rd) (sent-blind cx rd) clean room 0 read-fits
 
-    clean-after : (b2 : List ℕ) → b2 ≡ plannerBytes (clean .planner) → After s 1000009000 clean b2
-    clean-after =
-        after-of s 999999997 b k (1000006208 + 128) 1000009000 clean (omega arith) (omega arith) (marked-while s (readies s 999999997 b k .figures) test 1000006208 there reached-marked (omega arith))
-        (good-while cx (core-neighbours s) (plannerIn b) there reached-good test refl)
+      pub read-first : Fits there room 0
+      read-first = fits-first (flushedWhile cx test) (while-blind cx test) there room 0 clean-fits
 
-    module _ (b1 room1 : List ℕ) (to1 : ℕ) (w : Drawn s there room 0 b1 room1 to1) where
-      back : plannerIn b1 ≡ there .planner
-      back = reached-after b1 (w .planner) .back
+      clean-after : (b2 : List ℕ) → b2 ≡ plannerBytes (clean .planner) → AtRest s 1000012000 clean b2
+      clean-after =
+          after-of s 999999997 b k (1000009312 + 192) 1000012000 clean (omega arith) (omega arith) (marked-while s v test 1000009312 there reached-marked (omega arith))
+          (good-while cx (core-neighbours s) (plannerIn b) there (reached-good .0) test quiet)
 
-      pub flush-fits : Fits (flushedWhile cx test (drafted b1)) room1 to1
-      flush-fits = fits-then s (flushedWhile cx test) (while-blind cx test) there room 0 b1 room1 to1 w back clean-fits
-
-      module _ (b2 room2 : List ℕ) (to2 : ℕ) (v : Drawn s (flushedWhile cx test (drafted b1)) room1 to1 b2 room2 to2) where
-        clean-drawn : Drawn s clean room 0 b2 room2 to2
-        clean-drawn = drawn-then s (flushedWhile cx test) (while-blind cx test) there room 0 b1 room1 to1 w back clean-fits b2 room2 to2 v
-
-        pub read-after : After s 1000009000 clean b2
-        read-after = clean-after b2 (clean-drawn .planner)
-
-        pub read-room : to2 + 32 ≤ length room2
-        read-room = omega (arith, fits-then s (sent cx rd) (sent-blind cx rd) clean room 0 b2 room2 to2 clean-drawn (read-after .back) read-fits, one-sent cx rd (plannerIn b2))
-
-        pub read-drawn : (b3 room3 : List ℕ) (to3 : ℕ) → Drawn s (sent cx rd (drafted b2)) room2 to2 b3 room3 to3 → Drawn s (plannedRead cx at d) room 0 b3 room3 to3
-        unfolding plannedRead
-        read-drawn b3 room3 to3 u = drawn-then s (sent cx rd) (sent-blind cx rd) clean room 0 b2 room2 to2 clean-drawn (read-after .back) read-fits b3 room3 to3 u
-
-    -- ---- write
-
-    module _ (mask : ℕ) (bytes′ : Dualoct) where
-      abbrev wr : Draft → Draft
-      wr = written cx at mask bytes′
-
-      write-fits : Fits (wr there) room 0
-      unfolding planned stepsOf plannedWrite unretired
-      write-fits = enough (WriteTo at mask bytes′) refl
-
-      pub write-first : Fits there room 0
-      write-first = fits-first wr (written-blind cx at mask bytes′) there room 0 write-fits
+      pub read-lengths : (b1 room1 : List ℕ) (to1 : ℕ) → Drawn s (plannedRead cx close at d) room 0 b1 room1 to1 → (length b1 ≡ length b) × (length room1 ≡ length room)
+      unfolding plannedRead
+      read-lengths = lengths (sent cx rd clean) read-fits
 
       module _ (b1 room1 : List ℕ) (to1 : ℕ) (w : Drawn s there room 0 b1 room1 to1) where
-        pub write-room : to1 + 64 ≤ length room1
-        write-room = omega (arith, fits-then s wr (written-blind cx at mask bytes′) there room 0 b1 room1 to1 w (reached-after b1 (w .planner) .back) write-fits, two-written cx at mask bytes′ (plannerIn b1))
+        back : plannerIn b1 ≡ there .planner
+        back = reached-after b1 (w .planner) .back
 
-        pub write-drawn : (b2 room2 : List ℕ) (to2 : ℕ) → Drawn s (wr (drafted b1)) room1 to1 b2 room2 to2 → Drawn s (plannedWrite cx at mask bytes′ d) room 0 b2 room2 to2
-        unfolding plannedWrite
-        write-drawn b2 room2 to2 v = drawn-then s wr (written-blind cx at mask bytes′) there room 0 b1 room1 to1 w (reached-after b1 (w .planner) .back) write-fits b2 room2 to2 v
+        pub flush-fits : Fits (flushedWhile cx test (drafted b1)) room1 to1
+        flush-fits = fits-then s (flushedWhile cx test) (while-blind cx test) there room 0 b1 room1 to1 w back clean-fits
+
+        module _ (b2 room2 : List ℕ) (to2 : ℕ) (u : Drawn s (flushedWhile cx test (drafted b1)) room1 to1 b2 room2 to2) where
+          clean-drawn : Drawn s clean room 0 b2 room2 to2
+          clean-drawn = drawn-then s (flushedWhile cx test) (while-blind cx test) there room 0 b1 room1 to1 w back clean-fits b2 room2 to2 u
+
+          rest : AtRest s 1000012000 clean b2
+          rest = clean-after b2 (clean-drawn .planner)
+
+          pub read-after : Ready s 1000012000 b2 × (length b2 ≡ 768)
+          read-after = (ready s 1000012000 b2 (rest .ready), rest .size)
+
+          pub read-open : OpenAt b2 (at .bank)
+          unfolding bankCount isClosed
+          read-open = rw (rest .back, while-state cx test quiet there (reached-good .0 .0 .inv .size) (reached-good .0 .1) (at .bank) (i .0), reached-good .1) refl
+
+          pub read-room : to2 + 32 ≤ length room2
+          read-room = omega (arith, fits-then s (sent cx rd) (sent-blind cx rd) clean room 0 b2 room2 to2 clean-drawn (rest .back) read-fits, one-sent cx rd (plannerIn b2))
+
+          pub read-drawn : (b3 room3 : List ℕ) (to3 : ℕ) → Drawn s (sent cx rd (drafted b2)) room2 to2 b3 room3 to3 → Drawn s (plannedRead cx close at d) room 0 b3 room3 to3
+          unfolding plannedRead
+          read-drawn b3 room3 to3 x = drawn-then s (sent cx rd) (sent-blind cx rd) clean room 0 b2 room2 to2 clean-drawn (rest .back) read-fits b3 room3 to3 x
+
+    -- ---- write, or write and close
+
+    module _ (close : Bool) (mask : ℕ) (bytes′ : Dualoct) where
+      abbrev wr : Draft → Draft
+      wr = written cx close at mask bytes′
+
+      write-fits : Fits (flushedWhile cx anyCloses (wr there)) room 0
+      unfolding planned stepsOf plannedWrite unretired
+      write-fits = enough (WriteTo at mask bytes′ close) refl
+
+      pub write-lengths : (b1 room1 : List ℕ) (to1 : ℕ) → Drawn s (plannedWrite cx close at mask bytes′ d) room 0 b1 room1 to1 → (length b1 ≡ length b) × (length room1 ≡ length room)
+      unfolding plannedWrite
+      write-lengths = lengths (flushedWhile cx anyCloses (wr there)) write-fits
+
+      wr-fits : Fits (wr there) room 0
+      wr-fits = fits-first (flushedWhile cx anyCloses) (while-blind cx anyCloses) (wr there) room 0 write-fits
+
+      pub write-first : Fits there room 0
+      write-first = fits-first wr (written-blind cx close at mask bytes′) there room 0 wr-fits
+
+      module _ (b1 room1 : List ℕ) (to1 : ℕ) (w : Drawn s there room 0 b1 room1 to1) where
+        abbrev here : plannerIn b1 ≡ there .planner
+        here = reached-after b1 (w .planner) .back
+
+        pub write-room : to1 + 64 ≤ length room1
+        write-room = omega (arith, fits-then s wr (written-blind cx close at mask bytes′) there room 0 b1 room1 to1 w here wr-fits, two-written cx close at mask bytes′ (plannerIn b1))
+
+        module _ (b2 room2 : List ℕ) (to2 : ℕ) (x : Drawn s (wr (drafted b1)) room1 to1 b2 room2 to2) where
+          wr-drawn : Drawn s (wr there) room 0 b2 room2 to2
+          wr-drawn = drawn-then s wr (written-blind cx close at mask bytes′) there room 0 b1 room1 to1 w here wr-fits b2 room2 to2 x
+
+          -- no NOCOP follows a WR
+          pub write-drawn : close ≡ false → Drawn s (plannedWrite cx close at mask bytes′ d) room 0 b2 room2 to2
+          unfolding plannedWrite
+          write-drawn e = rw (while-idle cx anyCloses (wr there) (written-plain cx close at mask bytes′ there (reached-good .0 .1) e)) wr-drawn
+
+          -- a WRA waits, and there is room for the NOCOPs that retire it
+          module _ (l : mask < 2 ^ 16) (c : close ≡ true) where
+            pub wra-after : After s 1000011000 (wr there) b2
+            unfolding bankCount contextOf
+            wra-after =
+                after-step s v 1000011000 (wr there) (omega arith) (marked-more s (1000009312 + 160) 1000011003 (omega arith) _ (marked-written s v close at mask bytes′ 1000009312 there reached-marked (omega arith)))
+                (good-written cx (core-neighbours s) (plannerIn b) there (reached-good .0) close at (at .row) mask bytes′ (i .0) (i .2) l (reached-good .1) .0 .inv) b2 (wr-drawn .planner)
+
+            pub wra-newest : NewestCloses b2
+            wra-newest =
+                let o : Option Write = leaver cx (there .planner) (wrPacket close at) in
+                newest-closes b2 (newer cx close at there) c (left o (waiting there)) (left-plain o (waiting there) (reached-good .0 .1)) (rw (wra-after .back) (written-waits cx close at mask bytes′ there))
+
+            pub wra-fits : Fits (flushedWhile cx anyCloses (drafted b2)) room2 to2
+            wra-fits = fits-then s (flushedWhile cx anyCloses) (while-blind cx anyCloses) (wr there) room 0 b2 room2 to2 wr-drawn (wra-after .back) write-fits
+
+            -- D of the WRA, by the instant that is stored
+            pub wra-data : (word b2 752 + 3 + s .cwd < 2 ^ 32) × (word b2 752 + 3 + s .cwd ≡ dataBefore cx (WriteTo at mask bytes′ close) (plannerIn b))
+            unfolding contextOf
+            wra-data =
+                let e : wr there .planner .now .0 ≡ word b2 752 + 3 = ap (λ (p : PlannerState). p .now .0) (sym (wra-after .back)) ∙ now-is s 1000011000 b2 (wra-after .ready) in
+                let top = now-top s 1000011000 b2 (wra-after .ready) in
+                let most : word b2 752 + 3 ≤ 1000011003 = omega (arith, top, now-is s 1000011000 b2 (wra-after .ready)) in
+                (omega (arith, bounds s v .cwd-cac, bounds s v .cac-most), ap (λ (n : ℕ). n + s .cwd) (sym e) ∙ sym (ap (λ (q : Bool). cond q (wr there .planner .now .0 + s .cwd) 0) c))
+
+            pub closing-drawn : (b3 room3 : List ℕ) (to3 : ℕ) → Drawn s (flushedWhile cx anyCloses (drafted b2)) room2 to2 b3 room3 to3 → Drawn s (plannedWrite cx close at mask bytes′ d) room 0 b3 room3 to3
+            unfolding plannedWrite
+            closing-drawn b3 room3 to3 y = drawn-then s (flushedWhile cx anyCloses) (while-blind cx anyCloses) (wr there) room 0 b2 room2 to2 wr-drawn (wra-after .back) write-fits b3 room3 to3 y
 
   -- ---- refresh
 
@@ -174,7 +265,7 @@ module _ (s : Settings) (b : List ℕ) (k : Ready s 999999997 b) (room : List �
 
   pub bank-in : half b 756 < 32
   unfolding bankCount
-  bank-in = rw bank-is (inv s 999999997 b k .refresh-in)
+  bank-in = rw bank-is (inv s 999999997 b r .refresh-in)
 
   abbrev refreshed : ℕ → Draft → Draft
   refreshed x z = sent cx (rowPacket (Refp x)) (sent cx (rowPacket (Refa x)) z)
@@ -233,144 +324,3 @@ module _ (s : Settings) (b : List ℕ) (k : Ready s 999999997 b) (room : List �
   pub close-fits : unretired Close (plannerIn b) ≡ false → Fits (plannedClose cx d) room 0
   unfolding planned stepsOf
   close-fits u = enough Close u
-
--- ---- wait
-
-pub now-some : (s : Settings) (top : ℕ) (b : List ℕ) → Ready s top b → 1 ≤ word b 752
-unfolding plannerIn
-now-some s top b k = some-said (word b 752) (inv s top b k .low)
-
-pub now-is : (s : Settings) (top : ℕ) (b : List ℕ) → Ready s top b → plannerIn b .now .0 ≡ word b 752 + 3
-unfolding plannerIn
-now-is s top b k = said-some (word b 752) (now-some s top b k)
-
-pub wait-stored : (s : Settings) (b : List ℕ) → Ready s 999999997 b → (n : ℕ) (left : List ℕ) → left ≡ splice b 752 (bytes 4 (since (word b 752) n)) → left ≡ plannerBytes (plannedWait (contextOf s) n (drafted b) .planner)
-unfolding plannedWait
-wait-stored s b k n left e =
-    let v : since (word b 752) n ≡ plannerIn b .now .0 + n - 3 = since-some (word b 752) n (now-some s 999999997 b k) ∙ omega (arith, now-is s 999999997 b k) in
-    e ∙ ap₂ (λ (l : List ℕ) (v : ℕ). splice l 752 (bytes 4 v)) (sym (readies s 999999997 b k .exact)) v ∙ now-stored (plannerIn b) (plannerIn b .now .0 + n)
-
--- ---- refusal 7
-
--- a request of which now is known to fit its bytes: a wait may pass 2^32
-abbrev pub NoWait : Request → Type 0
-NoWait (Read at) = Unit {0}
-NoWait (WriteTo at mask bytes) = Unit {0}
-NoWait RefreshBank = Unit {0}
-NoWait (Wait n) = ⊥
-NoWait Flush = Unit {0}
-NoWait Close = Unit {0}
-
--- a wait, or none
-pub wait-or-none : (P : Request → Type 0) → ((n : ℕ) → P (Wait n)) → ((q : Request) → NoWait q → P q) → (q : Request) → P q
-wait-or-none P w f (Read at) = f (Read at) tt
-wait-or-none P w f (WriteTo at mask bytes) = f (WriteTo at mask bytes) tt
-wait-or-none P w f RefreshBank = f RefreshBank tt
-wait-or-none P w f (Wait n) = w n
-wait-or-none P w f Flush = f Flush tt
-wait-or-none P w f Close = f Close tt
-
-pub request-marked : (s : Settings) (top : ℕ) (b : List ℕ) → Ready s top b → top + 6403 ≤ far → (q : Request) → NoWait q → Marked s (top + 3 + 6400) (planned (contextOf s) q (plannerIn b))
-unfolding planned stepsOf
-request-marked s top b k h q n = go q n
-  where
-    v : valid s ≡ true
-    v = readies s top b k .figures
-
-    m : Marked s (top + 3) (drafted b)
-    m = start s top b k
-
-    go : (q : Request) → NoWait q → Marked s (top + 3 + 6400) (stepsOf (contextOf s) q (drafted b))
-    go (Read at) n = marked-read s v (top + 3) (drafted b) m (omega arith) at
-    go (WriteTo at mask bytes) n = marked-write s v (top + 3) (drafted b) m (omega arith) at mask bytes
-    go RefreshBank n = marked-refresh s v (top + 3) (drafted b) m (omega arith)
-    go (Wait cycles) n = absurd n
-    go Flush n = marked-flush s v (top + 3) (drafted b) m (omega arith)
-    go Close n = marked-close s v (top + 3) (drafted b) m (omega arith)
-
--- from a calm state no packet, data or now of a request passes the last instant
-pub calm-timely : (s : Settings) (b : List ℕ) → Ready s 999990000 b → (q : Request) → NoWait q → timely (contextOf s) (planned (contextOf s) q (plannerIn b)) ≡ true
-unfolding contextOf
-calm-timely s b k q n =
-    timely-is (contextOf s) q (plannerIn b)
-    ∙ le-leb (planned (contextOf s) q (plannerIn b) .planner .now .0 + lastDelay (contextOf s) q) horizon (omega (arith, request-marked s 999990000 b k (omega arith) q n .now, delay-most q))
-  where
-    delay-most : (q : Request) → lastDelay (contextOf s) q ≤ 12
-    delay-most (Read at) = bounds s (readies s 999990000 b k .figures) .cac-most
-    delay-most (WriteTo at mask d) = omega (arith, bounds s (readies s 999990000 b k .figures) .cwd-cac, bounds s (readies s 999990000 b k .figures) .cac-most)
-    delay-most RefreshBank = omega arith
-    delay-most (Wait n) = omega arith
-    delay-most Flush = omega arith
-    delay-most Close = omega arith
-
--- a distance after a stored instant, against the last instant as it is stored
-ends-by : (w n delay : ℕ) → n ≡ w + 3 → 1 ≤ w → leb (since w delay) 999999997 ≡ leb (n + delay) horizon
-ends-by w n delay e l =
-    rw (since-some w delay l, e) (iff-eq _ _ (λ h. le-leb (w + 3 + delay) horizon (omega (arith, leb-true (w + delay) 999999997 h))) (λ h. le-leb (w + delay) 999999997 (omega (arith, leb-true (w + 3 + delay) horizon h))))
-
--- by the bytes that a request leaves
-pub left-timely : (s : Settings) (b : List ℕ) → Ready s 999999997 b → (q : Request) (delay : ℕ) → NoWait q × (delay ≡ lastDelay (contextOf s) q) → InRange s q → (left : List ℕ)
-    → left ≡ plannerBytes (planned (contextOf s) q (plannerIn b) .planner)
-    → leb (since (word left 752) delay) 999999997 ≡ timely (contextOf s) (planned (contextOf s) q (plannerIn b))
-unfolding contextOf
-left-timely s b k q delay n i left e =
-    let cx : Context = contextOf s in
-    let d : Draft = planned cx q (plannerIn b) in
-    let made = planned-made cx (core-neighbours s) (plannerIn b) (inv s 999999997 b k) q i in
-    let m : Marked s 1000006403 d = marked-more s 1000006400 1000006403 (omega arith) d (request-marked s 999999997 b k (omega arith) q (n .0)) in
-    let a : After s 1000006400 d left = after-step s (readies s 999999997 b k .figures) 1000006400 d (omega arith) m (made .inv) left e in
-    rw (n .1) (ends-by (word left 752) (d .planner .now .0) (lastDelay cx q) (ap (λ (p : PlannerState). p .now .0) (sym (a .back)) ∙ now-is s 1000006400 left (a .ready)) (now-some s 1000006400 left (a .ready))
-    ∙ sym (timely-is cx q (plannerIn b)))
-
-pub left-length : (p : PlannerState) (left : List ℕ) → left ≡ plannerBytes p → length left ≡ 768
-left-length p left e = ap length e ∙ planner-length p
-
-pub wait-timely : (s : Settings) (b : List ℕ) → Ready s 999999997 b → (n : ℕ) → leb (since (word b 752) n) 999999997 ≡ timely (contextOf s) (planned (contextOf s) (Wait n) (plannerIn b))
-unfolding planned stepsOf plannedWait timely inTime
-wait-timely s b k n = ends-by (word b 752) (plannerIn b .now .0) n (now-is s 999999997 b k) (now-some s 999999997 b k)
-
--- ---- the call
-
-pub ready-low : (s : Settings) (b : List ℕ) → valid s ≡ true → Bytes b → plannerRight (contextOf s) b ≡ true → (top : ℕ) → Below top b → Ready s top b
-ready-low s b v w r top t = ready-below s 999999997 top b (ready-call s b v w r) t
-
-module _ (s : Settings) (p : PlannerState) (room b1 room1 : List ℕ) (to : ℕ) where
-  -- what a request leaves and counts
-  abbrev Called : Request → ℕ → ℕ → Type 0
-  Called q n banks =
-      (b1 ≡ plannerBytes (planned (contextOf s) q p .planner))
-      × ((room1 ≡ splice room 0 (listBytes s (planned (contextOf s) q p .records))) × ((n ≡ length (planned (contextOf s) q p .records)) × (banks ≡ looked q p)))
-
-  called : (q : Request) (n banks : ℕ) → n ≡ to / 32 → banks ≡ looked q p → Drawn s (stepsOf (contextOf s) q (bare p)) room 0 b1 room1 to → Called q n banks
-  unfolding planned
-  called q n banks e f w = (w .planner, (w .records, (omega (arith, e, w .next), f)))
-
-  module _ (n banks : ℕ) (c : (n ≡ to / 32) × (banks ≡ 0)) where
-    pub called-wait : (cycles : ℕ) → b1 ≡ plannerBytes (plannedWait (contextOf s) cycles (bare p) .planner) → room1 ≡ room → to ≡ 0 → Called (Wait cycles) n banks
-    unfolding planned stepsOf plannedWait listBytes looked
-    called-wait cycles e f z = (e, (f ∙ splice-none room 0, (omega (arith, c .0), c .1)))
-
-    pub called-read : (at : Place) → Drawn s (plannedRead (contextOf s) at (bare p)) room 0 b1 room1 to → Called (Read at) n banks
-    unfolding stepsOf looked
-    called-read at w = called (Read at) n banks (c .0) (c .1) w
-
-    pub called-write : (at : Place) (mask : ℕ) (d : Dualoct) → Drawn s (plannedWrite (contextOf s) at mask d (bare p)) room 0 b1 room1 to → Called (WriteTo at mask d) n banks
-    unfolding stepsOf looked
-    called-write at mask d w = called (WriteTo at mask d) n banks (c .0) (c .1) w
-
-    pub called-refresh : Drawn s (plannedRefresh (contextOf s) (bare p)) room 0 b1 room1 to → Called RefreshBank n banks
-    unfolding stepsOf looked
-    called-refresh w = called RefreshBank n banks (c .0) (c .1) w
-
-    pub called-flush : Drawn s (plannedFlush (contextOf s) (bare p)) room 0 b1 room1 to → Called Flush n banks
-    unfolding stepsOf looked
-    called-flush w = called Flush n banks (c .0) (c .1) w
-
-  -- the walk of a close, and what it counts
-  module _ (turns : ℕ) (w : Drawn s (plannedClose (contextOf s) (bare p)) room 0 b1 room1 to × (turns ≡ lookedUpTo (stateIn (bare p)) 32)) where
-    pub close-few : turns ≤ 32
-    close-few = omega (arith, w .1, looked-le (stateIn (bare p)) 32)
-
-    pub called-close : (n banks : ℕ) → (n ≡ to / 32) × (banks ≡ turns) → Called Close n banks
-    unfolding stepsOf looked bankCount
-    called-close n banks c = called Close n banks (c .0) (c .1 ∙ w .1) (w .0)

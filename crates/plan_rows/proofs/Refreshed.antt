@@ -18,7 +18,7 @@ use Rattle.spec_rules.specs.declared.Bank.the-variants.{Closed, Open, Refresh}
 use Rattle.spec_rules.specs.Neighbour.{bankCount, Context, contextOf, near}
 use Rattle.spec_rules.specs.Packets.{traits, rowTraits}
 use Rattle.spec_rules.specs.History.{bankBy, isClosed, loads}
-use Rattle.spec_rules.specs.Channel.{stateOf, bankNext, afterPacket, after}
+use Rattle.spec_rules.specs.Channel.{stateOf, afterPacket, after}
 use Rattle.spec_rules.specs.Earliest.{placedAt, under}
 use Rattle.spec_rules.proofs.Bools.{not-both}
 use Rattle.spec_rules.proofs.TrackLaws.{buffer-waiting}
@@ -30,7 +30,7 @@ use Rattle.spec_plan.specs.declared.PlannerState.{PlannerState}
 use Rattle.spec_plan.specs.Plan.{Draft, rowPacket, stateIn, sent}
 use Rattle.spec_plan.specs.PlannerBytes.{plannerBytes, plannerIn}
 use Rattle.spec_plan.proofs.Invariant.{Inv}
-use Rattle.spec_plan.proofs.SentLaws.{sent-size, sent-state, sent-due, sent-refresh, sent-mask, sent-second, row-gone, row-waiting}
+use Rattle.spec_plan.proofs.SentLaws.{sent-size, row-state, sent-due, sent-refresh, sent-mask, sent-second, row-gone, row-waiting}
 use Rattle.spec_plan.proofs.PlannerRoundTrip.{planner-back}
 use Rattle.plan_bytes.specs.form.Numbers.{nowStored}
 use Rattle.plan_bytes.specs.form.Drawn.{bare, drafted, Ready, NearShut, Fits, Drawn}
@@ -43,7 +43,7 @@ use Rattle.plan_rows.specs.form.Slots.{closeAt}
 use Rattle.plan_rows.proofs.Slots.{refp-slot}
 use Rattle.plan_rows.proofs.Rows.{row-drawn}
 
-module _ (s : Settings) (top : ℕ) (b : List ℕ) (k : Ready s top b) (h : top ≤ 1000008000) (x : ℕ) (l : x < 32) (shut : NearShut s b x) where
+module _ (s : Settings) (top : ℕ) (b : List ℕ) (k : Ready s top b) (h : top ≤ 1000011000) (x : ℕ) (l : x < 32) (shut : NearShut s b x) where
   abbrev cx : Context
   cx = contextOf s
 
@@ -63,15 +63,15 @@ module _ (s : Settings) (top : ℕ) (b : List ℕ) (k : Ready s top b) (h : top 
   abbrev known : Inv cx (plannerIn b)
   known = inv s top b k
 
-  marked : Marked s (top + 67) z
+  marked : Marked s (top + 99) z
   marked = rw add at (marked-sent s (readies s top b k .figures) (top + 3) d (start s top b k) (omega arith) refa)
     where
-      add : top + 3 + 64 ≡ top + 67
+      add : top + 3 + 96 ≡ top + 99
       add = omega arith
 
   state-in : (y : ℕ) → y < 32 → stateIn z y ≡ cond (eqb y x) Refresh (stateIn d y)
-  unfolding bankNext bankBy bankCount
-  state-in y m = sent-state cx refa d (known .size) y m
+  unfolding bankBy bankCount
+  state-in y m = row-state cx (Refa x) d (known .size) y m
 
   kept : Kept cx (z .planner .channel)
   unfolding bankValid bankCount
@@ -117,7 +117,7 @@ module _ (s : Settings) (top : ℕ) (b : List ℕ) (k : Ready s top b) (h : top 
     low = rw mid-back (marked .low)
 
     refp-says : Says s b1 (closeAt s b1 x) refp
-    refp-says = says s b1 low (closeAt s b1 x) refp (rw mid-back (omega (arith, slot-most s (readies s top b k .figures) (top + 67) z marked (omega arith) refp))) (refp-slot s b1 low x l)
+    refp-says = says s b1 low (closeAt s b1 x) refp (rw mid-back (omega (arith, slot-most s (readies s top b k .figures) (top + 99) z marked (omega arith) refp))) (refp-slot s b1 low x l)
 
     pub mid-fits : closeAt s b1 x + 3 < 2 ^ 32
     mid-fits = omega (arith, refp-says .fits)

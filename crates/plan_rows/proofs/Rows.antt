@@ -32,7 +32,7 @@ use Rattle.spec_plan.proofs.SentLaws.{row-gone}
 use Rattle.plan_bytes.specs.form.Numbers.{nowStored}
 use Rattle.plan_bytes.specs.form.Drawn.{bare, drafted, Ready, OpenAt, Drawn}
 use Rattle.plan_bytes.proofs.Puts.{Plain, then-now}
-use Rattle.plan_bytes.proofs.ReadyLaws.{readies, inv, plain, Says, said}
+use Rattle.plan_bytes.proofs.ReadyLaws.{readies, inv, plain, sides-shut, Says, said}
 use Rattle.plan_bytes.proofs.Compose.{one-record}
 use Rattle.plan_rows.specs.form.Slots.{closeAt, openAt}
 use Rattle.plan_rows.proofs.Slots.{prer-slot, act-slot, refa-slot}
@@ -67,25 +67,12 @@ module _ (s : Settings) (b : List ℕ) where
 
 -- ---- on ready bytes
 
-module _ (s : Settings) (top : ℕ) (b : List ℕ) (k : Ready s top b) (h : top ≤ 1000009000) where
+module _ (s : Settings) (top : ℕ) (b : List ℕ) (k : Ready s top b) (h : top ≤ 1000012000) where
   abbrev p : PlannerState
   p = plannerIn b
 
   abbrev known : Inv (contextOf s) p
   known = inv s top b k
-
-  -- of an open bank the neighbours are closed
-  sides-shut : (x : ℕ) → x < 32 → OpenAt b x → (y : ℕ) → y < 32 → near (contextOf s) x y ≡ true → eqb y x ≡ false → stateOf (p .channel) y ≡ Closed
-  unfolding bankCount isClosed
-  sides-shut x l o y m n e = is-closed (stateOf (p .channel) y) (or-other (isClosed (stateOf (p .channel) x)) _ o (known .banked .one-closed x y l m (or-other (eqb y x) _ e n)))
-    where
-      or-other : (a c : Bool) → a ≡ false → a || c ≡ true → c ≡ true
-      or-other a c z w = rw z at w
-
-      is-closed : (k : Bank) → isClosed k ≡ true → k ≡ Closed
-      is-closed Closed w = refl
-      is-closed (Open r) w = not-both false w refl
-      is-closed Refresh w = not-both false w refl
 
   -- the least instant of each command
   pub prer-says : (x : ℕ) → x < 32 → Says s b (closeAt s b x) (rowPacket (Prer x))
@@ -115,4 +102,4 @@ module _ (s : Settings) (top : ℕ) (b : List ℕ) (k : Ready s top b) (h : top 
         → room′ ≡ splice room at (recordFields (v + 3) 0 (rowWord (s .device) (Prer x)) 0 0) → Drawn s (sent (contextOf s) (rowPacket (Prer x)) (bare p)) room at left room′ to
     prer-drawn x l o =
         let i : Plain (p .channel) = plain s top b k in
-        row-drawn s b (readies s top b k .exact) room at left room′ to next (Prer x) (λ b v. closeStored b x v) (closeAt s b x) (λ t q. prer-stored (contextOf s) (p .channel) q (i .size) (i .write) (i .no-due) x t l (sides-shut x l o)) (prer-says x l)
+        row-drawn s b (readies s top b k .exact) room at left room′ to next (Prer x) (λ b v. closeStored b x v) (closeAt s b x) (λ t q. prer-stored (contextOf s) (p .channel) q (i .size) (i .write) (i .no-due) x t l (sides-shut s top b k x l o)) (prer-says x l)

@@ -16,14 +16,15 @@ use Rattle.packet.specs.declared.RowPacket.the-variants.{Act, Prer, Refa, Refp}
 use Rattle.spec_rules.specs.declared.BankTrack.{BankTrack}
 use Rattle.spec_rules.specs.declared.Channel.{Channel}
 use Rattle.spec_rules.specs.Neighbour.{bankCount, contextOf, near}
-use Rattle.spec_rules.specs.Packets.{traits, rowTraits}
+use Rattle.spec_rules.specs.Packets.{traits, rowTraits, impliedTraits}
 use Rattle.spec_rules.specs.History.{only}
 use Rattle.spec_rules.specs.Distances.{Kind, ACT, PRER, RD, retire}
 use Rattle.spec_rules.specs.Channel.{idle, never, trackOf, waitingOf}
-use Rattle.spec_rules.specs.Checks.{since, asks, maxUpTo, lastAt, boundBanks}
-use Rattle.spec_rules.specs.Earliest.{earliest, leastFrom}
+use Rattle.spec_rules.specs.Checks.{since, asks, maxUpTo, lastAt, boundBanks, bounds}
+use Rattle.spec_rules.specs.Earliest.{leastFrom}
 use Rattle.spec_rules.proofs.TrackLaws.{row-keeps}
-use Rattle.spec_rules.proofs.ByCommand.{act-bounds, prer-bounds, refa-bounds}
+use Rattle.spec_rules.proofs.ByCommand.{act-bounds, prer-bounds, refa-bounds, implied-bounds}
+use Rattle.spec_rules.proofs.CheckerRight.{row-plain}
 use Rattle.spec_state.specs.ChannelBytes.{instantOf, trackIn, lastsIn, channelIn}
 use Rattle.chan_view.specs.form.Beside.{isFirst, lowOf, highOf, firstNear, lastNear}
 use Rattle.chan_view.specs.form.Bounds.{three}
@@ -33,10 +34,10 @@ use Rattle.spec_plan.specs.declared.PlannerState.{PlannerState}
 use Rattle.spec_plan.specs.Plan.{rowPacket, slot}
 use Rattle.spec_plan.specs.PlannerBytes.{plannerIn}
 use Rattle.plan_bytes.specs.form.Numbers.{word}
-use Rattle.plan_bytes.proofs.Since.{max-ext, max-since, max-both, since-more}
-use Rattle.plan_bytes.proofs.Instants.{said-max, said-since, floored, kept-slot}
+use Rattle.plan_bytes.proofs.Since.{since-none, max-ext, max-since, max-both, since-more}
+use Rattle.plan_bytes.proofs.Instants.{said-max, said-since, floored, own-earliest, kept-slot}
 use Rattle.plan_bytes.proofs.States.{sized, track-at}
-use Rattle.plan_rows.specs.form.Slots.{rowBase, mostIn, closeAt, latestIn, farIn, otherIn, openAt}
+use Rattle.plan_rows.specs.form.Slots.{rowBase, mostIn, prerAsks, closeAt, latestIn, farIn, otherIn, openAt}
 
 -- ---- the plan's slots by the state, command by command
 
@@ -46,24 +47,44 @@ module _ (s : Settings) (p : PlannerState) (e : length (p .channel .banks) ≡ 3
 
   -- what now and the last packets ask
   abbrev rowFloor : ℕ
-  rowFloor = max (max (p .now .0) (ch .lasts .packet .0)) (since (ch .lasts .row .0) 4)
+  rowFloor = max (max (max (p .now .0) (ch .lasts .packet .0)) (since (ch .lasts .row .0) 4)) (ch .lasts .implied .0)
 
   -- of a bank and its neighbours
   abbrev nearAsks : Kind → ℕ → ℕ → ℕ
   nearAsks a gap x = three (lastAt (trackOf ch x) a) (lastAt (trackOf ch (lowOf s x)) a) (lastAt (trackOf ch (highOf s x)) a) gap
 
-  -- a ROW packet retires nothing
-  kept : (q : RowPacket) → slot (contextOf s) p (rowPacket q) ≡ max (p .now .0) (earliest (contextOf s) ch (rowPacket q))
-  unfolding slot leastFrom
-  kept q = kept-slot (contextOf s) ch (rowPacket q) (row-keeps never q) _ (waitingOf (ch .buffer))
+  -- a ROW packet retires nothing and implies no PRER
+  kept : (q : RowPacket) → slot (contextOf s) p (rowPacket q) ≡ max (p .now .0) (max 4 (bounds (contextOf s) ch (rowTraits q)))
+  unfolding slot leastFrom traits
+  kept q =
+      kept-slot (contextOf s) ch (rowPacket q) (row-keeps never q) _ (waitingOf (ch .buffer))
+      ∙ ap (λ (n : ℕ). max (p .now .0) n) (own-earliest (contextOf s) ch (rowPacket q) (row-plain (contextOf s) ch never q))
 
-  prer-by : (x : ℕ) → slot (contextOf s) p (rowPacket (Prer x)) ≡ max rowFloor (max (nearAsks ACT (s .ras) x) (max (since (ch .lasts .pre .0) (s .pp)) (max (nearAsks RD (s .rdp) x) (nearAsks retire (s .rtp) x))))
-  unfolding slot leastFrom earliest traits rowTraits contextOf
-  prer-by x = kept (Prer x) ∙ rw (prer-bounds (contextOf s) ch x, near-bound s ch e ACT (s .ras) x, near-bound s ch e RD (s .rdp) x, near-bound s ch e retire (s .rtp) x) (floored p low _ _)
+  -- an implied PRER that is still due stands last in what the table asks of it
+  due-last : (asked k : ℕ) → asked ≡ max k (since (ch .lasts .implied .0) 0)
+      → max (p .now .0) (max 4 (max (since (ch .lasts .packet .0) 0) (max (since (ch .lasts .row .0) 4) asked))) ≡ max rowFloor k
+  due-last asked k e =
+      ap (λ (n : ℕ). max (p .now .0) (max 4 (max (since (ch .lasts .packet .0) 0) (max (since (ch .lasts .row .0) 4) n)))) (e ∙ ap (λ (n : ℕ). max k n) (since-none (ch .lasts .implied .0)))
+      ∙ floored p low (since (ch .lasts .row .0) 4) (max k (ch .lasts .implied .0))
+      ∙ aside _ k (ch .lasts .implied .0)
+    where
+      aside : (a k e : ℕ) → max a (max k e) ≡ max (max a e) k
+      aside a k e = omega arith
+
+  deeper : (a b k e : ℕ) → b ≡ max k e → max a b ≡ max (max a k) e
+  deeper a b k e h = omega (arith, h)
+
+  -- a PRER, of an implied one too
+  abbrev pub prerBound : ℕ → ℕ
+  prerBound x = bounds (contextOf s) ch (impliedTraits x)
+
+  prer-by : (x : ℕ) → slot (contextOf s) p (rowPacket (Prer x)) ≡ max rowFloor (prerBound x)
+  prer-by x =
+      kept (Prer x) ∙ rw (prer-bounds (contextOf s) ch x) (due-last _ (prerBound x) (rw (implied-bounds (contextOf s) ch x) (deeper _ _ _ _ (deeper _ _ _ _ (deeper _ _ _ _ refl)))))
 
   -- REFP acts as PRER, REFA as ACT
   refp-by : (x : ℕ) → slot (contextOf s) p (rowPacket (Refp x)) ≡ slot (contextOf s) p (rowPacket (Prer x))
-  unfolding earliest traits rowTraits
+  unfolding rowTraits
   refp-by x = kept (Refp x) ∙ sym (kept (Prer x))
 
   -- all other banks
@@ -71,11 +92,10 @@ module _ (s : Settings) (p : PlannerState) (e : length (p .channel .banks) ≡ 3
   farAsks x = boundBanks (contextOf s) ch (λ b y. not (near (contextOf s) b y)) ACT (s .rr) x
 
   act-by : (x row : ℕ) → slot (contextOf s) p (rowPacket (Act x row)) ≡ max rowFloor (max (nearAsks ACT (s .rc) x) (max (farAsks x) (nearAsks PRER (s .rp) x)))
-  unfolding slot leastFrom earliest traits rowTraits contextOf
-  act-by x row = kept (Act x row) ∙ rw (act-bounds (contextOf s) ch x row, near-bound s ch e ACT (s .rc) x, near-bound s ch e PRER (s .rp) x) (floored p low _ _)
+  unfolding contextOf
+  act-by x row = kept (Act x row) ∙ rw (act-bounds (contextOf s) ch x row, near-bound s ch e ACT (s .rc) x, near-bound s ch e PRER (s .rp) x) (due-last _ _ (deeper _ _ _ _ (deeper _ _ _ _ refl)))
 
   refa-by : (x row : ℕ) → slot (contextOf s) p (rowPacket (Refa x)) ≡ slot (contextOf s) p (rowPacket (Act x row))
-  unfolding earliest traits rowTraits
   refa-by x row = kept (Refa x) ∙ rw (refa-bounds (contextOf s) ch x, ← act-bounds (contextOf s) ch x row) (sym (kept (Act x row)))
 
 -- ---- in stored numbers
@@ -141,17 +161,19 @@ module _ (s : Settings) (b : List ℕ) (low : 4 ≤ plannerIn b .now .0) where
   unfolding plannerIn channelIn lastsIn
   pre-last-said g = said-since (word b 716) g
 
-  pub prer-slot : (x : ℕ) → x < 32 → instantOf (closeAt s b x) ≡ slot (contextOf s) state (rowPacket (Prer x))
-  unfolding closeAt
-  prer-slot x l =
-      said-max (rowBase b) _
-      ∙ ap₂ max row-said
+  pub prer-said : (x : ℕ) → x < 32 → instantOf (prerAsks s b x) ≡ bounds (contextOf s) (state .channel) (impliedTraits x)
+  unfolding prerAsks contextOf
+  prer-said x l =
+      rw (implied-bounds (contextOf s) (state .channel) x, near-bound s (state .channel) (sized b) ACT (s .ras) x, near-bound s (state .channel) (sized b) RD (s .rdp) x, near-bound s (state .channel) (sized b) retire (s .rtp) x)
       (said-max (since (mostIn s b 0 x) (s .ras)) _
       ∙ ap₂ max (near-said ACT 0 refl opened-plane x l (s .ras))
       (said-max (since (word b 716) (s .pp)) _
       ∙ ap₂ max (pre-last-said (s .pp))
       (said-max (since (mostIn s b 384 x) (s .rdp)) _ ∙ ap₂ max (near-said RD 384 refl rd-plane x l (s .rdp)) (near-said retire 512 refl retire-plane x l (s .rtp)))))
-      ∙ sym (prer-by s state (sized b) low x)
+
+  pub prer-slot : (x : ℕ) → x < 32 → instantOf (closeAt s b x) ≡ slot (contextOf s) state (rowPacket (Prer x))
+  unfolding closeAt
+  prer-slot x l = said-max (rowBase b) _ ∙ ap₂ max row-said (prer-said x l) ∙ sym (prer-by s state (sized b) low x)
 
   pub refp-slot : (x : ℕ) → x < 32 → instantOf (closeAt s b x) ≡ slot (contextOf s) state (rowPacket (Refp x))
   refp-slot x l = prer-slot x l ∙ sym (refp-by s state (sized b) low x)

@@ -12,7 +12,7 @@ ghost use Rattle.spec_state.specs.form.Stores.{closeStored};
 ghost use Rattle.spec_plan.specs.Plan.{rowPacket, sent};
 ghost use Rattle.plan_bytes.specs.form.Numbers.{word, nowStored};
 ghost use Rattle.plan_bytes.specs.form.Drawn.{drafted, Ready, OpenAt, NearShut, Drawn};
-ghost use Rattle.plan_rows.specs.form.Slots.{rowBase, mostIn, closeAt, latestIn, farIn, otherIn, openAt};
+ghost use Rattle.plan_rows.specs.form.Slots.{rowBase, mostIn, prerAsks, closeAt, latestIn, farIn, otherIn, openAt};
 use chan_view::bounds::after_gap;
 use chan_view::bounds::later;
 use chan_view::neighbours::first_near;
@@ -45,12 +45,27 @@ fn after_near(s: Settings, b: &[u8], plane: usize, x: usize, gap: u32) -> u64
     after_gap(PacketAt(latest(latest(own, low), high)), gap)
 }
 
-// What now and rules 1 and 2 ask of a ROW packet.
+// What now and rules 1, 2 and 17 ask of a ROW packet.
 fn row_base(b: &[u8]) -> u64
     requires { ⌜ length (now b) ≡ 768 ⌝ }
     ensures { λ r. ⌜ r ≡ rowBase (now (b .entry)) ⌝ }
 {
-    later(later(stored(b, 752), stored(b, 704)), after(b, 708, 4))
+    let last = later(stored(b, 752), stored(b, 704));
+    later(later(last, after(b, 708, 4)), stored(b, 724))
+}
+
+// What rules 6, 8 and 13 ask of a PRER, of an implied one too.
+pub fn prer_asks(s: Settings, b: &[u8], x: usize) -> u64
+    requires { ⌜ length (now b) ≡ 768 ⌝ }
+    requires { ⌜ x < 32 ⌝ }
+    ensures { λ r. ⌜ r ≡ prerAsks s (now (b .entry)) x ⌝ }
+{
+    let opened = after_near(s, b, 0, x, s.ras);
+    let cols = later(
+        after_near(s, b, 384, x, s.rdp),
+        after_near(s, b, 512, x, s.rtp),
+    );
+    later(opened, later(after(b, 716, s.pp), cols))
 }
 
 fn close_at(s: Settings, b: &[u8], x: usize) -> u64
@@ -58,12 +73,7 @@ fn close_at(s: Settings, b: &[u8], x: usize) -> u64
     requires { ⌜ x < 32 ⌝ }
     ensures { λ r. ⌜ r ≡ closeAt s (now (b .entry)) x ⌝ }
 {
-    let opened = after_near(s, b, 0, x, s.ras);
-    let cols = later(
-        after_near(s, b, 384, x, s.rdp),
-        after_near(s, b, 512, x, s.rtp),
-    );
-    later(row_base(b), later(opened, later(after(b, 716, s.pp), cols)))
+    later(row_base(b), prer_asks(s, b, x))
 }
 
 // PRER or REFP, by its word, to a bank whose neighbours are closed.
@@ -83,7 +93,7 @@ fn close(s: Settings, b: &mut [u8], x: usize, word: u64, room: &mut [u8], to: us
 
 // PRER, to a bank that is open.
 pub fn prer(s: Settings, b: &mut [u8], x: usize, room: &mut [u8], to: usize) -> usize
-    requires { ⌜ Ready s 1000009000 (now b) ⌝ }
+    requires { ⌜ Ready s 1000012000 (now b) ⌝ }
     requires { ⌜ length (now b) ≡ 768 ⌝ }
     requires { ⌜ x < 32 ⌝ }
     requires { ⌜ OpenAt (now b) x ⌝ }
@@ -171,7 +181,7 @@ fn open_at(s: Settings, b: &[u8], bank: u32) -> u64
 
 // ACT, to a bank that is closed with its neighbours.
 pub fn act(s: Settings, b: &mut [u8], bank: u32, row: u32, room: &mut [u8], to: usize) -> usize
-    requires { ⌜ Ready s 1000009000 (now b) ⌝ }
+    requires { ⌜ Ready s 1000012000 (now b) ⌝ }
     requires { ⌜ length (now b) ≡ 768 ⌝ }
     requires { ⌜ bank < 32 ⌝ }
     requires { ⌜ to + 32 ≤ length (now room) ⌝ }
@@ -187,7 +197,7 @@ pub fn act(s: Settings, b: &mut [u8], bank: u32, row: u32, room: &mut [u8], to: 
 
 // REFA, to a bank that is closed with its neighbours.
 fn refa(s: Settings, b: &mut [u8], bank: u32, room: &mut [u8], to: usize) -> usize
-    requires { ⌜ Ready s 1000009000 (now b) ⌝ }
+    requires { ⌜ Ready s 1000012000 (now b) ⌝ }
     requires { ⌜ length (now b) ≡ 768 ⌝ }
     requires { ⌜ bank < 32 ⌝ }
     requires { ⌜ to + 32 ≤ length (now room) ⌝ }
@@ -203,7 +213,7 @@ fn refa(s: Settings, b: &mut [u8], bank: u32, room: &mut [u8], to: usize) -> usi
 
 // REFA, then REFP.
 pub fn refresh_bank(s: Settings, b: &mut [u8], bank: u32, room: &mut [u8], to: usize) -> usize
-    requires { ⌜ Ready s 1000008000 (now b) ⌝ }
+    requires { ⌜ Ready s 1000011000 (now b) ⌝ }
     requires { ⌜ length (now b) ≡ 768 ⌝ }
     requires { ⌜ bank < 32 ⌝ }
     requires { ⌜ NearShut s (now b) bank ⌝ }

@@ -19,14 +19,14 @@ use Rattle.spec_rules.proofs.NeighbourLaws.{core-neighbours}
 use Rattle.spec_plan.specs.declared.PlannerState.{PlannerState}
 use Rattle.spec_plan.specs.Plan.{Draft, rowPacket, colPacket, when, waiting, stateIn, openOn, anyWaits, sent, flushed, flushedWhile, closed, closedUpTo, reached}
 use Rattle.spec_plan.specs.PlannerBytes.{plannerBytes, plannerIn}
-use Rattle.spec_plan.proofs.Trace.{trace-start}
-use Rattle.spec_plan.proofs.SentLaws.{when-either, while-state}
+use Rattle.spec_plan.proofs.SentLaws.{when-either, Plain, flushed-plain, flushed-same, while-idle, while-state}
+use Rattle.spec_plan.proofs.CallLaws.{rested}
 use Rattle.spec_plan.proofs.PlanLaws.{Good, good-flushed, good-while, good-up-to, good-cleared}
-use Rattle.plan_bytes.specs.form.Numbers.{waitsIn}
-use Rattle.plan_bytes.specs.form.Drawn.{bare, drafted, Ready, OpenAt, NearShut, Fits, Drawn}
+use Rattle.plan_bytes.specs.form.Numbers.{waitsIn, heldCloses}
+use Rattle.plan_bytes.specs.form.Drawn.{bare, drafted, Ready, Rested, OpenAt, NearShut, Fits, Drawn}
 use Rattle.plan_bytes.proofs.Marks.{Marked, marked-more, marked-when, marked-while, marked-up-to, marked-all}
-use Rattle.plan_bytes.proofs.ReadyLaws.{readies, inv}
-use Rattle.plan_bytes.proofs.Again.{start, After, after-step}
+use Rattle.plan_bytes.proofs.ReadyLaws.{readies, inv, ready, at-rest, held-plain}
+use Rattle.plan_bytes.proofs.Again.{start, after-step, AtRest, rest-step, ready-more}
 use Rattle.plan_bytes.proofs.Compose.{Blind, sent-blind, again-blind, drawn-none, fits-first, fits-then, drawn-then, one-sent}
 use Rattle.plan_steps.proofs.Tested.{waits-is}
 use Rattle.plan_steps.proofs.Ranges.{up-to-none, up-to-next, up-to-grows, turn-blind}
@@ -36,40 +36,39 @@ pub one-flushed : (cx : Context) (p : PlannerState) → length (flushed cx (bare
 unfolding flushed
 one-flushed cx p = one-sent cx (colPacket (Nocop 0xFFFF)) p
 
--- no NOCOP where the test fails at first
-none-flushed : (cx : Context) (test : List Write → Bool) (d : Draft) → test (waiting d) ≡ false → flushedWhile cx test d ≡ d
-unfolding flushedWhile
-none-flushed cx test d e =
-    let f : when (test (waiting d)) (flushed cx) d ≡ d = rw e in
-    rw (f, e)
+module _ (s : Settings) (top : ℕ) (b : List ℕ) (k : Rested s top b) where
+  r : Ready s top b
+  r = ready s top b k
 
-module _ (s : Settings) (top : ℕ) (b : List ℕ) (k : Ready s top b) where
   abbrev cx : Context
   cx = contextOf s
 
   abbrev d : Draft
   d = drafted b
 
-  pub good : Good cx (plannerIn b) d
-  good = record { trace = trace-start cx (plannerIn b); inv = inv s top b k }
+  abbrev pub G : Draft → Type 0
+  G z = Good cx (plannerIn b) z × Plain cx z
+
+  pub good : G d
+  good = rested cx (plannerIn b) (at-rest s top b k)
 
   -- the bytes of a draft that a step has come to
-  pub after-of : (hi high : ℕ) (z : Draft) → hi ≤ high + 3 → high ≤ 1000009000 → Marked s hi z → Good cx (plannerIn b) z → (b1 : List ℕ) → b1 ≡ plannerBytes (z .planner) → After s high z b1
-  after-of hi high z l h m g b1 e = after-step s (readies s top b k .figures) high z (omega arith) (marked-more s hi (high + 3) l z m) (g .inv) b1 e
+  pub after-of : (hi high : ℕ) (z : Draft) → hi ≤ high + 3 → high ≤ 1000012000 → Marked s hi z → G z → (b1 : List ℕ) → b1 ≡ plannerBytes (z .planner) → AtRest s high z b1
+  after-of hi high z l h m g b1 e = rest-step s high z (g .1) b1 (after-step s (readies s top b r .figures) high z (omega arith) (marked-more s hi (high + 3) l z m) (g .0 .inv) b1 e)
 
   -- ---- NOCOP while the waiting writes pass a test, at most twice
 
-  module _ (h : top ≤ 1000008000) (test : List Write → Bool) (quiet : test [] ≡ false) where
+  module _ (h : top ≤ 1000011000) (test : List Write → Bool) (quiet : test [] ≡ false) where
     abbrev step : Draft → Draft
     step y = when (test (waiting y)) (flushed cx) y
 
     abbrev once : Draft
     once = step d
 
-    once-after : (b1 : List ℕ) → b1 ≡ plannerBytes (once .planner) → After s 1000009000 once b1
+    once-after : (b1 : List ℕ) → b1 ≡ plannerBytes (once .planner) → AtRest s 1000012000 once b1
     once-after =
-        after-of (top + 3 + 64) 1000009000 once (omega arith) (omega arith) (marked-when s (readies s top b k .figures) (test (waiting d)) (top + 3) d (start s top b k) (omega arith))
-        (when-either (Good cx (plannerIn b)) (test (waiting d)) (flushed cx) d (λ _. good-flushed cx (core-neighbours s) (plannerIn b) d good) (λ _. good))
+        after-of (top + 3 + 96) 1000012000 once (omega arith) (omega arith) (marked-when s (readies s top b r .figures) (test (waiting d)) (top + 3) d (start s top b r) (omega arith))
+        (when-either G (test (waiting d)) (flushed cx) d (λ _. (good-flushed cx (core-neighbours s) (plannerIn b) d (good .0), flushed-plain cx d (good .1))) (λ _. good))
 
     -- it passes only where a write waits
     pub passes : (z : Draft) (q : Bool) → q ≡ test (waiting z) → q ≡ true → anyWaits (waiting z) ≡ true
@@ -86,12 +85,18 @@ module _ (s : Settings) (top : ℕ) (b : List ℕ) (k : Ready s top b) where
 
       -- it fails at first
       pub none-drawn : test (waiting d) ≡ false → Drawn s (flushedWhile cx test d) room at b room at
-      none-drawn e = rw (none-flushed cx test d e) (drawn-none s b room at (readies s top b k .exact))
+      none-drawn e = rw (while-idle cx test d e) (drawn-none s b room at (readies s top b r .exact))
 
       -- it passes at first: a write waits, and there is room for a NOCOP
       module _ (e : test (waiting d) ≡ true) where
         pub first-waits : waitsIn b ≡ true
         first-waits = waits-is b ∙ passes d true (sym e) refl
+
+        pub first-plain : heldCloses b ≡ false
+        first-plain = held-plain s top b k first-waits
+
+        pub first-ready : Ready s 1000012000 b
+        first-ready = ready-more s top 1000012000 b (omega arith) r
 
         pub first-fits : at + 32 ≤ length room
         first-fits =
@@ -102,8 +107,13 @@ module _ (s : Settings) (top : ℕ) (b : List ℕ) (k : Ready s top b) where
           once-drawn : Drawn s once room at b1 room1 to1
           once-drawn = rw e w
 
-          pub again-after : After s 1000009000 once b1
+          pub again-after : AtRest s 1000012000 once b1
           again-after = once-after b1 (once-drawn .planner)
+
+          -- a NOCOP for a write that does not close its bank leaves each bank as it was
+          pub again-open : (x : ℕ) → x < 32 → OpenAt b x → OpenAt b1 x
+          unfolding bankCount
+          again-open x l o = rw (again-after .back, e, flushed-same cx d (inv s top b r .size) (good .1) x l) o
 
           module _ (q : Bool) (f : q ≡ test (waiting (drafted b1))) where
             pub again-fits : Fits (when q (flushed cx) (drafted b1)) room1 to1
@@ -115,21 +125,21 @@ module _ (s : Settings) (top : ℕ) (b : List ℕ) (k : Ready s top b) where
 
   -- ---- a bank closed
 
-  module _ (h : top ≤ 1000008000) (x : ℕ) (l : x < 32) where
+  module _ (h : top ≤ 1000011000) (x : ℕ) (l : x < 32) where
     abbrev lost : List Write → Bool
     lost = anyWrite (λ w. near cx x (w .bank))
 
     abbrev saved : Draft
     saved = flushedWhile cx lost d
 
-    pub saved-after : (b1 : List ℕ) → b1 ≡ plannerBytes (saved .planner) → After s 1000009000 saved b1
+    pub saved-after : (b1 : List ℕ) → b1 ≡ plannerBytes (saved .planner) → AtRest s 1000012000 saved b1
     saved-after =
-        after-of (top + 3 + 128) 1000009000 saved (omega arith) (omega arith) (marked-while s (readies s top b k .figures) lost (top + 3) d (start s top b k) (omega arith))
+        after-of (top + 3 + 192) 1000012000 saved (omega arith) (omega arith) (marked-while s (readies s top b r .figures) lost (top + 3) d (start s top b r) (omega arith))
         (good-while cx (core-neighbours s) (plannerIn b) d good lost refl)
 
     pub saved-open : (b1 : List ℕ) → plannerIn b1 ≡ saved .planner → OpenAt b x → OpenAt b1 x
     unfolding bankCount
-    saved-open b1 back o = rw back (rw (while-state cx lost refl d (inv s top b k .size) x l) o)
+    saved-open b1 back o = rw back (rw (while-state cx lost refl d (inv s top b r .size) (good .1) x l) o)
 
     -- the room of the NOCOPs, of the PRER, and what both make
     module _ (room : List ℕ) (at : ℕ) (fits : Fits (closed cx x d) room at) where
@@ -163,15 +173,15 @@ module _ (s : Settings) (top : ℕ) (b : List ℕ) (k : Ready s top b) where
     abbrev upTo : ℕ → Draft
     upTo n = closedUpTo cx pick n d
 
-    pub up-to-after : (n : ℕ) → n ≤ end → (b1 : List ℕ) → b1 ≡ plannerBytes (upTo n .planner) → After s 1000008000 (upTo n) b1
+    pub up-to-after : (n : ℕ) → n ≤ end → (b1 : List ℕ) → b1 ≡ plannerBytes (upTo n .planner) → AtRest s 1000011000 (upTo n) b1
     unfolding bankCount
     up-to-after n l =
-        after-of (top + 3 + 192 * n) 1000008000 (upTo n) (omega arith) (omega arith) (marked-up-to s (readies s top b k .figures) pick n (top + 3) d (start s top b k) (omega arith))
+        after-of (top + 3 + 288 * n) 1000011000 (upTo n) (omega arith) (omega arith) (marked-up-to s (readies s top b r .figures) pick n (top + 3) d (start s top b r) (omega arith))
         (good-up-to cx (core-neighbours s) (plannerIn b) d good pick n (omega arith))
 
     -- before the first turn of the loop
     pub first-drawn : (room : List ℕ) (at : ℕ) → Drawn s (upTo first) room at b room at
-    first-drawn room at = rw (up-to-none cx d first) (drawn-none s b room at (readies s top b k .exact))
+    first-drawn room at = rw (up-to-none cx d first) (drawn-none s b room at (readies s top b r .exact))
 
     -- a turn of it
     module _ (room : List ℕ) (at : ℕ) (fits : Fits (upTo end) room at) (n : ℕ) (l : first ≤ n) (below : n < end) (b1 room1 : List ℕ) (to1 : ℕ) (w : Drawn s (upTo n) room at b1 room1 to1) where
@@ -199,9 +209,9 @@ module _ (s : Settings) (top : ℕ) (b : List ℕ) (k : Ready s top b) where
     abbrev cleared : Draft
     cleared = closedUpTo cx (near cx x) bankCount d
 
-    pub cleared-after : (b1 : List ℕ) → b1 ≡ plannerBytes (cleared .planner) → After s 1000008000 cleared b1
+    pub cleared-after : (b1 : List ℕ) → b1 ≡ plannerBytes (cleared .planner) → AtRest s 1000011000 cleared b1
     cleared-after =
-        after-of (top + 3 + 6144) 1000008000 cleared (omega arith) (omega arith) (marked-all s (readies s top b k .figures) (near cx x) (top + 3) d (start s top b k) (omega arith))
+        after-of (top + 3 + 9216) 1000011000 cleared (omega arith) (omega arith) (marked-all s (readies s top b r .figures) (near cx x) (top + 3) d (start s top b r) (omega arith))
         (good-cleared cx (core-neighbours s) (plannerIn b) d good x .0)
 
     pub cleared-shut : (b1 : List ℕ) → plannerIn b1 ≡ cleared .planner → NearShut s b1 x

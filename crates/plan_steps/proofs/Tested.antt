@@ -13,12 +13,12 @@ use Rattle.spec_rules.specs.declared.Bank.the-variants.{Closed, Open, Refresh}
 use Rattle.spec_rules.specs.declared.BankTrack.{BankTrack}
 use Rattle.spec_rules.specs.declared.Write.{Write}
 use Rattle.spec_rules.specs.Neighbour.{bankCount, Context}
-use Rattle.spec_rules.specs.History.{isClosed, anyWrite}
+use Rattle.spec_rules.specs.History.{isClosed, anyWrite, two}
 use Rattle.spec_rules.specs.Channel.{waitingOf}
 use Rattle.spec_rules.proofs.Bools.{not-both}
 use Rattle.spec_state.specs.ChannelBytes.{bankIn, trackIn, writeIn, channelIn}
 use Rattle.spec_state.proofs.PlaneLaws.{tracks-at}
-use Rattle.spec_plan.specs.Plan.{waiting, stateIn, openOn, hits, delays}
+use Rattle.spec_plan.specs.Plan.{waiting, stateIn, openOn, hits, loses, delays}
 use Rattle.spec_plan.specs.PlannerBytes.{plannerIn}
 use Rattle.plan_bytes.specs.form.Numbers.{half, waitsIn, twoIn}
 use Rattle.plan_bytes.specs.form.Drawn.{drafted}
@@ -42,9 +42,19 @@ module _ (b : List ℕ) where
       waits-by (λ w t ws. ((w && test (writeIn b 736)) || (t && test (writeIn b 744))) ≡ anyWrite test ws)
       (ap (λ (q : Bool). test (writeIn b 736) || q) (sym (or-false (test (writeIn b 744))))) refl refl
 
-  pub delays-is : (cx : Context) (at : Place) → (twoIn b || (waitsIn b && hits (at .bank) (at .column) (writeIn b 736))) ≡ delays at (waiting (drafted b))
+  pub delays-is : (cx : Context) (at : Place) → (twoIn b || (waitsIn b && hits (at .bank) (at .column) (writeIn b 736))) ≡ delays cx false at (waiting (drafted b))
   delays-is cx at =
-      waits-by (λ w t ws. (t || (w && hits (at .bank) (at .column) (writeIn b 736))) ≡ delays at ws) refl (sym (or-false (hits (at .bank) (at .column) (writeIn b 736)))) refl
+      waits-by (λ w t ws. (t || (w && hits (at .bank) (at .column) (writeIn b 736))) ≡ delays cx false at ws) refl
+      (sym (or-false (hits (at .bank) (at .column) (writeIn b 736) || false) ∙ or-false (hits (at .bank) (at .column) (writeIn b 736)))) refl
+
+  -- of an RDA
+  pub closing-is : (cx : Context) (at : Place) → (delays cx false at (waiting (drafted b)) || loses cx (at .bank) (waiting (drafted b))) ≡ delays cx true at (waiting (drafted b))
+  closing-is cx at = go (two (waiting (drafted b))) (anyWrite (hits (at .bank) (at .column)) (waiting (drafted b))) (loses cx (at .bank) (waiting (drafted b)))
+    where
+      go : (a h l : Bool) → ((a || (h || false)) || l) ≡ (a || (h || l))
+      go true h l = refl
+      go false true l = refl
+      go false false l = refl
 
   pub waits-is : waitsIn b ≡ anyWrite (λ w. true) (waiting (drafted b))
   waits-is = waits-by (λ w t ws. w ≡ anyWrite (λ w. true) ws) refl refl refl

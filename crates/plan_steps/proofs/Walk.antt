@@ -14,11 +14,13 @@ use Rattle.spec_rules.specs.Neighbour.{bankCount, Context, contextOf}
 use Rattle.spec_rules.specs.History.{isClosed}
 use Rattle.spec_plan.specs.Plan.{Draft, when, stateIn, closed, closedUpTo, plannedClose}
 use Rattle.spec_plan.specs.Looked.{lookedUpTo}
-use Rattle.spec_plan.proofs.SentLaws.{Sized}
+use Rattle.spec_plan.specs.PlannerBytes.{plannerIn}
+use Rattle.spec_plan.proofs.SentLaws.{Sized, Plain}
+use Rattle.spec_plan.proofs.CallLaws.{Rest}
 use Rattle.spec_plan.proofs.LookedLaws.{looked-open, looked-le, looked-above, up-to-rest, up-to-ahead}
-use Rattle.plan_bytes.specs.form.Drawn.{drafted, Ready, Fits, Drawn}
-use Rattle.plan_bytes.proofs.ReadyLaws.{inv}
-use Rattle.plan_bytes.proofs.Again.{After}
+use Rattle.plan_bytes.specs.form.Drawn.{drafted, Rested, Fits, Drawn}
+use Rattle.plan_bytes.proofs.ReadyLaws.{at-rest}
+use Rattle.plan_bytes.proofs.Again.{AtRest}
 use Rattle.plan_steps.specs.form.Opened.{opened, openUpTo}
 use Rattle.plan_steps.proofs.Ranges.{up-to-ext}
 use Rattle.plan_steps.proofs.Stepwise.{up-to-after, first-drawn, turn-fits, turn-drawn}
@@ -90,13 +92,13 @@ module _ (state : ℕ → Bank) where
             let one : openUpTo state (b + 1) ≡ openUpTo state b + 1 = rw (looked-open state n b q) at (opens-next b) in
             absurd (omega (arith, q, one, opens-le k b (omega (arith, q)), opens-le (b + 1) n (omega (arith, q, looked-le state n))))
 
-module _ (cx : Context) (d : Draft) (z : Sized d) where
+module _ (cx : Context) (d : Draft) (z : Sized d) (pl : Plain cx d) where
   -- the banks that a walk from bank 0 on has turned to are all, where it has come to the end of those that are looked at
   pub walked-all : (k : ℕ) → lookedUpTo (stateIn d) 32 ≤ k → k ≤ 32 → closedUpTo cx (λ y. leb 0 y) k d ≡ plannedClose cx d
   unfolding plannedClose bankCount
   walked-all k l m =
       up-to-ext cx d (λ y. leb 0 y) (λ y. true) k (λ y _. le-leb 0 y (omega arith))
-      ∙ sym (up-to-rest cx (λ y. true) d z k 32 m (omega arith) (λ x i j. looked-above (stateIn d) 32 x (omega arith) j))
+      ∙ sym (up-to-rest cx (λ y. true) d z pl k 32 m (omega arith) (λ x i j. looked-above (stateIn d) 32 x (omega arith) j))
 
   pub all-range : closedUpTo cx (λ y. leb 0 y) 32 d ≡ plannedClose cx d
   all-range = walked-all 32 (looked-le (stateIn d) 32) (omega arith)
@@ -110,12 +112,15 @@ pub record Walking (s : Settings) (b room b1 room1 : List ℕ) (left to x : ℕ)
   pub lefts : left + openUpTo (stateIn (drafted b)) x ≡ openUpTo (stateIn (drafted b)) 32
   pub drawn : Drawn s (closedUpTo (contextOf s) (λ y. leb 0 y) x (drafted b)) room 0 b1 room1 to
 
-module _ (s : Settings) (top : ℕ) (b : List ℕ) (k : Ready s top b) (h : top ≤ 1000001000) (room : List ℕ) where
+module _ (s : Settings) (top : ℕ) (b : List ℕ) (k : Rested s top b) (h : top ≤ 1000001000) (room : List ℕ) where
   abbrev d : Draft
   d = drafted b
 
   abbrev state : ℕ → Bank
   state = stateIn d
+
+  calm : Rest (contextOf s) (plannerIn b)
+  calm = at-rest s top b k
 
   pub walk-start : (count : ℕ) → count ≡ openUpTo state 32 → Walking s b room b room count 0 0
   unfolding openUpTo
@@ -128,20 +133,20 @@ module _ (s : Settings) (top : ℕ) (b : List ℕ) (k : Ready s top b) (h : top 
     pub walk-bank : 0 < left → x < 32
     walk-bank m = omega (arith, walk-more state x 32 left walk-few (w .lefts) m, looked-le state 32)
 
-    pub walk-after : After s 1000008000 (closedUpTo (contextOf s) (λ y. leb 0 y) x d) b1
+    pub walk-after : AtRest s 1000011000 (closedUpTo (contextOf s) (λ y. leb 0 y) x d) b1
     walk-after = up-to-after s top b k h 0 32 (omega arith) x walk-few b1 (w .drawn .planner)
 
     pub walk-fits : Fits (plannedClose (contextOf s) d) room 0 → 0 < left → Fits (when (not (isClosed (stateIn (drafted b1) x))) (closed (contextOf s) x) (drafted b1)) room1 to
     walk-fits f m =
-        turn-fits s top b k h 0 32 (omega arith) room 0 (rw (all-range (contextOf s) d (inv s top b k .size)) f) x (omega arith) (walk-bank m) b1 room1 to (w .drawn)
+        turn-fits s top b k h 0 32 (omega arith) room 0 (rw (all-range (contextOf s) d (calm .inv .size) (calm .plain)) f) x (omega arith) (walk-bank m) b1 room1 to (w .drawn)
 
     -- the bank is open where it was
     walk-one : 0 < left → opened (stateIn (drafted b1) x) ≡ opened (state x)
     unfolding bankCount
-    walk-one m = rw (walk-after .back, up-to-ahead (contextOf s) (λ y. leb 0 y) d (inv s top b k .size) (inv s top b k .banked) x x (omega arith) (walk-bank m))
+    walk-one m = rw (walk-after .back, up-to-ahead (contextOf s) (λ y. leb 0 y) d (calm .inv .size) (calm .plain) (calm .inv .banked) x x (omega arith) (walk-bank m))
 
     module _ (m : 0 < left) (one : ℕ) (e : one ≡ opened (stateIn (drafted b1) x)) where
-      pub walk-sub : one ≤ left
+      walk-sub : one ≤ left
       walk-sub = omega (arith, e, walk-one m, walk-less state x 32 left walk-few (w .lefts) (walk-bank m))
 
       pub walk-next : Fits (plannedClose (contextOf s) d) room 0 → (b2 room2 : List ℕ) (to2 : ℕ)
@@ -151,11 +156,11 @@ module _ (s : Settings) (top : ℕ) (b : List ℕ) (k : Ready s top b) (h : top 
           record {
             looks = omega (arith, walk-more state x 32 left walk-few (w .lefts) m);
             lefts = omega (arith, opens-next state x, e, walk-one m, walk-sub, w .lefts);
-            drawn = turn-drawn s top b k h 0 32 (omega arith) room 0 (rw (all-range (contextOf s) d (inv s top b k .size)) f) x (omega arith) (walk-bank m) b1 room1 to (w .drawn) b2 room2 to2 v;
+            drawn = turn-drawn s top b k h 0 32 (omega arith) room 0 (rw (all-range (contextOf s) d (calm .inv .size) (calm .plain)) f) x (omega arith) (walk-bank m) b1 room1 to (w .drawn) b2 room2 to2 v;
           }
 
     -- where none is left, all are closed, and the turns are the banks that close looks at
     pub walk-end : left ≡ 0 → Drawn s (plannedClose (contextOf s) d) room 0 b1 room1 to × (x ≡ lookedUpTo state 32)
     walk-end e =
         let done : lookedUpTo state 32 ≤ x = walk-done state x 32 left walk-few (w .lefts) e in
-        (rw (walked-all (contextOf s) d (inv s top b k .size) x done walk-few) at (w .drawn), omega (arith, done, w .looks))
+        (rw (walked-all (contextOf s) d (calm .inv .size) (calm .plain) x done walk-few) at (w .drawn), omega (arith, done, w .looks))

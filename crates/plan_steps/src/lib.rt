@@ -1,16 +1,17 @@
 // The steps of the plan on the bytes of a planner.
 ghost use mathlib.Core.Path.{_≡_};
-ghost use mathlib.Core.Bool.{true, not};
+ghost use mathlib.Core.Bool.{true, false, not};
 ghost use Prim.Native.Nat.{_+_, _*_, _<_, _≤_};
 ghost use lib.ListN.{length};
-ghost use lib.Dec.{leb};
+ghost use lib.Dec.{eqb, leb};
 ghost use Rattle.packet.specs.declared.RowPacket.the-variants.{Act};
 ghost use Rattle.spec_rules.specs.Neighbour.{bankCount, contextOf, near};
 ghost use Rattle.spec_rules.specs.History.{isClosed, anyWrite};
-ghost use Rattle.spec_plan.specs.Plan.{rowPacket, when, waiting, stateIn, openOn, delays, anyWaits, sent, flushed, flushedWhile, closed, closedUpTo, reached, plannedClose};
+ghost use Rattle.spec_plan.specs.Plan.{rowPacket, when, waiting, stateIn, openOn, delays, anyWaits, anyCloses, sent, flushed, flushedWhile, closed, closedUpTo, reached, plannedClose};
 ghost use Rattle.spec_plan.specs.Looked.{lookedUpTo};
 ghost use Rattle.plan_bytes.specs.form.Numbers.{half};
-ghost use Rattle.plan_bytes.specs.form.Drawn.{drafted, Ready, OpenAt, Fits, Drawn};
+ghost use Rattle.plan_bytes.specs.form.Drawn.{drafted, Ready, Rested, OpenAt, Fits, Drawn};
+ghost use Rattle.plan_steps.specs.form.Closing.{NewestCloses};
 ghost use Rattle.plan_steps.specs.form.Opened.{opened, openUpTo};
 use chan_view::neighbours::first_near;
 use chan_view::neighbours::is_near;
@@ -24,6 +25,7 @@ use plan_bytes::next_bank;
 use plan_bytes::two;
 use plan_bytes::waits;
 use plan_cols::nocop;
+use plan_cols::nocop_closing;
 use plan_rows::act;
 use plan_rows::prer;
 use record::Place;
@@ -47,13 +49,13 @@ fn tag(b: &[u8], x: usize) -> u32
 // Whether an RD must not come yet: two writes wait, or one of that bank and column does.
 fn delayed(s: Settings, b: &[u8], at: Place) -> bool
     requires { ⌜ length (now b) ≡ 768 ⌝ }
-    ensures { λ r. ⌜ r ≡ delays at (waiting (drafted (now (b .entry)))) ⌝ }
+    ensures { λ r. ⌜ r ≡ delays (contextOf s) false at (waiting (drafted (now (b .entry)))) ⌝ }
 {
     let own = both(held_bank(b) == at.bank, wide(b[737]) == at.column);
     either(two(b), both(waits(b), own))
 }
 
-// Whether a PRER to a bank would lose a waiting write.
+// Whether a PRER to a bank, also one that an RDA implies, would lose a waiting write.
 fn loses(s: Settings, b: &[u8], bank: u32) -> bool
     requires { ⌜ length (now b) ≡ 768 ⌝ }
     ensures { λ r. ⌜ r ≡ anyWrite (λ w. near (contextOf s) bank (w .bank)) (waiting (drafted (now (b .entry)))) ⌝ }
@@ -63,9 +65,17 @@ fn loses(s: Settings, b: &[u8], bank: u32) -> bool
     either(older, newer)
 }
 
+// Whether an RDA must not come yet: an RD must not, or the PRER that it implies would lose a waiting write.
+fn delayed_closing(s: Settings, b: &[u8], at: Place) -> bool
+    requires { ⌜ length (now b) ≡ 768 ⌝ }
+    ensures { λ r. ⌜ r ≡ delays (contextOf s) true at (waiting (drafted (now (b .entry)))) ⌝ }
+{
+    either(delayed(s, b, at), loses(s, b, at.bank))
+}
+
 // NOCOP where a test has passed that no empty buffer passes.
 fn flush_if(s: Settings, b: &mut [u8], test: bool, room: &mut [u8], to: usize) -> usize
-    requires { ⌜ Ready s 1000009000 (now b) ⌝ }
+    requires { ⌜ Rested s 1000012000 (now b) ⌝ }
     requires { ⌜ length (now b) ≡ 768 ⌝ }
     requires { ⌜ (test ≡ true → anyWaits (waiting (drafted (now b))) ≡ true) ⌝ }
     requires { ⌜ Fits (when test (flushed (contextOf s)) (drafted (now b))) (now room) to ⌝ }
@@ -77,16 +87,29 @@ fn flush_if(s: Settings, b: &mut [u8], test: bool, room: &mut [u8], to: usize) -
     to
 }
 
-// NOCOP until no write waits that a PRER to a bank would lose.
-fn flush_losing(s: Settings, b: &mut [u8], bank: u32, room: &mut [u8], to: usize) -> usize
-    requires { ⌜ Ready s 1000008000 (now b) ⌝ }
+// Whether a write waits in a bank.
+fn holds(b: &[u8], bank: u32) -> bool
     requires { ⌜ length (now b) ≡ 768 ⌝ }
+    ensures { λ r. ⌜ r ≡ anyWrite (λ w. eqb (w .bank) bank) (waiting (drafted (now (b .entry)))) ⌝ }
+{
+    let older = both(waits(b), held_bank(b) == bank);
+    let newer = both(two(b), next_bank(b) == bank);
+    either(older, newer)
+}
+
+// NOCOP until no write waits that a PRER to a bank would lose. The bank is open, and so are those of the waiting writes: of two banks
+// that are open neither is the other's neighbour, so that such a write waits in the bank itself.
+fn flush_losing(s: Settings, b: &mut [u8], bank: u32, room: &mut [u8], to: usize) -> usize
+    requires { ⌜ Rested s 1000011000 (now b) ⌝ }
+    requires { ⌜ length (now b) ≡ 768 ⌝ }
+    requires { ⌜ bank < 32 ⌝ }
+    requires { ⌜ OpenAt (now b) bank ⌝ }
     requires { ⌜ Fits (flushedWhile (contextOf s) (anyWrite (λ w. near (contextOf s) bank (w .bank))) (drafted (now b))) (now room) to ⌝ }
     ensures { λ r. ⌜ Drawn s (flushedWhile (contextOf s) (anyWrite (λ w. near (contextOf s) bank (w .bank))) (drafted (now (b .entry)))) (now (room .entry)) to (now (b .exit)) (now (room .exit)) r ⌝ }
 {
-    if loses(s, b, bank) {
+    if holds(b, bank) {
         let next = nocop(s, b, room, to);
-        let again = loses(s, b, bank);
+        let again = holds(b, bank);
         return flush_if(s, b, again, room, next);
     }
     to
@@ -94,10 +117,10 @@ fn flush_losing(s: Settings, b: &mut [u8], bank: u32, room: &mut [u8], to: usize
 
 // NOCOP until an RD may come.
 pub fn flush_delaying(s: Settings, b: &mut [u8], at: Place, room: &mut [u8], to: usize) -> usize
-    requires { ⌜ Ready s 1000008000 (now b) ⌝ }
+    requires { ⌜ Rested s 1000011000 (now b) ⌝ }
     requires { ⌜ length (now b) ≡ 768 ⌝ }
-    requires { ⌜ Fits (flushedWhile (contextOf s) (delays at) (drafted (now b))) (now room) to ⌝ }
-    ensures { λ r. ⌜ Drawn s (flushedWhile (contextOf s) (delays at) (drafted (now (b .entry)))) (now (room .entry)) to (now (b .exit)) (now (room .exit)) r ⌝ }
+    requires { ⌜ Fits (flushedWhile (contextOf s) (delays (contextOf s) false at) (drafted (now b))) (now room) to ⌝ }
+    ensures { λ r. ⌜ Drawn s (flushedWhile (contextOf s) (delays (contextOf s) false at) (drafted (now (b .entry)))) (now (room .entry)) to (now (b .exit)) (now (room .exit)) r ⌝ }
 {
     if delayed(s, b, at) {
         let next = nocop(s, b, room, to);
@@ -107,9 +130,39 @@ pub fn flush_delaying(s: Settings, b: &mut [u8], at: Place, room: &mut [u8], to:
     to
 }
 
+// NOCOP until an RDA may come.
+pub fn flush_closing(s: Settings, b: &mut [u8], at: Place, room: &mut [u8], to: usize) -> usize
+    requires { ⌜ Rested s 1000011000 (now b) ⌝ }
+    requires { ⌜ length (now b) ≡ 768 ⌝ }
+    requires { ⌜ Fits (flushedWhile (contextOf s) (delays (contextOf s) true at) (drafted (now b))) (now room) to ⌝ }
+    ensures { λ r. ⌜ Drawn s (flushedWhile (contextOf s) (delays (contextOf s) true at) (drafted (now (b .entry)))) (now (room .entry)) to (now (b .exit)) (now (room .exit)) r ⌝ }
+{
+    if delayed_closing(s, b, at) {
+        let next = nocop(s, b, room, to);
+        let again = delayed_closing(s, b, at);
+        return flush_if(s, b, again, room, next);
+    }
+    to
+}
+
+// NOCOP until the newest write has retired, a WRA.
+pub fn flush_wra(s: Settings, b: &mut [u8], room: &mut [u8], to: usize) -> usize
+    requires { ⌜ Ready s 1000011000 (now b) ⌝ }
+    requires { ⌜ length (now b) ≡ 768 ⌝ }
+    requires { ⌜ NewestCloses (now b) ⌝ }
+    requires { ⌜ Fits (flushedWhile (contextOf s) anyCloses (drafted (now b))) (now room) to ⌝ }
+    ensures { λ r. ⌜ Drawn s (flushedWhile (contextOf s) anyCloses (drafted (now (b .entry)))) (now (room .entry)) to (now (b .exit)) (now (room .exit)) r ⌝ }
+{
+    if two(b) {
+        let next = nocop(s, b, room, to);
+        return nocop_closing(s, b, room, next);
+    }
+    nocop_closing(s, b, room, to)
+}
+
 // NOCOP until no write waits.
 pub fn flush_all(s: Settings, b: &mut [u8], room: &mut [u8], to: usize) -> usize
-    requires { ⌜ Ready s 1000008000 (now b) ⌝ }
+    requires { ⌜ Rested s 1000011000 (now b) ⌝ }
     requires { ⌜ length (now b) ≡ 768 ⌝ }
     requires { ⌜ Fits (flushedWhile (contextOf s) anyWaits (drafted (now b))) (now room) to ⌝ }
     ensures { λ r. ⌜ Drawn s (flushedWhile (contextOf s) anyWaits (drafted (now (b .entry)))) (now (room .entry)) to (now (b .exit)) (now (room .exit)) r ⌝ }
@@ -124,7 +177,7 @@ pub fn flush_all(s: Settings, b: &mut [u8], room: &mut [u8], to: usize) -> usize
 
 // "each by PRER"; "The planner sends NOCOP [..] before a read or a PRER until the write concerned has retired"
 fn close_bank(s: Settings, b: &mut [u8], x: usize, room: &mut [u8], to: usize) -> usize
-    requires { ⌜ Ready s 1000008000 (now b) ⌝ }
+    requires { ⌜ Rested s 1000011000 (now b) ⌝ }
     requires { ⌜ length (now b) ≡ 768 ⌝ }
     requires { ⌜ x < 32 ⌝ }
     requires { ⌜ OpenAt (now b) x ⌝ }
@@ -133,20 +186,6 @@ fn close_bank(s: Settings, b: &mut [u8], x: usize, room: &mut [u8], to: usize) -
 {
     let next = flush_losing(s, b, x as u32, room, to);
     prer(s, b, x, room, next)
-}
-
-// The same where the bank is open.
-fn close_open(s: Settings, b: &mut [u8], x: usize, room: &mut [u8], to: usize) -> usize
-    requires { ⌜ Ready s 1000008000 (now b) ⌝ }
-    requires { ⌜ length (now b) ≡ 768 ⌝ }
-    requires { ⌜ x < 32 ⌝ }
-    requires { ⌜ Fits (when (not (isClosed (stateIn (drafted (now b)) x))) (closed (contextOf s) x) (drafted (now b))) (now room) to ⌝ }
-    ensures { λ r. ⌜ Drawn s (when (not (isClosed (stateIn (drafted (now (b .entry))) x))) (closed (contextOf s) x) (drafted (now (b .entry)))) (now (room .entry)) to (now (b .exit)) (now (room .exit)) r ⌝ }
-{
-    if tag(b, x) == 0 {
-        return to;
-    }
-    close_bank(s, b, x, room, to)
 }
 
 // Of the banks from the first to before an end, "close the open ones in rising order".
@@ -158,7 +197,7 @@ fn close_from(
     room: &mut [u8],
     start: usize,
 ) -> usize
-    requires { ⌜ Ready s 1000001000 (now b) ⌝ }
+    requires { ⌜ Rested s 1000001000 (now b) ⌝ }
     requires { ⌜ length (now b) ≡ 768 ⌝ }
     requires { ⌜ first ≤ end ⌝ }
     requires { ⌜ end ≤ 32 ⌝ }
@@ -168,7 +207,9 @@ fn close_from(
     let mut to = start;
     let mut k = first;
     while k < end {
-        to = close_open(s, b, k, room, to);
+        if tag(b, k) != 0 {
+            to = close_bank(s, b, k, room, to);
+        }
         k += 1;
     }
     to
@@ -200,7 +241,7 @@ fn open_banks(b: &[u8]) -> usize
 // Goes up from bank 0 while some of the open banks, of which there are so many, are left, and closes them. The count is that of its
 // turns.
 fn close_left(s: Settings, b: &mut [u8], count: usize, room: &mut [u8]) -> Walked
-    requires { ⌜ Ready s 999999997 (now b) ⌝ }
+    requires { ⌜ Rested s 999999997 (now b) ⌝ }
     requires { ⌜ length (now b) ≡ 768 ⌝ }
     requires { ⌜ count ≡ openUpTo (stateIn (drafted (now b))) 32 ⌝ }
     requires { ⌜ Fits (plannedClose (contextOf s) (drafted (now b))) (now room) 0 ⌝ }
@@ -211,9 +252,10 @@ fn close_left(s: Settings, b: &mut [u8], count: usize, room: &mut [u8]) -> Walke
     let mut to: usize = 0;
     let mut x: usize = 0;
     while left != 0 {
-        let one = opened(b, x);
-        to = close_open(s, b, x, room, to);
-        left -= one;
+        if tag(b, x) != 0 {
+            to = close_bank(s, b, x, room, to);
+            left -= 1;
+        }
         x += 1;
     }
     Walked { to: to, banks: x }
@@ -221,7 +263,7 @@ fn close_left(s: Settings, b: &mut [u8], count: usize, room: &mut [u8]) -> Walke
 
 // "PRER to each open bank in rising order"; "The walk should end as soon as no open bank remains"
 pub fn close_all(s: Settings, b: &mut [u8], room: &mut [u8]) -> Walked
-    requires { ⌜ Ready s 999999997 (now b) ⌝ }
+    requires { ⌜ Rested s 999999997 (now b) ⌝ }
     requires { ⌜ length (now b) ≡ 768 ⌝ }
     requires { ⌜ Fits (plannedClose (contextOf s) (drafted (now b))) (now room) 0 ⌝ }
     ensures { λ r. ⌜ Drawn s (plannedClose (contextOf s) (drafted (now (b .entry)))) (now (room .entry)) 0 (now (b .exit)) (now (room .exit)) (r .to) ⌝ }
@@ -233,7 +275,7 @@ pub fn close_all(s: Settings, b: &mut [u8], room: &mut [u8]) -> Walked
 
 // "of the bank and its neighbours, close the open ones"
 pub fn close_near(s: Settings, b: &mut [u8], x: usize, room: &mut [u8]) -> usize
-    requires { ⌜ Ready s 999999997 (now b) ⌝ }
+    requires { ⌜ Rested s 999999997 (now b) ⌝ }
     requires { ⌜ length (now b) ≡ 768 ⌝ }
     requires { ⌜ x < 32 ⌝ }
     requires { ⌜ Fits (closedUpTo (contextOf s) (near (contextOf s) x) bankCount (drafted (now b))) (now room) 0 ⌝ }
@@ -245,7 +287,7 @@ pub fn close_near(s: Settings, b: &mut [u8], x: usize, room: &mut [u8]) -> usize
 }
 
 // Whether a bank is open on a row.
-fn on_row(b: &[u8], bank: u32, row: u32) -> bool
+pub fn on_row(b: &[u8], bank: u32, row: u32) -> bool
     requires { ⌜ length (now b) ≡ 768 ⌝ }
     requires { ⌜ bank < 32 ⌝ }
     requires { ⌜ row < 512 ⌝ }
@@ -254,8 +296,9 @@ fn on_row(b: &[u8], bank: u32, row: u32) -> bool
     tag(b, bank as usize) == row + 1
 }
 
-fn open_row(s: Settings, b: &mut [u8], bank: u32, row: u32, room: &mut [u8]) -> usize
-    requires { ⌜ Ready s 999999997 (now b) ⌝ }
+// "To reach a row that is not open".
+pub fn open_row(s: Settings, b: &mut [u8], bank: u32, row: u32, room: &mut [u8]) -> usize
+    requires { ⌜ Rested s 999999997 (now b) ⌝ }
     requires { ⌜ length (now b) ≡ 768 ⌝ }
     requires { ⌜ bank < 32 ⌝ }
     requires { ⌜ row < s .rows ⌝ }
@@ -264,19 +307,4 @@ fn open_row(s: Settings, b: &mut [u8], bank: u32, row: u32, room: &mut [u8]) -> 
 {
     let to = close_near(s, b, bank as usize, room);
     act(s, b, bank, row, room, to)
-}
-
-// "To reach a row that is not open".
-pub fn reach(s: Settings, b: &mut [u8], bank: u32, row: u32, room: &mut [u8]) -> usize
-    requires { ⌜ Ready s 999999997 (now b) ⌝ }
-    requires { ⌜ length (now b) ≡ 768 ⌝ }
-    requires { ⌜ bank < 32 ⌝ }
-    requires { ⌜ row < s .rows ⌝ }
-    requires { ⌜ Fits (reached (contextOf s) bank row (drafted (now b))) (now room) 0 ⌝ }
-    ensures { λ r. ⌜ Drawn s (reached (contextOf s) bank row (drafted (now (b .entry)))) (now (room .entry)) 0 (now (b .exit)) (now (room .exit)) r ⌝ }
-{
-    if on_row(b, bank, row) {
-        return 0;
-    }
-    open_row(s, b, bank, row, room)
 }

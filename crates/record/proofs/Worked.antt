@@ -2,13 +2,14 @@
 -- Assumes nothing.
 use Prim.Native.Nat.{ℕ}
 use mathlib.Core.Path.{_≡_, refl}
+use mathlib.Core.Bool.{false}
 use mathlib.Core.List.{List, [], _∷_, map}
 use Rattle.num.specs.Bytes.{bytes, number}
 use Rattle.settings.specs.Bench.{setOf, setH}
 use Rattle.packet.specs.declared.RowPacket.the-variants.{Act}
 use Rattle.packet.specs.declared.ColPacket.the-variants.{Rd}
 use Rattle.packet.specs.Row.{deviceHead, rowFields, rowWord, rowDecoded}
-use Rattle.packet.specs.Col.{maskBit, maskField, maskSaid, maskOf, colFields, colWord, colOf, colDecoded}
+use Rattle.packet.specs.Col.{maskBit, maskField, maskSaid, maskOf, colFields, closeBit, colWord, colOf, colDecoded}
 use Rattle.record.specs.declared.Record.{Record}
 use Rattle.record.specs.declared.Record.the-variants.{RowAt, ColAt, DataOf}
 use Rattle.record.specs.declared.RecordRead.the-variants.{Known}
@@ -18,7 +19,7 @@ use Rattle.record.specs.Record.{recordFields, recordBytes, rowRecord, co
 unfoldable pub records : List Record
 records =
     RowAt (record { 0 = 4 }) (Act 0 0)
-    ∷ ColAt (record { 0 = 13 }) (Rd 0 1 0xFFFF)
+    ∷ ColAt (record { 0 = 13 }) (Rd 0 1 0xFFFF false)
     ∷ DataOf (record { 0 = 1000000000 }) (record { dqa = 0xF7F6F5F4F3F2F1F0; dqb = 0xFFFEFDFCFBFAF9F8 })
     ∷ []
 
@@ -51,5 +52,5 @@ paper = actBytes ∷ rdBytes ∷ dataBytes ∷ []
 
 -- written and read
 pub worked : (map (recordBytes setH) records ≡ paper) × (map (recordRead setH) paper ≡ map Known records)
-unfolding setOf setH records actBytes rdBytes dataBytes paper bytes number deviceHead rowFields rowWord rowDecoded maskBit maskField maskSaid maskOf colFields colWord colOf colDecoded recordFields recordBytes rowRecord colRecord recordOf recordRead
+unfolding setOf setH records actBytes rdBytes dataBytes paper bytes number deviceHead rowFields rowWord rowDecoded maskBit maskField maskSaid maskOf colFields closeBit colWord colOf colDecoded recordFields recordBytes rowRecord colRecord recordOf recordRead
 worked = (refl, refl)

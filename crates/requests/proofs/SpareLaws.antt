@@ -65,18 +65,19 @@ gather true true false true true cycles low high = refl
 -- the spare bytes by numbers: bytes 1 to 4, 5, 6 and 7, 8 to 11, 12 to 15, and 16 to 23
 pub spare-groups : (b : List ℕ) → length b ≡ 24
     → spareRight b
-    ≡ ((leb (kindOf b) 1 || zeroAt b 1 4)
+    ≡ (((leb (kindOf b) 1 || leb 6 (kindOf b)) || zeroAt b 1 4)
     && (eqb (getD b 5 0) 0
-    && (eqb (kindOf b) 1 || (zeroAt b 6 2 && ((eqb (kindOf b) 3 || zeroAt b 8 4) && (zeroAt b 12 4 && zeroAt b 16 8))))))
+    && ((eqb (kindOf b) 1 || eqb (kindOf b) 7) || (zeroAt b 6 2 && ((eqb (kindOf b) 3 || zeroAt b 8 4) && (zeroAt b 12 4 && zeroAt b 16 8))))))
 unfolding spareRight usesByte allUpTo
 spare-groups b h =
-    let write : Bool = eqb (kindOf b) 1 in
+    let access : Bool = leb (kindOf b) 1 || leb 6 (kindOf b) in
+    let write : Bool = eqb (kindOf b) 1 || eqb (kindOf b) 7 in
     let wait : Bool = eqb (kindOf b) 3 in
-    let place = group b (leb (kindOf b) 1) 1 4 (omega arith) refl refl in
+    let place = group b access 1 4 (omega arith) refl refl in
     let none = ap (λ (t : Bool). t && eqb (getD b 5 0) 0) place in
     let mask = group b write 6 2 (omega arith) refl none in
     let cycles = group b (write || wait) 8 4 (omega arith) refl mask in
     let low = group b write 12 4 (omega arith) refl cycles in
     let high = group b write 16 8 (omega arith) refl low in
     high
-    ∙ gather (leb (kindOf b) 1 || zeroAt b 1 4) (eqb (getD b 5 0) 0) write (zeroAt b 6 2) wait (zeroAt b 8 4) (zeroAt b 12 4) (zeroAt b 16 8)
+    ∙ gather (access || zeroAt b 1 4) (eqb (getD b 5 0) 0) write (zeroAt b 6 2) wait (zeroAt b 8 4) (zeroAt b 12 4) (zeroAt b 16 8)

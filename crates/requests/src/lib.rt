@@ -1,7 +1,8 @@
 // Requests as bytes.
 ghost use mathlib.Core.Path.{_≡_};
+ghost use Prim.Native.Nat.{_≤_};
 ghost use lib.ListN.{length};
-ghost use Rattle.record.specs.Request.{spareRight, placeOf, placed, requestOf, requestRead};
+ghost use Rattle.record.specs.Request.{kindOf, spareRight, placeOf, placed, requestOf, requestRead};
 use record::Dualoct;
 use record::Place;
 use record::Refusal;
@@ -15,13 +16,16 @@ fn spare_right(b: &[u8]) -> bool
     ensures { λ r. ⌜ r ≡ spareRight (now (b .entry)) ⌝ }
 {
     let kind = b[0];
-    let place = num::either(kind <= 1, num::u32_at(b, 1) == 0);
+    let place = num::either((kind <= 1) | (6 <= kind), num::u32_at(b, 1) == 0);
     let none = b[5] == 0;
     let mask = num::u16_at(b, 6) == 0;
     let cycles = num::either(kind == 3, num::u32_at(b, 8) == 0);
     let rest = num::both(num::u32_at(b, 12) == 0, num::u64_at(b, 16) == 0);
     let data = num::both(mask, num::both(cycles, rest));
-    num::both(place, num::both(none, num::either(kind == 1, data)))
+    num::both(
+        place,
+        num::both(none, num::either((kind == 1) | (kind == 7), data)),
+    )
 }
 
 // The bank, row and column of a request.
@@ -52,22 +56,22 @@ fn placed(s: Settings, p: Place, q: Request) -> RequestRead
     RequestRead::Accepted(q)
 }
 
-// The request of 24 bytes whose kind and spare bytes are right.
+// The request of 24 bytes whose kind and spare bytes are right; kinds 6 and 7 are 0 and 1 that close their bank.
 fn request_of(s: Settings, b: &[u8]) -> RequestRead
-    requires { ⌜ length (now b) ≡ 24 ⌝ }
+    requires { ⌜ (length (now b) ≡ 24) × (kindOf (now b) ≤ 7) ⌝ }
     ensures { λ r. ⌜ r ≡ requestOf s (now (b .entry)) ⌝ }
 {
     let kind = b[0];
     let p = place_of(b);
-    if kind == 0 {
-        return placed(s, p, Request::Read(p));
+    if (kind == 0) | (kind == 6) {
+        return placed(s, p, Request::Read(p, kind == 6));
     }
-    if kind == 1 {
+    if (kind == 1) | (kind == 7) {
         let data = Dualoct {
             dqa: num::u64_at(b, 8),
             dqb: num::u64_at(b, 16),
         };
-        return placed(s, p, Request::Write(p, num::u16_at(b, 6), data));
+        return placed(s, p, Request::Write(p, num::u16_at(b, 6), data, kind == 7));
     }
     if kind == 2 {
         return RequestRead::Accepted(Request::Refresh);
@@ -88,7 +92,7 @@ pub fn read_request(s: Settings, b: &[u8]) -> RequestRead
     if b.len() != 24 {
         return RequestRead::Refused(Refusal::Length);
     }
-    if 5 < b[0] {
+    if 7 < b[0] {
         return RequestRead::Refused(Refusal::Kind);
     }
     if spare_right(b) {

@@ -135,28 +135,32 @@ col-nocop device columns w h said =
     let c' : w / 2 ^ 21 ≡ (32 + device) * 2 ^ 13 = omega (arith, joined 17 4 w) in
     rw (eq-eqb _ _ a, eq-eqb _ 0 (even (w / 2 ^ 28) (32 + device) b'), said, cop, bank-0 (w / 2 ^ 29) (32 + device) k', column-0 (w / 2 ^ 21) (32 + device) c')
 
-col-access : (device columns w cop : ℕ) → w / 2 ^ 34 ≡ 32 + device → w / 2 ^ 21 % 256 < 128 → w / 2 ^ 21 % 256 < columns → w / 2 ^ 17 % 16 ≡ cop
-    → ((bank column mask : ℕ) → column < columns → isKnown (colRecord 0 (colOf columns bank column cop mask)) ≡ true)
-    → maskSaid device (w / 2 ^ 16 % 2) (w % 2 ^ 16) ≡ true → colKnown device columns w ≡ true
+-- the odd opcodes below 8: WR, RD, WRA, RDA
+access-known : (columns bank column cop mask : ℕ) → column < columns → cop < 8 → cop % 2 ≡ 1 → isKnown (colRecord 0 (colOf columns bank column cop mask)) ≡ true
+unfolding colOf colRecord isKnown
+access-known columns bank column cop mask l h o = go (eqb cop 1) refl (eqb cop 5) refl (eqb cop 3) refl
+  where
+    go : (x : Bool) → eqb cop 1 ≡ x → (y : Bool) → eqb cop 5 ≡ y → (z : Bool) → eqb cop 3 ≡ z → isKnown (colRecord 0 (colOf columns bank column cop mask)) ≡ true
+    go true p y q z r = rw (eqb-true cop 1 p, lt-ltb _ _ l)
+    go false p true q z r = rw (eqb-true cop 5 q, lt-ltb _ _ l)
+    go false p false q true r = rw (eqb-true cop 3 r, lt-ltb _ _ l)
+    go false p false q false r =
+        let e : cop ≡ 7 = omega (arith, eqb-false cop 1 p, eqb-false cop 5 q, eqb-false cop 3 r) in
+        rw (e, lt-ltb _ _ l)
+
+col-access : (device columns w : ℕ) → w / 2 ^ 34 ≡ 32 + device → w / 2 ^ 21 % 256 < 128 → w / 2 ^ 21 % 256 < columns
+    → w / 2 ^ 17 % 16 < 8 → w / 2 ^ 17 % 16 % 2 ≡ 1 → maskSaid device (w / 2 ^ 16 % 2) (w % 2 ^ 16) ≡ true → colKnown device columns w ≡ true
 unfolding colDecoded
-col-access device columns w cop h g l e k said =
+col-access device columns w h g l low odd said =
     let a : w / 2 ^ 34 ≡ 2 ^ 5 + device = omega arith in
     let b : w / 2 ^ 28 % 2 ≡ 0 = omega arith in
     let column : w / 2 ^ 21 % 128 < columns = omega arith in
-    rw (eq-eqb _ _ a, eq-eqb _ _ b, said, e) (k _ _ _ column)
-
-wr-known : (columns bank column mask : ℕ) → column < columns → isKnown (colRecord 0 (colOf columns bank column 1 mask)) ≡ true
-unfolding colOf colRecord isKnown
-wr-known columns bank column mask l = rw (lt-ltb _ _ l)
-
-rd-known : (columns bank column mask : ℕ) → column < columns → isKnown (colRecord 0 (colOf columns bank column 3 mask)) ≡ true
-unfolding colOf colRecord isKnown
-rd-known columns bank column mask l = rw (lt-ltb _ _ l)
+    rw (eq-eqb _ _ a, eq-eqb _ _ b, said) (access-known columns _ _ (w / 2 ^ 17 % 16) _ column low odd)
 
 pub col-says : (device columns w d d2 n y : ℕ) → d ≡ device → d2 ≡ device → n ≡ columns → (y + 0x10000) % 2 ^ 64 ≡ w % 2 ^ 17
     → ((ltb y 0xFFFF || eqb (w % 2 ^ 17) (d2 * 2048))
     && (eqb (w / 2 ^ 17) ((32 + d) * 2 ^ 17) || (eqb (w / 2 ^ 34) (32 + d)
-    && ((ltb (w / 2 ^ 21 % 256) 128 && ltb (w / 2 ^ 21 % 256) n) && (eqb (w / 2 ^ 17 % 16) 1 || eqb (w / 2 ^ 17 % 16) 3))))) ≡ true
+    && ((ltb (w / 2 ^ 21 % 256) 128 && ltb (w / 2 ^ 21 % 256) n) && (ltb (w / 2 ^ 17 % 16) 8 && eqb (w / 2 ^ 17 % 16 % 2) 1))))) ≡ true
     → colKnown device columns w ≡ true
 col-says device columns w d d2 n y ed ed2 en ey e =
     let e' = rw (ed, ed2, en) at e in
@@ -168,14 +172,13 @@ col-says device columns w d d2 n y ed ed2 en ey e =
     (λ t. col-nocop device columns w (eqb-true _ _ t) said)
     (λ t.
     let a = and-eq-true-iff (eqb (w / 2 ^ 34) (32 + device)) _ .0 t in
-    let b = and-eq-true-iff (ltb column 128 && ltb column columns) (eqb cop 1 || eqb cop 3) .0 (a .1) in
+    let b = and-eq-true-iff (ltb column 128 && ltb column columns) (ltb cop 8 && eqb (cop % 2) 1) .0 (a .1) in
     let c = and-eq-true-iff (ltb column 128) (ltb column columns) .0 (b .0) in
     let h = eqb-true (w / 2 ^ 34) (32 + device) (a .0) in
     let g = ltb-true column 128 (c .0) in
     let l = ltb-true column columns (c .1) in
-    or-case (eqb cop 1) (eqb cop 3) (b .1)
-    (λ u. col-access device columns w 1 h g l (eqb-true cop 1 u) (wr-known columns) said)
-    (λ u. col-access device columns w 3 h g l (eqb-true cop 3 u) (rd-known columns) said))
+    let o = and-eq-true-iff (ltb cop 8) (eqb (cop % 2) 1) .0 (b .1) in
+    col-access device columns w h g l (ltb-true cop 8 (o .0)) (eqb-true (cop % 2) 1 (o .1)) said)
 
 -- ---- records
 

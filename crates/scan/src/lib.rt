@@ -23,7 +23,8 @@ fn row_right(device: u32, rows: u32, w: u64) -> bool
     act | (low == 0x600) | (low == 0x0C0) | (low == 0x540)
 }
 
-// Whether a COL word says a packet; the bit above the column is a zero, so column and zero are one number below 128.
+// Whether a COL word says a packet; the bit above the column is a zero, so column and zero are one number below 128. The opcodes
+// with a column are the odd ones below 8.
 fn col_right(device: u32, columns: u32, w: u64) -> bool
     ensures { λ r. ⌜ (r ≡ true → isKnown (colRecord 0 (colDecoded device columns w)) ≡ true) ⌝ }
 {
@@ -33,7 +34,7 @@ fn col_right(device: u32, columns: u32, w: u64) -> bool
     let mask = (sent < 0xFFFF) | (low == num::wide32(device) * 2048);
     let cop = w / 0x2_0000 % 16;
     let column = w / 0x20_0000 % 256;
-    let access = (column < 128) & (column < num::wide32(columns)) & ((cop == 1) | (cop == 3));
+    let access = (column < 128) & (column < num::wide32(columns)) & ((cop < 8) & (cop % 2 == 1));
     mask & ((w / 0x2_0000 == head * 0x2_0000) | ((w / 0x4_0000_0000 == head) & access))
 }
 

@@ -1,11 +1,11 @@
 -- The tests of numbers in two tables are those of the settings.
 -- Assumes nothing.
 use Prim.Native.Nat.{ℕ, _<_}
-use mathlib.Core.Path.{_≡_, refl, _∙_, ap}
+use mathlib.Core.Path.{_≡_, refl, _∙_}
 use mathlib.Core.Bool.{Bool, true, false, cond, _&&_, and-assoc, and-true}
 use mathlib.Core.List.{List}
 use native.Mathlib.Omega.{arith}
-use borrow.Author.Tests.{eqb-true, eqb-false, le-leb, lt-leb, ltb-true}
+use borrow.Author.Tests.{le-leb, ltb-true}
 use lib.Dec.{eqb, leb, ltb}
 use lib.ListN.{length, getD}
 use Rattle.num.specs.Bytes.{Bytes}
@@ -37,28 +37,19 @@ last-right b w l =
     let e : numberRight 15 (half b 15) ≡ true = rw (le-leb 0 (half b 15) (omega arith), le-leb (half b 15) 0xFFFF (omega arith)) in
     all-next (λ i. numberRight i (half b i)) 15 ∙ rw e (and-true (numbersRight (half b) 15))
 
-zero-range : (x : ℕ) → between 0 x 0 ≡ eqb x 0
-zero-range x = go (eqb x 0) refl
-  where
-    go : (q : Bool) → eqb x 0 ≡ q → between 0 x 0 ≡ q
-    go true e = rw (le-leb 0 x (omega arith), le-leb x 0 (omega (arith, eqb-true x 0 e)))
-    go false e = rw (le-leb 0 x (omega arith), lt-leb x 0 (omega (arith, eqb-false x 0 e)))
-
--- timings, the reserved number, rows, columns, delays, device, core form: in the order of the tables, and in that of the definition
-order : (t z r c d v k : Bool) → (((t && z) && r) && c) && ((d && v) && k) ≡ z && (t && (d && (r && (c && (v && k)))))
-order false false r c d v k = refl
-order false true r c d v k = refl
-order true false r c d v k = refl
-order true true false c false v k = refl
-order true true false c true v k = refl
-order true true true false false v k = refl
-order true true true false true v k = refl
-order true true true true d v k = and-assoc d v k
+-- timings, rows, columns, delays, device, core form: in the order of the tables, and in that of the definition
+order : (t r c d v k : Bool) → ((t && r) && c) && ((d && v) && k) ≡ t && (d && (r && (c && (v && k))))
+order false r c d v k = refl
+order true false c false v k = refl
+order true false c true v k = refl
+order true true false false v k = refl
+order true true false true v k = refl
+order true true true d v k = and-assoc d v k
 
 pub valid-numbers : (s : Settings) → numbersRight (λ i. getD (figures s) i 0) 15 && restRight (s .cac) (s .cwd) (s .device) (s .core) ≡ valid s
 unfolding allUpTo leasts mosts lows highs valid
 valid-numbers s =
-    order (timingsRight (timings s)) true (between 1 (s .rows) 512) (between 1 (s .columns) 128) (ltb (s .cwd) (s .cac)) (leb (s .device) 31) (leb (s .core) 2)
+    order (timingsRight (timings s)) (between 1 (s .rows) 512) (between 1 (s .columns) 128) (ltb (s .cwd) (s .cac)) (leb (s .device) 31) (leb (s .core) 2)
 
 module _ (b : List ℕ) where
   abbrev pub said : Settings
@@ -67,14 +58,10 @@ module _ (b : List ℕ) where
   abbrev rest : Bool
   rest = restRight (said .cac) (said .cwd) (said .device) (said .core)
 
-  record-numbers : numbersRight (half b) 15 && rest ≡ eqb (half b 12) 0 && valid said
+  record-numbers : numbersRight (half b) 15 && rest ≡ valid said
   unfolding allUpTo leasts mosts lows highs valid
   record-numbers =
-      let t : Bool = timingsRight (timings said) in
-      let r : Bool = between 1 (said .rows) 512 in
-      let k : Bool = between 1 (said .columns) 128 in
-      ap (λ z. (((t && z) && r) && k) && rest) (zero-range (half b 12))
-      ∙ order t (eqb (half b 12) 0) r k (ltb (said .cwd) (said .cac)) (leb (said .device) 31) (leb (said .core) 2)
+      order (timingsRight (timings said)) (between 1 (said .rows) 512) (between 1 (said .columns) 128) (ltb (said .cwd) (said .cac)) (leb (said .device) 31) (leb (said .core) 2)
 
   pub read-numbers : settingsRead b ≡ cond ((eqb (length b) 32 && numbersRight (half b) 15) && rest) (Accepted said) Refused
   unfolding settingsRead

@@ -111,8 +111,8 @@ read-sixteen : (cx : Context) → valid (cx .settings) ≡ true → (ch : Channe
 unfolding readOf recordFits colFits dualoct bankCount
 read-sixteen cx v ch k store n (RowAt t p) f = tt
 read-sixteen cx v ch k store n (ColAt t (Nocop m)) f = tt
-read-sixteen cx v ch k store n (ColAt t (Wr b c m)) f = tt
-read-sixteen cx v ch k store n (ColAt t (Rd b c m)) f =
+read-sixteen cx v ch k store n (ColAt t (Wr b c m close)) f = tt
+read-sixteen cx v ch k store n (ColAt t (Rd b c m close)) f =
     let bank : b < 32 = ltb-true b 32 (and-left (ltb b 32) _ f) in
     let column : c < cx .settings .columns = ltb-true c (cx .settings .columns) (and-left (ltb c (cx .settings .columns)) _ (and-right (ltb b 32) _ f)) in
     let row : openRow (stateOf ch b) < cx .settings .rows = row-in cx (stateOf ch b) (bounds (cx .settings) v .rows-least) (valid-sound cx ch k .rows-in b bank) in

@@ -54,9 +54,9 @@ answer-accepted banks (Refused r) = refusal-number r
 answer-accepted banks (Made n) = refl
 
 -- the number of records is that of the draft of an accepted call
-of-records : (banks : ℕ) (cx : Context) (d : Draft) (room : ℕ) → planAnswer banks (outcomeOf cx d room) .records ≡ length (cond (isMade (outcomeOf cx d room)) (d .records) [])
+of-records : (banks : ℕ) (cx : Context) (p : PlannerState) (d : Draft) (room : ℕ) → planAnswer banks (outcomeOf cx p d room) .records ≡ length (cond (isMade (outcomeOf cx p d room)) (d .records) [])
 unfolding outcomeOf planAnswer isMade
-of-records banks cx d room = go (timely cx d) (leb (length (d .records)) (room / 32))
+of-records banks cx p d room = go (timely cx p d) (leb (length (d .records)) (room / 32))
   where
     go : (p q : Bool)
         → planAnswer banks (cond p (cond q (Made (length (d .records))) (Refused refusal.Full)) (Refused refusal.Horizon)) .records
@@ -72,10 +72,10 @@ by-records banks cx p (request.Refused why) room = refl
 by-records banks cx p (request.Accepted q) room = go (unretired q p)
   where
     go : (u : Bool)
-        → planAnswer banks (cond u (Refused refusal.Unretired) (outcomeOf cx (planned cx q p) room)) .records
-        ≡ length (cond (isMade (cond u (Refused refusal.Unretired) (outcomeOf cx (planned cx q p) room))) (planned cx q p .records) [])
+        → planAnswer banks (cond u (Refused refusal.Unretired) (outcomeOf cx p (planned cx q p) room)) .records
+        ≡ length (cond (isMade (cond u (Refused refusal.Unretired) (outcomeOf cx p (planned cx q p) room))) (planned cx q p .records) [])
     go true = refl
-    go false = of-records banks cx (planned cx q p) room
+    go false = of-records banks cx p (planned cx q p) room
 
 answer-records : (banks : ℕ) (cx : Context) (p : PlannerState) (bytes : List ℕ) (room : ℕ) → planAnswer banks (planOutcome cx p bytes room) .records ≡ length (planRecords cx p bytes room)
 unfolding planOutcome planRecords
@@ -83,9 +83,9 @@ answer-records banks cx p bytes room = by-records banks cx p (requestRead (cx .s
 
 -- ---- the records of a call have room
 
-of-fits : (cx : Context) (d : Draft) (room : ℕ) → 32 * length (cond (isMade (outcomeOf cx d room)) (d .records) []) ≤ room
+of-fits : (cx : Context) (p : PlannerState) (d : Draft) (room : ℕ) → 32 * length (cond (isMade (outcomeOf cx p d room)) (d .records) []) ≤ room
 unfolding outcomeOf isMade
-of-fits cx d room = go (timely cx d) (leb (length (d .records)) (room / 32)) refl
+of-fits cx p d room = go (timely cx p d) (leb (length (d .records)) (room / 32)) refl
   where
     go : (p q : Bool) → leb (length (d .records)) (room / 32) ≡ q
         → 32 * length (cond (isMade (cond p (cond q (Made (length (d .records))) (Refused refusal.Full)) (Refused refusal.Horizon))) (d .records) []) ≤ room
@@ -98,9 +98,9 @@ unfolding outcomeBy draftBy isMade
 by-fits cx p (request.Refused why) room = omega arith
 by-fits cx p (request.Accepted q) room = go (unretired q p)
   where
-    go : (u : Bool) → 32 * length (cond (isMade (cond u (Refused refusal.Unretired) (outcomeOf cx (planned cx q p) room))) (planned cx q p .records) []) ≤ room
+    go : (u : Bool) → 32 * length (cond (isMade (cond u (Refused refusal.Unretired) (outcomeOf cx p (planned cx q p) room))) (planned cx q p .records) []) ≤ room
     go true = omega arith
-    go false = of-fits cx (planned cx q p) room
+    go false = of-fits cx p (planned cx q p) room
 
 pub records-fit : (cx : Context) (p : PlannerState) (bytes : List ℕ) (room : ℕ) → 32 * length (planRecords cx p bytes room) ≤ room
 unfolding planOutcome planRecords
@@ -148,7 +148,7 @@ own-request s b e = own-passed (eqb (length b) 24) _ _ (eq-eqb (length b) 24 e) 
 own-outcome : (cx : Context) (p : PlannerState) (q : RequestRead) (room banks : ℕ) → OwnRequest q → Own (planAnswer banks (outcomeBy cx p q room) .number)
 unfolding OwnRequest outcomeBy outcomeOf planAnswer answerOf
 own-outcome cx p (request.Refused why) room banks o = o
-own-outcome cx p (request.Accepted q) room banks o = go (unretired q p) (timely cx (planned cx q p)) (leb (length (planned cx q p .records)) (room / 32))
+own-outcome cx p (request.Accepted q) room banks o = go (unretired q p) (timely cx p (planned cx q p)) (leb (length (planned cx q p .records)) (room / 32))
   where
     go : (u t f : Bool)
         → Own (planAnswer banks (cond u (Refused refusal.Unretired) (cond t (cond f (Made (length (planned cx q p .records))) (Refused refusal.Full)) (Refused refusal.Horizon))) .number)

@@ -41,8 +41,8 @@ openRow Refresh = 0
 
 abbrev pub colMask : ColPacket → ℕ
 colMask (Nocop m) = m
-colMask (Wr b c m) = m
-colMask (Rd b c m) = m
+colMask (Wr b c m x) = m
+colMask (Rd b c m x) = m
 
 -- "under the mask carried by that packet, or whole if M = 0"
 unfoldable pub retireMask : Record → ℕ
@@ -104,8 +104,8 @@ modelNext cx m r =
 -- the dualoct that a packet reads, from the row open in its bank
 abbrev pub colRead : Context → Channel → ColPacket → Option ℕ
 colRead cx ch (Nocop m) = none
-colRead cx ch (Wr b c m) = none
-colRead cx ch (Rd b c m) = some (dualoctAt cx b (openRow (stateOf ch b)) c)
+colRead cx ch (Wr b c m x) = none
+colRead cx ch (Rd b c m x) = some (dualoctAt cx b (openRow (stateOf ch b)) c)
 
 unfoldable pub readOf : Context → Channel → Record → Option ℕ
 readOf cx ch (RowAt t p) = none

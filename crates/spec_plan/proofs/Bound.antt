@@ -1,14 +1,12 @@
--- No request makes more records than its core form allows (`spec_plan/specs/Most.antt`), and for each form a close that makes so many.
+-- No request makes more records than its kind and the core form allow (`spec_plan/specs/Most.antt`), and for each kind one makes so many.
 -- Assumes nothing.
-use Prim.Native.Nat.{ℕ, zero, suc, _+_, _*_, _-_, _/_, _≤_, _<_}
-use mathlib.Core.Path.{_≡_, refl, sym, _∙_}
-use mathlib.Core.Bool.{Bool, true, false, not, _&&_, _||_, cond}
-use mathlib.Core.List.{List, [], _∷_}
+use Prim.Native.Nat.{ℕ, zero, suc, _+_, _*_, _≤_}
+use mathlib.Core.Path.{_≡_, refl}
+use mathlib.Core.Bool.{Bool, true, false, not, _&&_, cond, and-false}
+use mathlib.Core.List.{List, [], _∷_, map}
 use mathlib.Core.Option.{Option, none, some}
-use lib.Dec.{eqb, ltb}
+use lib.Dec.{ltb}
 use lib.ListN.{length, length-append}
-use borrow.Author.Tests.{eqb-true, eqb-false, eq-eqb, ltb-true}
-use native.Mathlib.Numerals.{add-one}
 use native.Mathlib.Omega.{arith}
 use Rattle.settings.specs.declared.Settings.{Settings}
 use Rattle.num.specs.Bytes.{bytes, number}
@@ -22,118 +20,28 @@ use Rattle.record.specs.declared.Place.{Place}
 use Rattle.record.specs.declared.Request.{Request}
 use Rattle.record.specs.declared.Request.the-variants.{Read, Write as WriteTo, Refresh as RefreshBank, Wait, Flush, Close}
 use Rattle.record.specs.Request.{usesByte, spareRight, placed, requestOf, requestRead, requestFields, requestBytes}
-use Rattle.spec_rules.specs.declared.Bank.{Bank}
 use Rattle.spec_rules.specs.declared.Write.{Write}
 use Rattle.spec_rules.specs.declared.Buffer.{Buffer}
 use Rattle.spec_rules.specs.declared.Buffer.the-variants.{Empty, One, Two}
 use Rattle.spec_rules.specs.Neighbour.{bankCount, Context, runOf, inRuns, near, contextOf}
-use Rattle.spec_rules.specs.Packets.{rowTraits, colTraits, traits, retireTraits, instant, isPacket}
-use Rattle.spec_rules.specs.History.{bankBy, isClosed, isOpen, rest, leaving, loads, anyWrite}
-use Rattle.spec_rules.specs.Rules.{dataDelay}
-use Rattle.spec_rules.specs.Channel.{fresh, waitingOf, bufferOf, bankNext, trackNext, afterPacket, trackRetired, afterRetire, afterData, after}
+use Rattle.spec_rules.specs.Packets.{rowTraits, colTraits, traits, retireTraits, impliedTraits, instant, isPacket}
+use Rattle.spec_rules.specs.History.{bankBy, isClosed, isOpen, rest, left, queued, leaving, loads}
+use Rattle.spec_rules.specs.Rules.{longestDelay}
+use Rattle.spec_rules.specs.Channel.{fresh, waitingOf, bufferOf, bankNext, trackNext, afterPacket, trackRetired, afterRetire, trackImplied, afterImplied, afterData, after}
 use Rattle.spec_rules.specs.Distances.{distances}
 use Rattle.spec_rules.specs.Checks.{maxUpTo, bounds}
 use Rattle.spec_rules.specs.Earliest.{placedAt, under, earliest, leastFrom}
-use Rattle.spec_rules.proofs.Bools.{not-both, and-left}
+use Rattle.spec_rules.proofs.Bools.{not-both}
 use Rattle.spec_plan.specs.declared.PlannerState.{PlannerState}
 use Rattle.spec_plan.specs.Planner.{freshPlanner, plannerValid}
 use Rattle.spec_plan.specs.Call.{inTime, timely, outcomeOf, unretired, outcomeBy, planOutcome, isMade, draftBy, planNext, planRecords}
-use Rattle.spec_plan.specs.Most.{requestMost, AtMost}
-use Rattle.spec_plan.specs.Runs.{Call, plannerAfter}
-use Rattle.spec_plan.specs.Plan.{Draft, rowPacket, colPacket, when, waiting, stateIn, openOn, hits, anyWaits, slot, sent, flushed, flushedWhile, closed, loses, closedUpTo, cleared, delays, reached, plannedRead, loaded, written, plannedWrite, turned, plannedRefresh, plannedWait, plannedFlush, plannedClose, stepsOf, planned}
-use Rattle.spec_plan.proofs.SentLaws.{when-either, Sized, sent-records, flushed-waiting, row-waiting, read-waiting, while-keeps, while-size, while-state, saved, up-to-shut}
-use Rattle.spec_plan.proofs.Invariant.{Inv, Banked, valid-inv}
-
--- ---- how many of the first banks a test picks
-
-unfoldable pub count : (ℕ → Bool) → ℕ → ℕ
-count p zero = 0
-count p (suc n) = cond (p n) 1 0 + count p n
-
-pub count-le : (p q : ℕ → Bool) (n : ℕ) → ((x : ℕ) → x < n → p x ≡ true → q x ≡ true) → count p n ≤ count q n
-unfolding count
-count-le p q zero h = omega arith
-count-le p q (suc n) h = go (p n) refl (count-le p q n (λ x m. h x (omega arith)))
-  where
-    go : (b : Bool) → p n ≡ b → count p n ≤ count q n → cond b 1 0 + count p n ≤ cond (q n) 1 0 + count q n
-    go true e ih = rw (h n (omega arith) e) (omega arith)
-    go false e ih = omega arith
-
--- at most one of each pair: at most half
-pub count-pairs : (p : ℕ → Bool) (k : ℕ) → ((j : ℕ) → j < k → p (2 * j) && p (2 * j + 1) ≡ false) → count p (2 * k) ≤ k
-unfolding count
-count-pairs p zero h = omega arith
-count-pairs p (suc k) h =
-    let e : 2 * suc k ≡ suc (suc (2 * k)) = omega arith in
-    rw e (go (p (2 * k)) (p (suc (2 * k))) (rw (add-one (2 * k)) at (h k (omega arith))) (count-pairs p k (λ j m. h j (omega arith))))
-  where
-    go : (a c : Bool) → a && c ≡ false → count p (2 * k) ≤ k → cond c 1 0 + (cond a 1 0 + count p (2 * k)) ≤ suc k
-    go true true q ih = not-both true refl q
-    go true false q ih = omega arith
-    go false true q ih = omega arith
-    go false false q ih = omega arith
-
--- a bank and its neighbours are at most three
-near-range : (s : Settings) (b x : ℕ) → near (contextOf s) b x ≡ true → (b ≤ x + 1) × (x ≤ b + 1)
-unfolding inRuns contextOf
-near-range s b x e = go (eqb x b) (eqb (b + 1) x) (eqb (x + 1) b) (eqb (b / runOf (s .core)) (x / runOf (s .core))) refl refl refl e
-  where
-    go : (i j k l : Bool) → eqb x b ≡ i → eqb (b + 1) x ≡ j → eqb (x + 1) b ≡ k → i || ((j || k) && l) ≡ true → (b ≤ x + 1) × (x ≤ b + 1)
-    go true j k l ei ej ek h = omega (arith, eqb-true x b ei)
-    go false true k l ei ej ek h = omega (arith, eqb-true (b + 1) x ej)
-    go false false true l ei ej ek h = omega (arith, eqb-true (x + 1) b ek)
-    go false false false l ei ej ek h = not-both true refl (sym h)
-
-count-near : (s : Settings) (b n : ℕ) → (count (near (contextOf s) b) n ≤ 3) × (count (near (contextOf s) b) n ≤ n + 1 - b)
-unfolding count
-count-near s b zero = omega arith
-count-near s b (suc n) = go (near (contextOf s) b n) refl (count-near s b n)
-  where
-    c : ℕ
-    c = count (near (contextOf s) b) n
-
-    go : (q : Bool) → near (contextOf s) b n ≡ q → (c ≤ 3) × (c ≤ n + 1 - b) → (cond q 1 0 + c ≤ 3) × (cond q 1 0 + c ≤ suc n + 1 - b)
-    go true e ih = let r : (b ≤ n + 1) × (n ≤ b + 1) = near-range s b n e in omega arith
-    go false e ih = omega arith
-
-count-all : (p : ℕ → Bool) (n : ℕ) → count p n ≤ n
-unfolding count
-count-all p zero = omega arith
-count-all p (suc n) = go (p n) (count-all p n)
-  where
-    go : (b : Bool) → count p n ≤ n → cond b 1 0 + count p n ≤ suc n
-    go true ih = omega arith
-    go false ih = omega arith
-
--- a bank of even number and the next one are neighbours in a run of 16 and of 32
-twins : (core j : ℕ) → ltb core 2 ≡ true → inRuns (runOf core) (2 * j) (2 * j + 1) ≡ true
-unfolding inRuns runOf
-twins core j l = go (eqb core 0) (eqb core 1) refl refl
-  where
-    go : (a c : Bool) → eqb core 0 ≡ a → eqb core 1 ≡ c
-        → (eqb (2 * j + 1) (2 * j + 1) || eqb (2 * j + 1 + 1) (2 * j)) && eqb (2 * j / cond a 16 (cond c 32 1)) ((2 * j + 1) / cond a 16 (cond c 32 1)) ≡ true
-    go true c e f = rw (eq-eqb (2 * j + 1) (2 * j + 1) refl, eq-eqb (2 * j / 16) ((2 * j + 1) / 16) (omega arith))
-    go false true e f = rw (eq-eqb (2 * j + 1) (2 * j + 1) refl, eq-eqb (2 * j / 32) ((2 * j + 1) / 32) (omega arith))
-    go false false e f = absurd (omega (arith, ltb-true core 2 l, eqb-false core 0 e, eqb-false core 1 f))
-
--- of two neighbours one is closed: at most 16 of the 32 banks are open, or all where none are neighbours
-open-most : (s : Settings) (state : ℕ → Bank) → Banked (contextOf s) state → count (λ x. not (isClosed (state x))) bankCount ≤ requestMost (s .core)
-unfolding bankCount contextOf requestMost
-open-most s state k = go (ltb (s .core) 2) refl
-  where
-    one-of : (a c : Bool) → a || c ≡ true → not a && not c ≡ false
-    one-of true c h = refl
-    one-of false true h = refl
-    one-of false false h = sym h
-
-    go : (q : Bool) → ltb (s .core) 2 ≡ q → count (λ x. not (isClosed (state x))) 32 ≤ cond q 16 32
-    go true e =
-        omega (
-          arith,
-          count-pairs (λ x. not (isClosed (state x))) 16
-              (λ j m. one-of (isClosed (state (2 * j))) (isClosed (state (2 * j + 1))) (k .one-closed (2 * j) (2 * j + 1) (omega arith) (omega arith) (twins (s .core) j e))),
-        )
-    go false e = omega (arith, count-all (λ x. not (isClosed (state x))) 32)
+use Rattle.spec_plan.specs.Most.{requestMost, mostOf, AtMost}
+use Rattle.spec_plan.specs.Runs.{plannerAfter}
+use Rattle.spec_plan.specs.Plan.{Draft, rowPacket, colPacket, when, waiting, stateIn, openOn, anyWaits, anyCloses, slot, leaver, sent, flushed, flushedWhile, closed, loses, closedUpTo, cleared, delays, reached, plannedRead, loaded, written, plannedWrite, turned, plannedRefresh, plannedWait, plannedFlush, plannedClose, stepsOf, planned}
+use Rattle.spec_plan.proofs.SentLaws.{wrPacket, newer, written-waits, written-plain, when-either, Sized, Plain, sent-records, flushed-waiting, row-waiting, read-waiting, while-idle, while-keeps, saved, up-to-plain, up-to-shut}
+use Rattle.spec_plan.proofs.Invariant.{Banked}
+use Rattle.spec_plan.proofs.OpenBanks.{count, count-near, open-most}
+use Rattle.spec_plan.proofs.CallLaws.{Rest, valid-rest}
 
 -- ---- the records made, and one more for each write that waits
 
@@ -197,11 +105,11 @@ module _ (cx : Context) where
       )
 
   -- one record for each of the banks that were open at first
-  up-to-cost : (pick : ℕ → Bool) (d : Draft) → Sized d → (n : ℕ) → n ≤ bankCount
+  up-to-cost : (pick : ℕ → Bool) (d : Draft) → Sized d → Plain cx d → (n : ℕ) → n ≤ bankCount
       → cost (closedUpTo cx pick n d) ≤ cost d + count (λ x. pick x && not (isClosed (stateIn d x))) n
   unfolding closedUpTo count
-  up-to-cost pick d k zero l = omega arith
-  up-to-cost pick d k (suc n) l = go (pick n) (isClosed (stateIn z n)) (isClosed (stateIn d n)) refl refl (up-to-cost pick d k n (omega arith))
+  up-to-cost pick d k pl zero l = omega arith
+  up-to-cost pick d k pl (suc n) l = go (pick n) (isClosed (stateIn z n)) (isClosed (stateIn d n)) refl refl (up-to-cost pick d k pl n (omega arith))
     where
       z : Draft
       z = closedUpTo cx pick n d
@@ -212,122 +120,194 @@ module _ (cx : Context) where
       go : (a c e : Bool) → isClosed (stateIn z n) ≡ c → isClosed (stateIn d n) ≡ e → cost z ≤ cost d + rest
           → cost (when (a && not c) (closed cx n) z) ≤ cost d + (cond (a && not e) 1 0 + rest)
       go true false false ec ee ih = omega (arith, closed-cost n z)
-      go true false true ec ee ih = not-both (isClosed (stateIn z n)) (up-to-shut cx pick d k n n (omega arith) ee) ec
+      go true false true ec ee ih = not-both (isClosed (stateIn z n)) (up-to-shut cx pick d k pl n n (omega arith) ee) ec
       go true true e ec ee ih = omega arith
       go false c e ec ee ih = omega arith
+
+  -- WR or WRA and its D: one write joins, at most one leaves
+  written-length : (close : Bool) (at : Place) (mask : ℕ) (bytes : Dualoct) (d : Draft) → length (written cx close at mask bytes d .records) ≡ length (d .records) + 2
+  unfolding written loaded sent
+  written-length close at mask bytes d = simp length-append (omega arith)
+
+  written-cost : (close : Bool) (at : Place) (mask : ℕ) (bytes : Dualoct) (d : Draft) → cost (written cx close at mask bytes d) ≤ cost d + 3
+  unfolding cost
+  written-cost close at mask bytes d =
+      let o : Option Write = leaver cx (d .planner) (wrPacket close at) in
+      let w : Write = newer cx close at d in
+      rw (written-waits cx close at mask bytes d) (omega (arith, written-length close at mask bytes d, queued-few (left o (waiting d)) w, left-few o (waiting d)))
+    where
+      left-few : (o : Option Write) (ws : List Write) → length (left o ws) ≤ length ws
+      left-few none ws = omega arith
+      left-few (some w) [] = omega arith
+      left-few (some w) (x ∷ ws) = omega arith
+
+      queued-few : (ws : List Write) (w : Write) → length (queued ws w) ≤ length ws + 1
+      queued-few [] w = omega arith
+      queued-few (x ∷ ws) w = omega arith
 
 -- ---- the requests
 
 module _ (s : Settings) where
-  near-cost : (b : ℕ) (d : Draft) → Sized d → (n : ℕ) → n ≤ bankCount → cost (closedUpTo (contextOf s) (near (contextOf s) b) n d) ≤ cost d + 3
-  near-cost b d k n l =
-      omega (
-        arith,
-        up-to-cost (contextOf s) (near (contextOf s) b) d k n l,
-        count-le (λ x. near (contextOf s) b x && not (isClosed (stateIn d x))) (near (contextOf s) b) n (λ x m e. and-left (near (contextOf s) b x) _ e),
-        count-near s b n .0,
-      )
+  abbrev cx : Context
+  cx = contextOf s
 
-  cleared-cost : (b : ℕ) (d : Draft) → Sized d → cost (cleared (contextOf s) b d) ≤ cost d + 3
-  unfolding bankCount
-  cleared-cost b d k = near-cost b d k _ (omega arith)
+  module _ (d : Draft) (k : Sized d) (pl : Plain cx d) (bk : Banked cx (stateIn d)) where
+    cleared-cost : (b : ℕ) → cost (cleared cx b d) ≤ cost d + 2
+    cleared-cost b = omega (arith, up-to-cost cx (near cx b) d k pl bankCount (omega arith), count-near s (stateIn d) bk b)
 
-  reached-cost : (b row : ℕ) (d : Draft) → Sized d → cost (reached (contextOf s) b row d) ≤ cost d + 4
-  unfolding reached
-  reached-cost b row d k =
-      let z : Draft = cleared (contextOf s) b d in
-      when-either (λ y. cost y ≤ cost d + 4) (not (openOn (stateIn d b) row)) (λ d. sent (contextOf s) (rowPacket (Act b row)) (cleared (contextOf s) b d)) d
-      (λ _. omega (arith, sent-cost (contextOf s) (rowPacket (Act b row)) z (row-waiting (contextOf s) (Act b row) z), cleared-cost b d k)) (λ _. omega arith)
+    reached-cost : (b row : ℕ) → cost (reached cx b row d) ≤ cost d + 3
+    unfolding reached
+    reached-cost b row =
+        let z : Draft = cleared cx b d in
+        when-either (λ y. cost y ≤ cost d + 3) (not (openOn (stateIn d b) row)) (λ d. sent cx (rowPacket (Act b row)) (cleared cx b d)) d
+        (λ _. omega (arith, sent-cost cx (rowPacket (Act b row)) z (row-waiting cx (Act b row) z), cleared-cost b)) (λ _. omega arith)
 
-  written-length : (at : Place) (mask : ℕ) (bytes : Dualoct) (d : Draft) → length (written (contextOf s) at mask bytes d .records) ≡ length (d .records) + 2
-  unfolding written loaded sent
-  written-length at mask bytes d = simp length-append (omega arith)
+    reached-plain : (b row : ℕ) → Plain cx (reached cx b row d)
+    unfolding reached
+    reached-plain b row =
+        let z : Draft = cleared cx b d in
+        when-either (Plain cx) (not (openOn (stateIn d b) row)) (λ d. sent cx (rowPacket (Act b row)) (cleared cx b d)) d
+        (λ _. rw (row-waiting cx (Act b row) z) (up-to-plain cx (near cx b) d k pl bankCount)) (λ _. pl)
 
-  closed-all : (d : Draft) → Sized d → Banked (contextOf s) (stateIn d) → cost (plannedClose (contextOf s) d) ≤ cost d + requestMost (s .core)
-  unfolding plannedClose
-  closed-all d k b = omega (arith, up-to-cost (contextOf s) (λ x. true) d k bankCount (omega arith), open-most s (stateIn d) b)
+    closed-all : cost (plannedClose cx d) ≤ cost d + requestMost (s .core)
+    unfolding plannedClose
+    closed-all = omega (arith, up-to-cost cx (λ x. true) d k pl bankCount (omega arith), open-most s (stateIn d) bk)
 
-  least-most : 16 ≤ requestMost (s .core)
-  unfolding requestMost
-  least-most = go (ltb (s .core) 2)
+  module _ (p : PlannerState) (v : Rest cx p) where
+    abbrev start : Draft
+    start = record { planner = p; records = [] }
+
+    most-read : (close : Bool) (at : Place) → length (plannedRead cx close at start .records) ≤ 6
+    unfolding plannedRead
+    most-read close at =
+        let z : Draft = reached cx (at .bank) (at .row) start in
+        let y : Draft = flushedWhile cx (delays cx close at) z in
+        let r : Record = colPacket (Rd (at .bank) (at .column) 0xFFFF close) in
+        omega (
+          arith,
+          records-cost (sent cx r y),
+          sent-cost cx r y (read-waiting cx (at .bank) (at .column) 0xFFFF close y),
+          while-cost cx (delays cx close at) (and-false close) z,
+          reached-cost start (v .inv .size) (v .plain) (v .inv .banked) (at .bank) (at .row),
+          start-cost p,
+        )
+
+    most-write : (close : Bool) (at : Place) (mask : ℕ) (bytes : Dualoct) → length (plannedWrite cx close at mask bytes start .records) ≤ cond close 8 7
+    unfolding plannedWrite
+    most-write true at mask bytes =
+        let z : Draft = reached cx (at .bank) (at .row) start in
+        let y : Draft = written cx true at mask bytes z in
+        omega (
+          arith,
+          records-cost (flushedWhile cx anyCloses y),
+          while-cost cx anyCloses refl y,
+          written-cost cx true at mask bytes z,
+          reached-cost start (v .inv .size) (v .plain) (v .inv .banked) (at .bank) (at .row),
+          start-cost p,
+        )
+    most-write false at mask bytes =
+        let z : Draft = reached cx (at .bank) (at .row) start in
+        let y : Draft = written cx false at mask bytes z in
+        rw (while-idle cx anyCloses y (written-plain cx false at mask bytes z (reached-plain start (v .inv .size) (v .plain) (v .inv .banked) (at .bank) (at .row)) refl))
+        (omega (
+          arith,
+          written-length cx false at mask bytes z,
+          records-cost z,
+          reached-cost start (v .inv .size) (v .plain) (v .inv .banked) (at .bank) (at .row),
+          start-cost p,
+        ))
+
+    most-refresh : length (plannedRefresh cx start .records) ≤ 6
+    unfolding plannedRefresh turned
+    most-refresh =
+        let b : ℕ = p .refresh in
+        let z : Draft = cleared cx b start in
+        let y : Draft = sent cx (rowPacket (Refa b)) z in
+        omega (
+          arith,
+          records-cost (sent cx (rowPacket (Refp b)) y),
+          sent-cost cx (rowPacket (Refp b)) y (row-waiting cx (Refp b) y),
+          sent-cost cx (rowPacket (Refa b)) z (row-waiting cx (Refa b) z),
+          cleared-cost start (v .inv .size) (v .plain) (v .inv .banked) b,
+          start-cost p,
+        )
+
+    most-kind : (q : Request) → unretired q p ≡ false → length (planned cx q p .records) ≤ mostOf (s .core) q
+    unfolding planned stepsOf plannedWait plannedFlush mostOf unretired
+    most-kind (Read at close) u = most-read close at
+    most-kind (WriteTo at mask bytes close) u = most-write close at mask bytes
+    most-kind RefreshBank u = most-refresh
+    most-kind (Wait cycles) u = omega arith
+    most-kind Flush u = omega (arith, records-cost (flushedWhile cx anyWaits start), while-cost cx anyWaits refl start, start-cost p)
+    most-kind Close u = omega (arith, records-cost (plannedClose cx start), closed-all start (v .inv .size) (v .plain) (v .inv .banked), none-cost p u)
+
+  most-all : (q : Request) → mostOf (s .core) q ≤ requestMost (s .core)
+  unfolding mostOf requestMost
+  most-all q = go q (ltb (s .core) 2) refl
     where
-      go : (q : Bool) → 16 ≤ cond q 16 32
-      go true = omega arith
-      go false = omega arith
+      within : (c : Bool) (n : ℕ) → n ≤ 8 → n ≤ cond c 16 32
+      within true n l = omega arith
+      within false n l = omega arith
 
-  most-by : (p : PlannerState) → Inv (contextOf s) p → (q : Request) → unretired q p ≡ false → length (planned (contextOf s) q p .records) ≤ requestMost (s .core)
-  unfolding planned stepsOf plannedRead plannedWrite plannedRefresh turned plannedWait plannedFlush unretired
-  most-by p v q u = go q u v
-    where
-      d : Draft
-      d = record { planner = p; records = [] }
+      either : (close : Bool) → cond close 8 7 ≤ 8
+      either true = omega arith
+      either false = omega arith
 
-      go : (q : Request) → unretired q p ≡ false → Inv (contextOf s) p → length (stepsOf (contextOf s) q d .records) ≤ requestMost (s .core)
-      go (Read at) u k =
-          let z : Draft = reached (contextOf s) (at .bank) (at .row) d in
-          let test : List Write → Bool = delays at in
-          let y : Draft = flushedWhile (contextOf s) test z in
-          let r : Record = colPacket (Rd (at .bank) (at .column) 0xFFFF) in
-          omega (
-            arith,
-            records-cost (sent (contextOf s) r y),
-            sent-cost (contextOf s) r y (read-waiting (contextOf s) (at .bank) (at .column) 0xFFFF y),
-            while-cost (contextOf s) test refl z,
-            reached-cost (at .bank) (at .row) d (k .size),
-            start-cost p,
-            least-most,
-          )
-      go (WriteTo at mask bytes) u k =
-          let z : Draft = reached (contextOf s) (at .bank) (at .row) d in
-          omega (arith, written-length at mask bytes z, records-cost z, reached-cost (at .bank) (at .row) d (k .size), start-cost p, least-most)
-      go RefreshBank u k =
-          let b : ℕ = p .refresh in
-          let z : Draft = cleared (contextOf s) b d in
-          let y : Draft = sent (contextOf s) (rowPacket (Refa b)) z in
-          omega (
-            arith,
-            records-cost (sent (contextOf s) (rowPacket (Refp b)) y),
-            sent-cost (contextOf s) (rowPacket (Refp b)) y (row-waiting (contextOf s) (Refp b) y),
-            sent-cost (contextOf s) (rowPacket (Refa b)) z (row-waiting (contextOf s) (Refa b) z),
-            cleared-cost b d (k .size),
-            start-cost p,
-            least-most,
-          )
-      go (Wait cycles) u k = omega arith
-      go Flush u k = omega (arith, records-cost (flushedWhile (contextOf s) anyWaits d), while-cost (contextOf s) anyWaits refl d, start-cost p, least-most)
-      go Close u k = omega (arith, records-cost (plannedClose (contextOf s) d), closed-all d (k .size) (k .banked), none-cost p u)
+      go : (q : Request) (c : Bool) → ltb (s .core) 2 ≡ c → mostOf (s .core) q ≤ cond c 16 32
+      go (Read at close) c e = within c 6 (omega arith)
+      go (WriteTo at mask bytes close) c e = within c (cond close 8 7) (either close)
+      go RefreshBank c e = within c 6 (omega arith)
+      go (Wait cycles) c e = within c 0 (omega arith)
+      go Flush c e = within c 2 (omega arith)
+      go Close c e = rw e (omega arith)
 
   -- from a state that is not refused
   pub most : AtMost s
-  most p v q u = most-by p (valid-inv (contextOf s) p v) q u
+  most p v q u = (most-kind p (valid-rest cx p v) q u, most-all q)
 
   -- under any core form
-  pub most-made : (p : PlannerState) → Inv (contextOf s) p → (q : Request) → unretired q p ≡ false → length (planned (contextOf s) q p .records) ≤ 32
+  pub most-made : (p : PlannerState) → Rest cx p → (q : Request) → unretired q p ≡ false → length (planned cx q p .records) ≤ 32
   unfolding requestMost
-  most-made p v q u = omega (arith, most-by p v q u, any (ltb (s .core) 2))
+  most-made p v q u = omega (arith, most-kind p v q u, most-all q, any (ltb (s .core) 2))
     where
       any : (b : Bool) → cond b 16 32 ≤ 32
       any true = omega arith
       any false = omega arith
 
-  pub most-any : (p : PlannerState) → plannerValid (contextOf s) p ≡ true → (q : Request) → unretired q p ≡ false → length (planned (contextOf s) q p .records) ≤ 32
-  most-any p v q u = most-made p (valid-inv (contextOf s) p v) q u
+  pub most-any : (p : PlannerState) → plannerValid cx p ≡ true → (q : Request) → unretired q p ≡ false → length (planned cx q p .records) ≤ 32
+  most-any p v q u = most-made p (valid-rest cx p v) q u
 
--- ---- a close that makes so many: sixteen banks are open, or all
+-- ---- requests that make so many
 
-place : ℕ → Place
+pub place : ℕ → Place
 place bank = record { bank = bank; row = 0; column = 0 }
 
--- reads of n banks from 0 on, each so many after the one before
-reads : ℕ → ℕ → List Call → List Call
-reads step zero l = l
-reads step (suc n) l = reads step n (record { request = requestBytes (Read (place (step * n))); room = 1024 } ∷ l)
+pub zeroData : Dualoct
+zeroData = record { dqa = 0; dqb = 0 }
 
--- how many records a close makes after them under set H with a core form
-pub closes : ℕ → ℕ → ℕ → ℕ
-closes core step n =
-    length (planRecords (contextOf (setOf 2 4 core)) (plannerAfter (contextOf (setOf 2 4 core)) freshPlanner (reads step n [])) (requestBytes Close) 1024)
+-- how many records a request makes under set H with a core form, after others from a fresh planner
+pub made : ℕ → List Request → Request → ℕ
+made core before q =
+    let cx : Context = contextOf (setOf 2 4 core) in
+    length (planRecords cx (plannerAfter cx freshPlanner (map (λ (q : Request). record { request = requestBytes q; room = 1024 }) before)) (requestBytes q) 1024)
 
-pub most-reached : (closes 0 2 16 ≡ requestMost 0) × ((closes 1 2 16 ≡ requestMost 1) × (closes 2 1 32 ≡ requestMost 2))
-unfolding closes requestMost setOf place reads bytes number allUpTo usesByte spareRight placed requestOf requestRead requestFields requestBytes runOf inRuns contextOf rowTraits colTraits traits instant isPacket bankBy isClosed isOpen bankCount dataDelay leaving loads fresh waitingOf bufferOf bankNext trackNext afterPacket trackRetired afterRetire afterData after maxUpTo bounds distances retireTraits placedAt under earliest leastFrom freshPlanner slot sent flushed flushedWhile closed closedUpTo reached plannedRead loaded written plannedWrite turned plannedRefresh plannedWait plannedFlush plannedClose stepsOf planned inTime timely outcomeOf unretired outcomeBy planOutcome isMade draftBy planNext planRecords plannerAfter
-most-reached = (refl, (refl, refl))
+-- reads of n banks, the last of them bank 0, each so many before the one before it
+pub reads : ℕ → ℕ → List Request
+reads step zero = []
+reads step (suc n) = Read (place (step * n)) false ∷ reads step n
+
+-- two banks are open, and in each a write waits
+pub waitingIn : ℕ → ℕ → List Request
+waitingIn a b = Read (place a) false ∷ Read (place b) false ∷ WriteTo (place a) 0xFFFF zeroData false ∷ WriteTo (place b) 0xFFFF zeroData false ∷ []
+
+abbrev pub Reached : ℕ → List Request → Request → Type 0
+Reached core before q = made core before q ≡ mostOf core q
+
+-- close with sixteen banks open, or all; the others with a write waiting in the bank before and in the bank after
+pub most-reached :
+    Reached 0 (waitingIn 4 6) (Read (place 5) false) × (Reached 0 (waitingIn 4 6) (Read (place 5) true)
+    × (Reached 0 (waitingIn 4 6) (WriteTo (place 5) 0xFFFF zeroData false) × (Reached 0 (waitingIn 4 6) (WriteTo (place 5) 0xFFFF zeroData true)
+    × (Reached 0 (RefreshBank ∷ waitingIn 0 2) RefreshBank × (Reached 0 (waitingIn 4 6) Flush
+    × (Reached 0 (reads 2 16) Close × (Reached 1 (reads 2 16) Close × Reached 2 (reads 1 32) Close)))))))
+unfolding made reads waitingIn mostOf requestMost setOf place zeroData bytes number allUpTo usesByte spareRight placed requestOf requestRead requestFields requestBytes runOf inRuns contextOf rowTraits colTraits traits instant isPacket bankBy isClosed isOpen bankCount longestDelay leaving loads fresh waitingOf bufferOf bankNext trackNext afterPacket trackRetired afterRetire trackImplied afterImplied afterData after maxUpTo bounds distances retireTraits impliedTraits placedAt under earliest leastFrom freshPlanner slot sent flushed flushedWhile closed closedUpTo reached plannedRead loaded written plannedWrite turned plannedRefresh plannedWait plannedFlush plannedClose stepsOf planned inTime timely outcomeOf unretired outcomeBy planOutcome isMade draftBy planNext planRecords plannerAfter
+most-reached = (refl, (refl, (refl, (refl, (refl, (refl, (refl, (refl, refl))))))))

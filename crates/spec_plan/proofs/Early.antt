@@ -27,10 +27,10 @@ use Rattle.spec_rules.specs.declared.Write.{Write}
 use Rattle.spec_rules.specs.declared.Channel.{Channel}
 use Rattle.spec_rules.specs.Neighbour.{bankCount, Context, Neighbours, near}
 use Rattle.spec_rules.specs.Packets.{traits, rowTraits, colTraits, instant}
-use Rattle.spec_rules.specs.History.{isClosed, isOpen, left, joined, loads, waitingNext, allWrites, only}
+use Rattle.spec_rules.specs.History.{isClosed, isOpen, left, joined, loads, waitingNext, allWrites, only, retireImplies}
 use Rattle.spec_rules.specs.Rules.{freeFor}
 use Rattle.spec_rules.specs.Distances.{Kind, onlyACT}
-use Rattle.spec_rules.specs.Channel.{idle, fresh, trackOf, stateOf, waitingOf, inBank, trackNext, afterPacket, trackRetired, afterRetire, afterData, leavingOf, after}
+use Rattle.spec_rules.specs.Channel.{idle, fresh, trackOf, stateOf, waitingOf, inBank, trackNext, afterPacket, trackRetired, afterRetire, trackImplied, afterImplied, afterData, leavingOf, after}
 use Rattle.spec_rules.specs.Checks.{since, asks, lastAt, boundBanks, bounds, judged}
 use Rattle.spec_rules.specs.Earliest.{fits, earliest}
 use Rattle.spec_rules.proofs.Bools.{not-both, and-left, and-right, leb-maxUpTo}
@@ -110,30 +110,59 @@ module _ (cx : Context) (ch : Channel) (n : length (ch .banks) ≡ bankCount) wh
   retired-lasts t none = refl
   retired-lasts t (some w) = refl
 
+  implied-act : (c : Channel) → length (c .banks) ≡ bankCount → (t : ℕ) (o : Option ℕ) (x : ℕ) → x < bankCount → trackOf (afterImplied cx t o c) x .act ≡ trackOf c x .act
+  unfolding afterImplied trackImplied
+  implied-act c k t none x m = refl
+  implied-act c k t (some b) x m = ap (λ (y : BankTrack). y .act) (getD-imap (trackImplied cx (stateOf c) t b) (c .banks) x idle idle (rw k m))
+
+  implied-size : (c : Channel) → length (c .banks) ≡ bankCount → (t : ℕ) (o : Option ℕ) → length (afterImplied cx t o c .banks) ≡ bankCount
+  unfolding afterImplied
+  implied-size c k t none = k
+  implied-size c k t (some b) = length-imap _ 0 (c .banks) ∙ k
+
+  pub implied-col : (c : Channel) (t : ℕ) (o : Option ℕ) → afterImplied cx t o c .lasts .col ≡ c .lasts .col
+  unfolding afterImplied
+  implied-col c t none = refl
+  implied-col c t (some b) = refl
+
+  -- once the write has left that a COL packet retires, and the PRER that this implies is done
+  abbrev colLeft : PacketAt → ColPacket → Channel
+  colLeft t p = afterImplied cx (t .0 + cx .settings .offp) (retireImplies (leavingOf cx ch (ColAt t p))) (afterRetire (t .0) (leavingOf cx ch (ColAt t p)) ch)
+
   -- the last ACT of a bank, and the last COL packet
   pub after-act : (r : Record) (x : ℕ) → x < bankCount → trackOf (after cx ch r) x .act ≡ cond (inBank (traits r .acts) x) (record { 0 = instant r }) (trackOf ch x .act)
-  unfolding after afterData traits colTraits
+  unfolding after afterData traits colTraits afterPacket
   after-act (RowAt t p) x m = packet-act ch n (RowAt t p) x m
-  after-act (ColAt t (Nocop k)) x m = packet-act _ (retired-size (t .0) _) (ColAt t (Nocop k)) x m ∙ retired-act (t .0) (leavingOf cx ch (ColAt t (Nocop k))) x m
-  after-act (ColAt t (Wr b c k)) x m = packet-act _ (retired-size (t .0) _) (ColAt t (Wr b c k)) x m ∙ retired-act (t .0) (leavingOf cx ch (ColAt t (Wr b c k))) x m
-  after-act (ColAt t (Rd b c k)) x m = packet-act _ (retired-size (t .0) _) (ColAt t (Rd b c k)) x m ∙ retired-act (t .0) (leavingOf cx ch (ColAt t (Rd b c k))) x m
+  after-act (ColAt t p) x m =
+      let r : Record = ColAt t p in
+      let o : Option Write = leavingOf cx ch r in
+      let u : ℕ = t .0 + cx .settings .offp in
+      let z : length (colLeft t p .banks) ≡ bankCount = implied-size (afterRetire (t .0) o ch) (retired-size (t .0) o) u (retireImplies o) in
+      implied-act (afterPacket cx (colLeft t p) r) (length-imap _ 0 (colLeft t p .banks) ∙ z) u (traits r .implies) x m
+      ∙ packet-act (colLeft t p) z r x m
+      ∙ ap (cond (inBank (traits r .acts) x) (record { 0 = instant r })) (implied-act (afterRetire (t .0) o ch) (retired-size (t .0) o) u (retireImplies o) x m ∙ retired-act (t .0) o x m)
   after-act (DataOf t d) x m = refl
 
   pub after-col : (r : Record) → after cx ch r .lasts .col ≡ cond (traits r .col) (record { 0 = instant r }) (ch .lasts .col)
   unfolding after afterPacket afterData traits
   after-col (RowAt t p) = refl
-  after-col (ColAt t p) = ap (λ (l : LastInstants). cond (colTraits p .col) (record { 0 = instant (ColAt t p) }) (l .col)) (retired-lasts (t .0) (leavingOf cx ch (ColAt t p)))
+  after-col (ColAt t p) =
+      let o : Option Write = leavingOf cx ch (ColAt t p) in
+      let u : ℕ = t .0 + cx .settings .offp in
+      implied-col (afterPacket cx (colLeft t p) (ColAt t p)) u (colTraits p .implies)
+      ∙ ap (cond (colTraits p .col) (record { 0 = instant (ColAt t p) }))
+      (implied-col (afterRetire (t .0) o ch) u (retireImplies o) ∙ ap (λ (l : LastInstants). l .col) (retired-lasts (t .0) o))
   after-col (DataOf t d) = refl
 
 -- what rule 3 asks of any COL packet
 pub col-asks : (cx : Context) (ch : Channel) (p : ColPacket) → since (ch .lasts .col .0) (cx .settings .cc) ≤ bounds cx ch (colTraits p)
 col-asks cx ch (Nocop m) = rw (nocop-bounds cx ch m) (omega arith)
-col-asks cx ch (Wr b c m) = rw (wr-bounds cx ch b c m) (omega arith)
-col-asks cx ch (Rd b c m) = rw (rd-bounds cx ch b c m) (omega arith)
+col-asks cx ch (Wr b c m x) = rw (wr-bounds cx ch b c m x) (omega arith)
+col-asks cx ch (Rd b c m x) = rw (rd-bounds cx ch b c m x) (omega arith)
 
 -- and rule 10 of a WR
-pub wr-asks : (cx : Context) (ch : Channel) (b c m : ℕ) → own cx ch onlyACT (cx .settings .rcd - cx .settings .rtr) b ≤ bounds cx ch (colTraits (Wr b c m))
-wr-asks cx ch b c m = rw (wr-bounds cx ch b c m) (omega arith)
+pub wr-asks : (cx : Context) (ch : Channel) (b c m : ℕ) (x : Bool) → own cx ch onlyACT (cx .settings .rcd - cx .settings .rtr) b ≤ bounds cx ch (colTraits (Wr b c m x))
+wr-asks cx ch b c m x = rw (wr-bounds cx ch b c m x) (omega arith)
 
 pub since-last : (last gap t : ℕ) → since last gap ≤ t → last ≤ t
 since-last last gap t h = go (eqb last 0) refl h
@@ -183,9 +212,9 @@ open-not-closed (Open r) e = refl
 open-not-closed Refresh e = refl
 
 -- a WR, from its bound alone
-module _ (cx : Context) (ch : Channel) (n : length (ch .banks) ≡ bankCount) (t : PacketAt) (b c m : ℕ) (l : b < bankCount) (h : max 4 (bounds cx ch (colTraits (Wr b c m))) ≤ t .0) where
+module _ (cx : Context) (ch : Channel) (n : length (ch .banks) ≡ bankCount) (t : PacketAt) (b c m : ℕ) (close : Bool) (l : b < bankCount) (h : max 4 (bounds cx ch (colTraits (Wr b c m close))) ≤ t .0) where
   abbrev wr : Record
-  wr = ColAt t (Wr b c m)
+  wr = ColAt t (Wr b c m close)
 
   pub wr-col : after cx ch wr .lasts .col .0 ≡ t .0
   unfolding traits colTraits instant
@@ -196,9 +225,9 @@ module _ (cx : Context) (ch : Channel) (n : length (ch .banks) ≡ bankCount) (t
   wr-act x i = after-act cx ch n wr x i
 
   -- the write that it loads
-  wr-early : Early cx (after cx ch wr) (record { bank = b; column = c; at = record { 0 = t .0 } })
+  wr-early : Early cx (after cx ch wr) (record { bank = b; column = c; at = record { 0 = t .0 }; close = close })
   wr-early =
-      let act = own-least cx ch onlyACT (cx .settings .rcd - cx .settings .rtr) b (t .0) l (omega (arith, wr-asks cx ch b c m)) in (
+      let act = own-least cx ch onlyACT (cx .settings .rcd - cx .settings .rtr) b (t .0) l (omega (arith, wr-asks cx ch b c m close)) in (
         omega arith,
         rw wr-col (omega arith),
         l,
@@ -206,7 +235,7 @@ module _ (cx : Context) (ch : Channel) (n : length (ch .banks) ≡ bankCount) (t
       )
 
   wr-later : ch .lasts .col .0 ≤ after cx ch wr .lasts .col .0
-  wr-later = rw wr-col (since-last (ch .lasts .col .0) (cx .settings .cc) (t .0) (omega (arith, col-asks cx ch (Wr b c m), h)))
+  wr-later = rw wr-col (since-last (ch .lasts .col .0) (cx .settings .cc) (t .0) (omega (arith, col-asks cx ch (Wr b c m close), h)))
 
   all-true : (ws : List Write) → allWrites (λ w. true) ws ≡ true
   all-true [] = refl
@@ -216,7 +245,7 @@ module _ (cx : Context) (ch : Channel) (n : length (ch .banks) ≡ bankCount) (t
   unfolding waitingNext loads
   wr-next-early e =
       let ws : List Write = waitingOf (ch .buffer) in
-      rw (after-waits cx ch wr) (joined-early cx (after cx ch wr) (some (record { bank = b; column = c; at = record { 0 = t .0 } })) (left (leavingOf cx ch wr) ws) wr-early
+      rw (after-waits cx ch wr) (joined-early cx (after cx ch wr) (some (record { bank = b; column = c; at = record { 0 = t .0 }; close = close })) (left (leavingOf cx ch wr) ws) wr-early
       (left-early cx (after cx ch wr) (leavingOf cx ch wr) ws (stays-early cx ch (after cx ch wr) (λ w. true) wr-later (λ w i q. wr-act (w .bank) i) ws (all-true ws) e)))
 
 module _ (cx : Context) (ch : Channel) (k : Sound cx ch) (r : Record) (f : recordFits (cx .settings) r ≡ true) (j : judged cx ch r ≡ 0) where
@@ -247,8 +276,8 @@ module _ (cx : Context) (ch : Channel) (k : Sound cx ch) (r : Record) (f : recor
       go (RowAt t (Refa b)) i e = refl
       go (RowAt t (Refp b)) i e = refl
       go (ColAt t (Nocop m)) i e = refl
-      go (ColAt t (Wr b c m)) i e = refl
-      go (ColAt t (Rd b c m)) i e = refl
+      go (ColAt t (Wr b c m y)) i e = refl
+      go (ColAt t (Rd b c m y)) i e = refl
       go (DataOf t d) i e = refl
 
   col-later : ch .lasts .col .0 ≤ after cx ch r .lasts .col .0
@@ -261,8 +290,8 @@ module _ (cx : Context) (ch : Channel) (k : Sound cx ch) (r : Record) (f : recor
       go (RowAt t (Refa b)) h = omega arith
       go (RowAt t (Refp b)) h = omega arith
       go (ColAt t (Nocop m)) h = since-last (ch .lasts .col .0) (cx .settings .cc) (t .0) (omega (arith, col-asks cx ch (Nocop m), h))
-      go (ColAt t (Wr b c m)) h = since-last (ch .lasts .col .0) (cx .settings .cc) (t .0) (omega (arith, col-asks cx ch (Wr b c m), h))
-      go (ColAt t (Rd b c m)) h = since-last (ch .lasts .col .0) (cx .settings .cc) (t .0) (omega (arith, col-asks cx ch (Rd b c m), h))
+      go (ColAt t (Wr b c m y)) h = since-last (ch .lasts .col .0) (cx .settings .cc) (t .0) (omega (arith, col-asks cx ch (Wr b c m y), h))
+      go (ColAt t (Rd b c m y)) h = since-last (ch .lasts .col .0) (cx .settings .cc) (t .0) (omega (arith, col-asks cx ch (Rd b c m y), h))
       go (DataOf t d) h = omega arith
 
   act-stays : (w : Write) → w .bank < bankCount → isOpen (stateOf ch (w .bank)) ≡ true → trackOf (after cx ch r) (w .bank) .act ≡ trackOf ch (w .bank) .act
@@ -276,8 +305,8 @@ module _ (cx : Context) (ch : Channel) (k : Sound cx ch) (r : Record) (f : recor
       go : (r : Record) → Inside r → earliest cx ch r ≤ instant r → EarlyOf cx (after cx ch r) (loads r)
       go (RowAt t p) i h = tt
       go (ColAt t (Nocop m)) i h = tt
-      go (ColAt t (Wr b c m)) i h = wr-early cx ch (k .size) t b c m (i .writes-in) h
-      go (ColAt t (Rd b c m)) i h = tt
+      go (ColAt t (Wr b c m y)) i h = wr-early cx ch (k .size) t b c m y (i .writes-in) (omega arith)
+      go (ColAt t (Rd b c m y)) i h = tt
       go (DataOf t d) i h = tt
 
   pub next-early : AllEarly cx ch (waitingOf (ch .buffer)) → AllEarly cx (after cx ch r) (waitingOf (after cx ch r .buffer))

@@ -70,10 +70,10 @@ module _ (cx : Context) (ns : Neighbours cx) where
         let es : List Record = earlier made j in
         let r : Record = recordIn made j in
         let ch : Channel = channelBy cx (p .channel) es in
-        let all : Made cx p (called cx p request room) = call-made cx p request room ns w (k .inv) in
-        let timely : Each (InTime cx) (reverse made) = each-in-time cx made (call-in-time cx p request room) in
+        let all : Made cx p (called cx p request room) = call-made cx p request room ns w (k .rest) in
+        let timely : Each (InTime cx (p .channel)) (reverse made) = each-in-time cx (p .channel) made (call-in-time cx p request room) in
         let here : Placed cx p es r = each-at (Placed cx p) made (all .each) j m in
-        let tracks : Tracks cx ch (es ++ reverse l) = call-tracks cx ns p (reverse l) (k .tracks) (k .each) es (each-before (Placed cx p) made (all .each) j (omega arith)) (each-before (InTime cx) made timely j (omega arith)) .0 in
+        let tracks : Tracks cx ch (es ++ reverse l) = call-tracks cx ns p (reverse l) (k .tracks) (k .each) es (each-before (Placed cx p) made (all .each) j (omega arith)) (each-before (InTime cx (p .channel)) made timely j (omega arith)) .0 in
         let fine : Allowed cx (earlier (l ++ made) (length l + j)) (recordIn (l ++ made) (length l + j)) =
         each-at (Allowed cx) (l ++ made) (run-call cx ns l p k request w room .each) (length l + j) (rw (length-append l made) (omega arith)) in
         let same : recordIn (l ++ made) (length l + j) ≡ r = getD-append-add l made j _ in (

@@ -3,10 +3,10 @@
 -- Assumes nothing.
 use Prim.Native.Nat.{ℕ, _<_}
 use mathlib.Core.Path.{_≡_, refl, sym, ap, _∙_}
-use mathlib.Core.Bool.{true}
+use mathlib.Core.Bool.{true, _||_}
 use mathlib.Core.List.{List, [], _∷_, _++_, append-nil, append-assoc, reverse, reverse-append}
-use lib.Dec.{eqb}
-use lib.ListN.{length}
+use lib.Dec.{eqb, lit≤, lit<}
+use lib.ListN.{length, length-replicate, getD-replicate}
 use lib.Seq.{take-length}
 use borrow.Author.Tests.{le-leb, eqb-true, eq-eqb}
 use native.Mathlib.Omega.{arith}
@@ -15,21 +15,23 @@ use Rattle.num.proofs.SearchLaws.{all-intro}
 use Rattle.record.specs.declared.Record.{Record}
 use Rattle.record.specs.Record.{recordFits}
 use Rattle.spec_rules.specs.declared.Channel.{Channel}
-use Rattle.spec_rules.specs.Neighbour.{Context, Neighbours}
+use Rattle.spec_rules.specs.Neighbour.{bankCount, Context, Neighbours}
+use Rattle.spec_rules.specs.declared.BankTrack.{BankTrack}
+use Rattle.spec_rules.specs.History.{isClosed}
+use Rattle.spec_state.specs.Valid.{bankValid}
 use Rattle.spec_rules.specs.Broken.{recordIn, lowestRule, ruleAt, everyRule}
-use Rattle.spec_rules.specs.Channel.{fresh}
+use Rattle.spec_rules.specs.Channel.{idle, fresh, trackOf, stateOf, waitingOf}
 use Rattle.spec_rules.specs.Checks.{judged, channelAfter, firstFound}
 use Rattle.spec_rules.proofs.TrackLaws.{Tracks, tracks-fresh}
 use Rattle.spec_rules.proofs.CheckerRight.{judged-right, tracks-next, passes-iff}
 use Rattle.spec_rules.proofs.EarliestLaws.{checks-split}
 use Rattle.spec_plan.specs.declared.PlannerState.{PlannerState}
-use Rattle.spec_plan.specs.Planner.{freshPlanner}
+use Rattle.spec_plan.specs.Planner.{freshPlanner, notRefresh}
 use Rattle.spec_plan.specs.Call.{planNext, planRecords}
 use Rattle.spec_plan.specs.Runs.{Call, OfBytes, plannerAfter, listed}
-use Rattle.spec_plan.proofs.Invariant.{Inv, valid-inv}
+use Rattle.spec_plan.proofs.Invariant.{Inv}
 use Rattle.spec_plan.proofs.Trace.{Each, each-at, channelBy, channel-after, Placed}
-use Rattle.spec_plan.proofs.CallLaws.{Made, InTime, each-in-time, called, call-made, call-in-time}
-use Rattle.spec_plan.proofs.Valid.{fresh-valid}
+use Rattle.spec_plan.proofs.CallLaws.{Made, Rest, made-rest, InTime, each-in-time, called, call-made, call-in-time}
 
 -- a record has a word and breaks no rule after the earlier ones
 abbrev pub Allowed : Context → List Record → Record → Type 0
@@ -37,7 +39,7 @@ Allowed cx es r = (recordFits (cx .settings) r ≡ true) × (lowestRule cx es r 
 
 -- the planner that made list l
 pub record Run (cx : Context) (l : List Record) (p : PlannerState) : Type 0 where
-  pub inv : Inv cx p
+  pub rest : Rest cx p
   pub tracks : Tracks cx (p .channel) (reverse l)
   pub channel : p .channel ≡ channelBy cx fresh (reverse l)
   pub each : Each (Allowed cx) (reverse l)
@@ -47,10 +49,33 @@ unfolding channelBy
 channel-join cx ch [] h = refl
 channel-join cx ch (r ∷ es) h = rw (channel-join cx ch es h)
 
+module _ (cx : Context) where
+  fresh-inv : Inv cx freshPlanner
+  unfolding freshPlanner fresh bankCount bankValid notRefresh isClosed waitingOf
+  fresh-inv =
+      let at : (x : ℕ) → x < 32 → trackOf fresh x ≡ idle = λ x m. getD-replicate 32 x idle idle m in
+      record {
+        size = length-replicate 32 idle;
+        banked = record {
+          rows-in = λ x m. ap (λ (k : BankTrack). bankValid cx (k .bank)) (at x m);
+          no-refresh = λ x m. ap (λ (k : BankTrack). notRefresh (k .bank)) (at x m);
+          one-closed = λ x y mx my n. ap (λ (k : BankTrack). isClosed (k .bank) || isClosed (stateOf fresh y)) (at x mx);
+        };
+        held = record { write-in = tt; opened = refl; no-due = refl };
+        refresh-in = lit< tt;
+        mask-in = lit< tt;
+        second-in = lit< tt;
+        low = lit≤ tt;
+      }
+
+  pub fresh-rest : Rest cx freshPlanner
+  unfolding freshPlanner fresh waitingOf
+  fresh-rest = record { inv = fresh-inv; plain = refl }
+
 module _ (cx : Context) (ns : Neighbours cx) where
   -- the state before each record of a call is the summary of all records before it, and the record breaks no rule
   pub call-tracks : (p : PlannerState) (h : List Record) → Tracks cx (p .channel) h → Each (Allowed cx) h
-      → (es : List Record) → Each (Placed cx p) es → Each (InTime cx) es
+      → (es : List Record) → Each (Placed cx p) es → Each (InTime cx (p .channel)) es
       → Tracks cx (channelBy cx (p .channel) es) (es ++ h) × Each (Allowed cx) (es ++ h)
   unfolding channelBy
   call-tracks p h k a [] e t = (k, a)
@@ -58,23 +83,23 @@ module _ (cx : Context) (ns : Neighbours cx) where
       let ih = call-tracks p h k a es (e .1) (t .1) in
       let ch : Channel = channelBy cx (p .channel) es in
       let here : Placed cx p es r = e .0 in
-      let free : eqb (judged cx ch r) 0 ≡ true = checks-split cx ch r ∙ rw (here .fitting, le-leb _ _ (here .late), le-leb _ _ (t .0), here .leaves) in
+      let free : eqb (judged cx ch r) 0 ≡ true = checks-split cx ch r ∙ rw (here .fitting, le-leb _ _ (here .late), le-leb _ _ (t .0 .0), here .leaves (t .0 .1)) in
       let none-broken : lowestRule cx (es ++ h) r ≡ 0 = sym (judged-right cx ns ch (es ++ h) (ih .0) r) ∙ eqb-true _ _ free in
       (tracks-next cx ns ch (es ++ h) (ih .0) r (here .word) none-broken, ((here .word, none-broken), ih .1))
 
   pub run-fresh : Run cx [] freshPlanner
-  unfolding freshPlanner channelBy
-  run-fresh = record { inv = valid-inv cx freshPlanner (fresh-valid cx); tracks = tracks-fresh cx; channel = refl; each = tt }
+  unfolding freshPlanner channelBy fresh waitingOf
+  run-fresh = record { rest = fresh-rest cx; tracks = tracks-fresh cx; channel = refl; each = tt }
 
   pub run-call : (l : List Record) (p : PlannerState) → Run cx l p → (request : List ℕ) → Bytes request → (room : ℕ)
       → Run cx (l ++ planRecords cx p request room) (planNext cx p request room)
   run-call l p k request w room =
-      let made : Made cx p (called cx p request room) = call-made cx p request room ns w (k .inv) in
+      let made : Made cx p (called cx p request room) = call-made cx p request room ns w (k .rest) in
       let new : List Record = reverse (planRecords cx p request room) in
       let back : reverse (l ++ planRecords cx p request room) ≡ new ++ reverse l = reverse-append l (planRecords cx p request room) in
-      let both = call-tracks p (reverse l) (k .tracks) (k .each) new (made .each) (each-in-time cx (planRecords cx p request room) (call-in-time cx p request room)) in
+      let both = call-tracks p (reverse l) (k .tracks) (k .each) new (made .each) (each-in-time cx (p .channel) (planRecords cx p request room) (call-in-time cx p request room)) in
       record {
-        inv = made .inv;
+        rest = made-rest cx p (called cx p request room) made;
         tracks = rw (back, made .channel) (both .0);
         channel = rw (back, channel-join cx fresh new (reverse l), ← k .channel) (made .channel);
         each = rw back (both .1);

@@ -4,14 +4,15 @@ pub mod SentLaws
 pub mod Trace
 pub mod PlanLaws
 pub mod CallLaws
-pub mod Valid
 pub mod Legal
 pub mod Least
+pub mod Valid
 pub mod Refused
+pub mod OpenBanks
 pub mod Bound
 pub mod Timely
 pub mod LookedLaws
 pub mod DataFree
-pub mod PlannerRoundTrip
 pub mod Early
 pub mod Rate
+pub mod PlannerRoundTrip

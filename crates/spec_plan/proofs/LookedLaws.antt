@@ -1,8 +1,8 @@
 -- How far close looks: the last bank that it looks at is open, all after it are closed, and closing those is closing all.
 -- Assumes nothing.
-use Prim.Native.Nat.{ℕ, zero, suc, _+_, _≤_, _<_}
+use Prim.Native.Nat.{ℕ, zero, suc, _≤_, _<_}
 use mathlib.Core.Path.{_≡_, refl, sym, _∙_}
-use mathlib.Core.Bool.{Bool, true, false, not, _&&_, _||_, cond}
+use mathlib.Core.Bool.{Bool, true, false, not, _&&_, _||_}
 use mathlib.Core.List.{[]}
 use lib.Dec.{eqb, leb}
 use borrow.Author.Tests.{leb-true, leb-false, eqb-true, eqb-false, ne-eqb}
@@ -15,8 +15,9 @@ use Rattle.spec_rules.proofs.Bools.{not-both, and-right}
 use Rattle.spec_plan.specs.declared.PlannerState.{PlannerState}
 use Rattle.spec_plan.specs.Plan.{Draft, when, stateIn, closed, closedUpTo, plannedClose, stepsOf, planned}
 use Rattle.spec_plan.specs.Looked.{lookedUpTo, looked}
-use Rattle.spec_plan.proofs.SentLaws.{when-either, Sized, closed-state, up-to-size, up-to-shut}
-use Rattle.spec_plan.proofs.Invariant.{Banked, Inv}
+use Rattle.spec_plan.proofs.SentLaws.{when-either, Sized, Plain, closed-state, up-to-size, up-to-plain, up-to-shut}
+use Rattle.spec_plan.proofs.Invariant.{Banked}
+use Rattle.spec_plan.proofs.CallLaws.{Rest}
 
 module _ (state : ℕ → Bank) where
   -- the last bank that is looked at is open
@@ -57,7 +58,7 @@ module _ (state : ℕ → Bank) where
       go true q = not-both (isClosed (state x)) (looked-above n x (leb-true _ _ q) m) e
       go false q = leb-false _ _ q
 
-module _ (cx : Context) (pick : ℕ → Bool) (d : Draft) (z : Sized d) where
+module _ (cx : Context) (pick : ℕ → Bool) (d : Draft) (z : Sized d) (pl : Plain cx d) where
   -- banks that are closed add nothing
   pub up-to-rest : (k n : ℕ) → k ≤ n → n ≤ bankCount → ((x : ℕ) → k ≤ x → x < n → isClosed (stateIn d x) ≡ true)
       → closedUpTo cx pick n d ≡ closedUpTo cx pick k d
@@ -78,7 +79,7 @@ module _ (cx : Context) (pick : ℕ → Bool) (d : Draft) (z : Sized d) where
       go true e ih = rw (eqb-true k (suc n) e)
       go false e ih =
           let below : k ≤ n = omega (arith, eqb-false k (suc n) e) in
-          shut (pick n) (isClosed (stateIn w n)) (up-to-shut cx pick d z n n (omega arith) (h n below (omega arith)))
+          shut (pick n) (isClosed (stateIn w n)) (up-to-shut cx pick d z pl n n (omega arith) (h n below (omega arith)))
           ∙ ih below (omega arith) (λ x i j. h x i (omega arith))
 
   -- the turns of the banks below leave a bank as it was: a PRER closes a neighbour too, but of two neighbours one is closed
@@ -98,26 +99,26 @@ module _ (cx : Context) (pick : ℕ → Bool) (d : Draft) (z : Sized d) where
         where
           which : (q : Bool) → isClosed (stateIn d x) ≡ q → q ≡ false
           which false g = refl
-          which true g = not-both (not (isClosed (stateIn (closedUpTo cx pick j d) x))) h (rw (up-to-shut cx pick d z j x i g))
+          which true g = not-both (not (isClosed (stateIn (closedUpTo cx pick j d) x))) h (rw (up-to-shut cx pick d z pl j x i g))
 
       same : (j : ℕ) → j ≤ y → isClosed (stateIn d y) ≡ false → stateIn (closedUpTo cx pick j d) y ≡ stateIn d y
       same zero i e = refl
       same (suc j) i e =
           let w : Draft = closedUpTo cx pick j d in
           when-either (λ v. stateIn v y ≡ stateIn d y) (pick j && not (isClosed (stateIn w j))) (closed cx j) w
-          (λ h. closed-state cx j w (up-to-size cx pick d z j) y m
+          (λ h. closed-state cx j w (up-to-size cx pick d z pl j) (up-to-plain cx pick d z pl j) y m
           ∙ rw (far j (omega arith) e (open-in j j (omega arith) (and-right (pick j) _ h))) (same j (omega arith) e))
           (λ _. same j (omega arith) e)
 
       go : (q : Bool) → isClosed (stateIn d y) ≡ q → isClosed (stateIn (closedUpTo cx pick k d) y) ≡ q
-      go true e = up-to-shut cx pick d z k y m e
+      go true e = up-to-shut cx pick d z pl k y m e
       go false e = rw (same k l e) e
 
 -- closing the banks that are looked at is closing all
-pub looked-closes : (cx : Context) (p : PlannerState) → Inv cx p →
+pub looked-closes : (cx : Context) (p : PlannerState) → Rest cx p →
     let d : Draft = record { planner = p; records = [] } in
     closedUpTo cx (λ x. true) (looked Close p) d ≡ planned cx Close p
 unfolding looked planned stepsOf plannedClose
 looked-closes cx p k =
     let d : Draft = record { planner = p; records = [] } in
-    sym (up-to-rest cx (λ x. true) d (k .size) (lookedUpTo (stateIn d) bankCount) bankCount (looked-le (stateIn d) bankCount) (omega arith) (λ x. looked-above (stateIn d) bankCount x))
+    sym (up-to-rest cx (λ x. true) d (k .inv .size) (k .plain) (lookedUpTo (stateIn d) bankCount) bankCount (looked-le (stateIn d) bankCount) (omega arith) (λ x. looked-above (stateIn d) bankCount x))

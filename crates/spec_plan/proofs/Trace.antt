@@ -3,9 +3,9 @@
 -- Assumes nothing.
 use Prim.Native.Nat.{ℕ, zero, suc, _+_, _≤_, _<_, _^_}
 use mathlib.Core.Path.{_≡_, refl, sym, _∙_}
-use mathlib.Core.Bool.{Bool, true, false, _&&_, cond}
+use mathlib.Core.Bool.{Bool, true, false, not, _&&_, _||_, cond, or-true}
 use mathlib.Core.List.{List, [], _∷_, _++_, reverse, reverse-append}
-use mathlib.Core.Option.{none, some}
+use mathlib.Core.Option.{some}
 use lib.Dec.{eqb}
 use lib.ListN.{length}
 use lib.Seq.{take-length}
@@ -18,24 +18,22 @@ use Rattle.record.specs.declared.Dualoct.{Dualoct}
 use Rattle.record.specs.declared.Record.{Record}
 use Rattle.record.specs.declared.Record.the-variants.{RowAt, ColAt, DataOf}
 use Rattle.record.specs.Record.{recordFits}
-use Rattle.spec_rules.specs.declared.Bank.{Bank}
 use Rattle.spec_rules.specs.declared.Write.{Write}
 use Rattle.spec_rules.specs.declared.Channel.{Channel}
 use Rattle.spec_rules.specs.Neighbour.{Context}
 use Rattle.spec_rules.specs.Packets.{traits, rowTraits, colTraits, instant, isPacket}
-use Rattle.spec_rules.specs.History.{first, leaving, bankOf, anyWrite, closes}
-use Rattle.spec_rules.specs.Rules.{openFor, stays}
+use Rattle.spec_rules.specs.History.{leaving, anyWrite}
 use Rattle.spec_rules.specs.Broken.{earlier, recordIn}
-use Rattle.spec_rules.specs.Channel.{fresh, stateOf, waitingOf, dueOf, leavingOf, after}
+use Rattle.spec_rules.specs.Channel.{fresh, waitingOf, dueOf, leavingOf, after}
 use Rattle.spec_rules.specs.Checks.{channelAfter}
 use Rattle.spec_rules.specs.Distances.{distances}
 use Rattle.spec_rules.specs.Checks.{bounds}
-use Rattle.spec_rules.specs.Earliest.{under, fits, earliest, leavesRight, slotFrom, soonest, leastFrom}
+use Rattle.spec_rules.specs.Earliest.{under, fits, earliest, mayStay, leavesRight, slotFrom, soonest, leastFrom}
 use Rattle.spec_rules.proofs.Bools.{not-both}
 use Rattle.spec_rules.proofs.ListLaws.{earlier-next}
-use Rattle.spec_rules.proofs.EarliestLaws.{moved-instant, moved-packet, moved-earliest, moved-fits, moved-least, moved-leaving, moved-right, leavesAt, able, picked-right, picked-late}
+use Rattle.spec_rules.proofs.EarliestLaws.{moved-instant, moved-packet, moved-earliest, moved-fits, moved-least, moved-leaving, moved-right, leavesAt, able, leaverFits, leaverFar, picked-right, picked-late}
 use Rattle.spec_plan.specs.declared.PlannerState.{PlannerState}
-use Rattle.spec_plan.specs.Plan.{Draft, waiting, stateIn, carried, slot, leaver, placedIn, sent, loaded}
+use Rattle.spec_plan.specs.Plan.{Draft, waiting, carried, slot, leaver, placedIn, sent, loaded}
 use Rattle.spec_plan.proofs.Invariant.{carried-in}
 use Rattle.spec_plan.proofs.SentLaws.{moved-word, here-leaving}
 
@@ -88,7 +86,9 @@ pub record Placed (cx : Context) (p : PlannerState) (es : List Record) (r : Reco
   pub word : recordFits (cx .settings) r ≡ true
   pub fitting : fits cx (channelBy cx (p .channel) es) r ≡ true
   pub late : earliest cx (channelBy cx (p .channel) es) r ≤ instant r
-  pub leaves : leavesRight cx (channelBy cx (p .channel) es) r (leavingOf cx (channelBy cx (p .channel) es) r) (instant r) ≡ true
+  pub leaves :
+      let ch : Channel = channelBy cx (p .channel) es in
+      leaverFar cx ch (leavingOf cx ch r) (instant r) ≡ true → leavesRight cx ch r (waitingOf (ch .buffer)) (leavingOf cx ch r) (instant r) ≡ true
   pub least : isPacket r ≡ true → instant r ≡ leastFrom cx (channelBy cx (p .channel) es) r (nowBy (p .now .0) es)
 
 -- what a planner p has come to be, with the records of this call
@@ -103,42 +103,42 @@ trace-start cx p = record { channel = refl; now = refl; each = tt }
 
 module _ (cx : Context) where
   -- data that are due pass the tests on the state
-  data-closes : (state : ℕ → Bank) (ws : List Write) (t : DataAt) (bytes : Dualoct) → anyWrite (λ w. closes cx state (DataOf t bytes) (w .bank)) ws ≡ false
-  unfolding traits
-  data-closes state [] t bytes = refl
-  data-closes state (w ∷ ws) t bytes = data-closes state ws t bytes
+  data-closes : (ws : List Write) → anyWrite (λ w. false) ws ≡ false
+  data-closes [] = refl
+  data-closes (w ∷ ws) = data-closes ws
 
   data-fits : (ch : Channel) (t : ℕ) (bytes : Dualoct) → dueOf cx ch ≡ some t → fits cx ch (DataOf (record { 0 = t }) bytes) ≡ true
   unfolding fits traits isPacket instant
-  data-fits ch t bytes e = rw (e, eq-eqb t t refl, data-closes (stateOf ch) (waitingOf (ch .buffer)) (record { 0 = t }) bytes)
+  data-fits ch t bytes e = rw (e, eq-eqb t t refl, data-closes (waitingOf (ch .buffer)))
 
   data-earliest : (ch : Channel) (t : DataAt) (bytes : Dualoct) → earliest cx ch (DataOf t bytes) ≤ 4
   unfolding earliest bounds distances traits
   data-earliest ch t bytes = omega arith
 
-  data-leaves : (ch : Channel) (t : DataAt) (bytes : Dualoct) (u : ℕ) → leavesRight cx ch (DataOf t bytes) (leavingOf cx ch (DataOf t bytes)) u ≡ true
+  data-leaves : (ch : Channel) (t : DataAt) (bytes : Dualoct) (u : ℕ) → leavesRight cx ch (DataOf t bytes) (waitingOf (ch .buffer)) (leavingOf cx ch (DataOf t bytes)) u ≡ true
   unfolding leaving traits
   data-leaves ch t bytes u = go (waitingOf (ch .buffer))
     where
-      go : (ws : List Write) → stays ws (traits (DataOf t bytes)) && true ≡ true
+      go : (ws : List Write) → mayStay cx ch (DataOf t bytes) ws && true ≡ true
       go [] = refl
-      go (x ∷ []) = refl
-      go (x ∷ y ∷ ws) = refl
+      go (x ∷ []) = rw (or-true (not (x .close || false)))
+      go (x ∷ y ∷ ws) = rw (or-true (not (x .close || (y .close || anyWrite (λ w. w .close) ws))))
 
-  -- a packet in its place breaks none of rules 9, 10, 12 and 16
-  placed-leaves : (p : PlannerState) (r : Record) → able cx (p .channel) (waitingOf (p .channel .buffer)) r ≡ true
-      → openFor (stateOf (p .channel)) (bankOf (first (waitingOf (p .channel .buffer)))) ≡ true
-      → leavesRight cx (p .channel) (placedIn cx p r) (leavingOf cx (p .channel) (placedIn cx p r)) (slot cx p r) ≡ true
+  -- a packet in its place breaks none of rules 9, 10, 12, 14, 16 and 17, where the PRER that its retire implies is in range
+  placed-leaves : (p : PlannerState) (r : Record) → able cx (p .channel) (waitingOf (p .channel .buffer)) r ≡ true → leaverFits cx (p .channel) r (waitingOf (p .channel .buffer)) ≡ true
+      → leaverFar cx (p .channel) (leavingOf cx (p .channel) (placedIn cx p r)) (slot cx p r) ≡ true
+      → leavesRight cx (p .channel) (placedIn cx p r) (waitingOf (p .channel .buffer)) (leavingOf cx (p .channel) (placedIn cx p r)) (slot cx p r) ≡ true
   unfolding slot leastFrom under traits rowTraits colTraits
-  placed-leaves p r a o =
+  placed-leaves p r a o far =
       let ch : Channel = p .channel in
       let ws : List Write = waitingOf (ch .buffer) in
       let t0 : ℕ = soonest cx ch r (p .now .0) in
       let t : ℕ = slotFrom cx ch r t0 ws in
       let m : ℕ = carried (leaver cx p r) (p .mask) in
-      let same : leavesAt cx ch t r ≡ leaver cx p r = sym (moved-leaving cx ch t m r) ∙ here-leaving cx r (record { planner = p; records = [] }) in
-      rw (moved-leaving cx ch t m r) (moved-right cx ch t m r (leavesAt cx ch t r)
-      ∙ picked-right cx ch r m t0 ws a o (λ e. rw (sym same ∙ e) (under-plain r)))
+      let moved : leavingOf cx ch (placedIn cx p r) ≡ leavesAt cx ch t r = moved-leaving cx ch t m r in
+      let same : leavesAt cx ch t r ≡ leaver cx p r = sym moved ∙ here-leaving cx r (record { planner = p; records = [] }) in
+      rw moved (moved-right cx ch t m r (leavesAt cx ch t r)
+      ∙ picked-right cx ch r m t0 ws a o (λ e. rw (sym same ∙ e) (under-plain r)) (rw moved at far))
     where
       under-plain : (r : Record) → traits (under 0xFFFF r) .masked ≡ false
       under-plain (RowAt t (Act b row)) = refl
@@ -146,8 +146,8 @@ module _ (cx : Context) where
       under-plain (RowAt t (Refa b)) = refl
       under-plain (RowAt t (Refp b)) = refl
       under-plain (ColAt t (Nocop n)) = refl
-      under-plain (ColAt t (Wr b c n)) = refl
-      under-plain (ColAt t (Rd b c n)) = refl
+      under-plain (ColAt t (Wr b c n x)) = refl
+      under-plain (ColAt t (Rd b c n x)) = refl
       under-plain (DataOf t d) = refl
 
   slot-late : (p : PlannerState) (r : Record) → earliest cx (p .channel) r ≤ slot cx p r
@@ -157,7 +157,7 @@ module _ (cx : Context) where
   module _ (p : PlannerState) (d : Draft) (k : Trace cx p d) where
     -- one packet more
     pub trace-sent : (r : Record) → isPacket r ≡ true → recordFits (cx .settings) r ≡ true → d .planner .mask < 2 ^ 16 → fits cx (d .planner .channel) r ≡ true
-        → able cx (d .planner .channel) (waiting d) r ≡ true → openFor (stateIn d) (bankOf (first (waiting d))) ≡ true → Trace cx p (sent cx r d)
+        → able cx (d .planner .channel) (waiting d) r ≡ true → leaverFits cx (d .planner .channel) r (waiting d) ≡ true → Trace cx p (sent cx r d)
     unfolding sent channelBy nowBy slot
     trace-sent r e w mi f a o =
         let ch : Channel = d .planner .channel in
@@ -196,7 +196,7 @@ module _ (cx : Context) where
               word = refl;
               fitting = rw (← k .channel) (data-fits (d .planner .channel) (d .planner .now .0 + cx .settings .cwd) bytes due);
               late = omega (arith, data-earliest (channelBy cx (p .channel) (reverse (d .records))) (record { 0 = d .planner .now .0 + cx .settings .cwd }) bytes);
-              leaves = data-leaves (channelBy cx (p .channel) (reverse (d .records))) (record { 0 = d .planner .now .0 + cx .settings .cwd }) bytes (d .planner .now .0 + cx .settings .cwd);
+              leaves = λ _. data-leaves (channelBy cx (p .channel) (reverse (d .records))) (record { 0 = d .planner .now .0 + cx .settings .cwd }) bytes (d .planner .now .0 + cx .settings .cwd);
               least = λ e. not-both false e refl;
             },
             k .each,

@@ -18,8 +18,9 @@ use Rattle.record.specs.Record.{recordBytes}
 use Rattle.record.specs.Request.{requestRead}
 use Rattle.spec_rules.specs.Neighbour.{Context}
 use Rattle.spec_rules.specs.Packets.{instant}
-use Rattle.spec_rules.specs.Rules.{dataDelay}
-use Rattle.spec_rules.specs.Channel.{waitingOf}
+use Rattle.spec_rules.specs.Rules.{longestDelay, impliedDelay}
+use Rattle.spec_rules.specs.declared.Channel.{Channel}
+use Rattle.spec_rules.specs.Channel.{waitingOf, leavingOf, after}
 use Rattle.spec_plan.specs.declared.PlannerState.{PlannerState}
 use Rattle.spec_plan.specs.declared.Outcome.{Outcome}
 use Rattle.spec_plan.specs.declared.Outcome.the-variants.{Refused, Made}
@@ -30,24 +31,25 @@ unfoldable pub listBytes : Settings → List Record → List ℕ
 listBytes s [] = []
 listBytes s (r ∷ l) = recordBytes s r ++ listBytes s l
 
--- no packet or data instant of these records passes the last instant
-unfoldable pub inTime : Context → List Record → Bool
-inTime cx [] = true
-inTime cx (r ∷ l) = leb (instant r + dataDelay cx r) horizon && inTime cx l
+-- no packet, data or implied instant of these records, from this state on, passes the last instant
+unfoldable pub inTime : Context → Channel → List Record → Bool
+inTime cx ch [] = true
+inTime cx ch (r ∷ l) =
+    (leb (instant r + longestDelay cx r) horizon && leb (instant r + impliedDelay cx (leavingOf cx ch r)) horizon) && inTime cx (after cx ch r) l
 
--- "7 horizon: a packet, D, read-data instant or now would pass 1,000,000,000"
-unfoldable pub timely : Context → Draft → Bool
-timely cx d = inTime cx (d .records) && leb (d .planner .now .0) horizon
+-- "7 horizon: a packet, D, read-data instant or now would pass 1,000,000,000"; "An implied instant past the limit is a horizon refusal"
+unfoldable pub timely : Context → PlannerState → Draft → Bool
+timely cx p d = inTime cx (p .channel) (d .records) && leb (d .planner .now .0) horizon
 
 -- 7, then "8 full: fewer free records [..] in the lent buffer than the call needs"
-unfoldable pub outcomeOf : Context → Draft → ℕ → Outcome
-outcomeOf cx d room =
-    cond (timely cx d) (cond (leb (length (d .records)) (room / 32)) (Made (length (d .records))) (Refused Full)) (Refused Horizon)
+unfoldable pub outcomeOf : Context → PlannerState → Draft → ℕ → Outcome
+outcomeOf cx p d room =
+    cond (timely cx p d) (cond (leb (length (d .records)) (room / 32)) (Made (length (d .records))) (Refused Full)) (Refused Horizon)
 
 -- "for close while a write waits"
 unfoldable pub unretired : Request → PlannerState → Bool
-unretired (Read at) p = false
-unretired (Write at mask d) p = false
+unretired (Read at close) p = false
+unretired (Write at mask d close) p = false
 unretired Refresh p = false
 unretired (Wait n) p = false
 unretired Flush p = false
@@ -56,7 +58,7 @@ unretired Close p = anyWaits (waitingOf (p .channel .buffer))
 -- what a call answers whose request says this: the request's own refusals first, then "15 unretired [..] after 6 and before 7"
 unfoldable pub outcomeBy : Context → PlannerState → RequestRead → ℕ → Outcome
 outcomeBy cx p (RefusedRequest why) room = Refused why
-outcomeBy cx p (Accepted q) room = cond (unretired q p) (Refused Unretired) (outcomeOf cx (planned cx q p) room)
+outcomeBy cx p (Accepted q) room = cond (unretired q p) (Refused Unretired) (outcomeOf cx p (planned cx q p) room)
 
 -- the answer to a request of these bytes, with a lent buffer of so many
 unfoldable pub planOutcome : Context → PlannerState → List ℕ → ℕ → Outcome

@@ -20,8 +20,8 @@ lookedUpTo state (suc n) = cond (isClosed (state n)) (lookedUpTo state n) (suc n
 -- "The walk should end as soon as no open bank remains, and hand back [..] a count, one for each bank it looked at": a request of
 -- another kind makes no such walk
 unfoldable pub looked : Request → PlannerState → ℕ
-looked (Read at) p = 0
-looked (Write at mask d) p = 0
+looked (Read at close) p = 0
+looked (Write at mask d close) p = 0
 looked Refresh p = 0
 looked (Wait n) p = 0
 looked Flush p = 0

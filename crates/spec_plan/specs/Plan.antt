@@ -67,12 +67,12 @@ openOn Refresh row = false
 abbrev pub hits : ℕ → ℕ → Write → Bool
 hits bank column w = eqb (w .bank) bank && eqb (w .column) column
 
--- "The planner sends NOCOP before an RD while two wait, and before a read [..] until the write concerned has retired"
-abbrev pub delays : Place → List Write → Bool
-delays at ws = two ws || anyWrite (hits (at .bank) (at .column)) ws
-
 abbrev pub anyWaits : List Write → Bool
 anyWaits ws = anyWrite (λ w. true) ws
+
+-- a WRA waits
+abbrev pub anyCloses : List Write → Bool
+anyCloses ws = anyWrite (λ w. w .close) ws
 
 module _ (cx : Context) where
   -- "Each ROW or COL packet takes the least instant, not before now, that the rules allow." (the theorem that joins this to the
@@ -132,11 +132,16 @@ module _ (cx : Context) where
   unfoldable pub reached : ℕ → ℕ → Draft → Draft
   reached bank row d = when (not (openOn (stateIn d bank) row)) (λ d. sent (rowPacket (Act bank row)) (cleared bank d)) d
 
-  -- "then RD."
-  unfoldable pub plannedRead : Place → Draft → Draft
-  plannedRead at d =
-      sent (colPacket (Rd (at .bank) (at .column) 0xFFFF))
-      (flushedWhile (delays at) (reached (at .bank) (at .row) d))
+  -- "The planner sends NOCOP before an RD while two wait, and before a read [..] until the write concerned has retired" (document
+  -- 02 a); "an RDA with a write waiting in its bank breaks 14. The planner sends NOCOPs before such an RDA." (f)
+  abbrev pub delays : Bool → Place → List Write → Bool
+  delays close at ws = two ws || (anyWrite (hits (at .bank) (at .column)) ws || (close && loses (at .bank) ws))
+
+  -- "then RD.", or RDA
+  unfoldable pub plannedRead : Bool → Place → Draft → Draft
+  plannedRead close at d =
+      sent (colPacket (Rd (at .bank) (at .column) 0xFFFF close))
+      (flushedWhile (delays close at) (reached (at .bank) (at .row) d))
 
   -- D after a WR, which now waits with its own mask, behind an older write or alone: "Each WR is followed in the list by its data
   -- record D, at WR + tCWD"
@@ -155,13 +160,13 @@ module _ (cx : Context) where
         records = d .records ++ (q ∷ []);
       }
 
-  -- WR carries the mask of the write that it retires, and never its own
-  unfoldable pub written : Place → ℕ → Dualoct → Draft → Draft
-  written at mask bytes d = loaded mask bytes (sent (colPacket (Wr (at .bank) (at .column) 0xFFFF)) d)
+  -- WR, or WRA, carries the mask of the write that it retires, and never its own
+  unfoldable pub written : Bool → Place → ℕ → Dualoct → Draft → Draft
+  written close at mask bytes d = loaded mask bytes (sent (colPacket (Wr (at .bank) (at .column) 0xFFFF close)) d)
 
-  -- "Write: WR, then D."
-  unfoldable pub plannedWrite : Place → ℕ → Dualoct → Draft → Draft
-  plannedWrite at mask bytes d = written at mask bytes (reached (at .bank) (at .row) d)
+  -- "Write: WR, then D."; of a WRA "the planner sends the NOCOPs for it in the same request"
+  unfoldable pub plannedWrite : Bool → Place → ℕ → Dualoct → Draft → Draft
+  plannedWrite close at mask bytes d = flushedWhile anyCloses (written close at mask bytes (reached (at .bank) (at .row) d))
 
   -- the next bank's turn
   unfoldable pub turned : Draft → Draft
@@ -190,8 +195,8 @@ module _ (cx : Context) where
   plannedClose d = closedUpTo (λ x. true) bankCount d
 
   unfoldable pub stepsOf : Request → Draft → Draft
-  stepsOf (Read at) d = plannedRead at d
-  stepsOf (WriteTo at mask bytes) d = plannedWrite at mask bytes d
+  stepsOf (Read at close) d = plannedRead close at d
+  stepsOf (WriteTo at mask bytes close) d = plannedWrite close at mask bytes d
   stepsOf RefreshBank d = plannedRefresh d
   stepsOf (Wait cycles) d = plannedWait cycles d
   stepsOf Flush d = plannedFlush d

@@ -1,6 +1,5 @@
 -- The planner's state (document 01, "Planner", "What is turned back").
 -- Assumes nothing.
-use Prim.Native.Nat.{ℕ}
 use mathlib.Core.Bool.{Bool, true, false, not, _&&_}
 use lib.Dec.{ltb}
 use Rattle.num.specs.Search.{allUpTo}
@@ -8,7 +7,8 @@ use Rattle.settings.specs.Instants.{isInstant}
 use Rattle.spec_rules.specs.declared.Bank.{Bank}
 use Rattle.spec_rules.specs.declared.Bank.the-variants.{Closed, Open, Refresh}
 use Rattle.spec_rules.specs.Neighbour.{bankCount, Context}
-use Rattle.spec_rules.specs.Channel.{fresh, stateOf}
+use Rattle.spec_rules.specs.History.{anyWrite}
+use Rattle.spec_rules.specs.Channel.{fresh, stateOf, waitingOf}
 use Rattle.spec_state.specs.Valid.{channelValid}
 use Rattle.spec_plan.specs.declared.PlannerState.{PlannerState}
 
@@ -22,9 +22,11 @@ notRefresh (Open r) = true
 notRefresh Refresh = false
 
 -- a state that is not refused: "a field out of its range", "two neighbours are both not closed, or the bank of a waiting write
--- is not open by ACT, and a planner state with a bank under refresh". Between requests no data are due.
+-- is not open by ACT, and a planner state with a bank under refresh". "A planner state with a WRA waiting falls under 1."
+-- Between requests no data are due.
 unfoldable pub plannerValid : Context → PlannerState → Bool
 plannerValid cx p =
     channelValid cx (p .channel)
     && (allUpTo (λ x. notRefresh (stateOf (p .channel) x)) bankCount
-    && (not (p .channel .due) && (isInstant (p .now .0) && (ltb (p .refresh) bankCount && (ltb (p .mask) 0x10000 && ltb (p .second) 0x10000)))))
+    && (not (anyWrite (λ w. w .close) (waitingOf (p .channel .buffer)))
+    && (not (p .channel .due) && (isInstant (p .now .0) && (ltb (p .refresh) bankCount && (ltb (p .mask) 0x10000 && ltb (p .second) 0x10000))))))

@@ -2,7 +2,7 @@
 -- Assumes nothing.
 use Prim.Native.Nat.{ℕ, _+_, _*_, _≤_, _<_}
 use mathlib.Core.Path.{_≡_}
-use mathlib.Core.Bool.{true}
+use mathlib.Core.Bool.{true, false}
 use mathlib.Core.List.{List, [], _∷_}
 use Rattle.settings.specs.declared.Settings.{Settings}
 use Rattle.packet.specs.declared.ColPacket.the-variants.{Wr}
@@ -24,14 +24,14 @@ FullRate s = (s .rtr ≤ 2 * s .cc) × (s .rcd ≤ s .rtr + s .cc)
 -- the records of a write to an open row: WR at t, under some mask, and its D
 pub record Hit (cx : Context) (at : Place) (t : ℕ) (bytes : Dualoct) (l : List Record) : Type 0 where
   pub mask : ℕ
-  pub made : l ≡ ColAt (record { 0 = t }) (Wr (at .bank) (at .column) mask) ∷ DataOf (record { 0 = t + cx .settings .cwd }) bytes ∷ []
+  pub made : l ≡ ColAt (record { 0 = t }) (Wr (at .bank) (at .column) mask false) ∷ DataOf (record { 0 = t + cx .settings .cwd }) bytes ∷ []
 
 -- of two writes in a row to open rows the second WR comes exactly tCC after the first
 abbrev pub AtFullRate : Context → PlannerState → Type 0
 AtFullRate cx p =
     (a b : Place) → a .bank < bankCount → b .bank < bankCount
     → openOn (stateOf (p .channel) (a .bank)) (a .row) ≡ true → openOn (stateOf (p .channel) (b .bank)) (b .row) ≡ true → (m n : ℕ) (d e : Dualoct) →
-    let first : Draft = planned cx (Write a m d) p in
-    let second : Draft = planned cx (Write b n e) (first .planner) in
+    let first : Draft = planned cx (Write a m d false) p in
+    let second : Draft = planned cx (Write b n e false) (first .planner) in
     let t : ℕ = first .planner .now .0 in
     Hit cx a t d (first .records) × Hit cx b (t + cx .settings .cc) e (second .records)

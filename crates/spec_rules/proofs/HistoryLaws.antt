@@ -51,6 +51,19 @@ last-le-newest q (e ∷ h) = go (q e) (last-le-newest q h)
     go true ih = omega arith
     go false ih = omega arith
 
+-- a kind that another one holds of
+pub last-within : (q p : Event → Bool) (P : Event → Type 0) → ((e : Event) → P e → q e ≡ true → p e ≡ true) → (h : List Event) → All P h → lastOf q h ≤ lastOf p h
+last-within q p P f [] a = zero-le
+last-within q p P f (e ∷ h) a = go (q e) refl (last-within q p P f h (a .1))
+  where
+    either : (c : Bool) → lastOf q h ≤ lastOf p h → lastOf q h ≤ cond c (max (e .at) (lastOf p h)) (lastOf p h)
+    either true ih = omega arith
+    either false ih = ih
+
+    go : (b : Bool) → q e ≡ b → lastOf q h ≤ lastOf p h → cond b (max (e .at) (lastOf q h)) (lastOf q h) ≤ cond (p e) (max (e .at) (lastOf p h)) (lastOf p h)
+    go true eb ih = rw (f e (a .0) eb) (omega arith)
+    go false eb ih = either (p e) ih
+
 -- an event that is the latest of its kind
 pub last-new : (b : Bool) (t l : ℕ) → (b ≡ true → l ≤ t) → cond b (max t l) l ≡ cond b t l
 last-new true t l h = let m : l ≤ t = h refl in omega arith

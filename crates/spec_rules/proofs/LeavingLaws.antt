@@ -2,7 +2,7 @@
 -- Assumes nothing.
 use Prim.Native.Nat.{ℕ, _+_, max}
 use mathlib.Core.Path.{_≡_, refl}
-use mathlib.Core.Bool.{Bool, true, false, cond, _&&_}
+use mathlib.Core.Bool.{Bool, true, false, cond, not, _&&_, _||_}
 use mathlib.Core.List.{List, [], _∷_}
 use mathlib.Core.Option.{none, some}
 use lib.Dec.{leb}
@@ -44,10 +44,10 @@ module _ (cx : Context) (ch : Channel) (at : PacketAt) (t : ℕ) where
   slot-row p [] = refl
   slot-row p (w ∷ ws) = rw (row-keeps at p)
 
-  pub slot-rd : (b c m : ℕ) (ws : List Write) → slotFrom cx ch (ColAt at (Rd b c m)) t ws ≡ t
+  pub slot-rd : (b c m : ℕ) (x : Bool) (ws : List Write) → slotFrom cx ch (ColAt at (Rd b c m x)) t ws ≡ t
   unfolding traits colTraits
-  slot-rd b c m [] = refl
-  slot-rd b c m (w ∷ ws) = refl
+  slot-rd b c m x [] = refl
+  slot-rd b c m x (w ∷ ws) = refl
 
   -- NOCOP retires the older one
   pub slot-nocop : (m : ℕ) (w : Write) (ws : List Write) → slotFrom cx ch (ColAt at (Nocop m)) t (w ∷ ws) ≡ max t (retireBound cx ch (ColAt at (Nocop m)) w)
@@ -55,13 +55,18 @@ module _ (cx : Context) (ch : Channel) (at : PacketAt) (t : ℕ) where
   slot-nocop m w [] = refl
   slot-nocop m w (y ∷ ws) = refl
 
-  -- WR beside one write retires it where it is due at t, and else leaves it
-  pub slot-wr-one : (b c m : ℕ) (w : Write)
-      → slotFrom cx ch (ColAt at (Wr b c m)) t (w ∷ []) ≡ cond (leb (w .at .0 + cx .settings .rtr) t) (max t (retireBound cx ch (ColAt at (Wr b c m)) w)) t
+  -- WR beside one write retires it where it is due at t, or where it is a WRA, and else leaves it
+  pub slot-wr-one : (b c m : ℕ) (x : Bool) (w : Write)
+      → slotFrom cx ch (ColAt at (Wr b c m x)) t (w ∷ []) ≡ cond (w .close || leb (w .at .0 + cx .settings .rtr) t) (max t (retireBound cx ch (ColAt at (Wr b c m x)) w)) t
   unfolding traits colTraits
-  slot-wr-one b c m w = refl
+  slot-wr-one b c m x w = go (w .close)
+    where
+      go : (z : Bool) → cond (not (not (z || false) || false) || leb (w .at .0 + cx .settings .rtr) t) (max t (retireBound cx ch (ColAt at (Wr b c m x)) w)) t
+          ≡ cond (z || leb (w .at .0 + cx .settings .rtr) t) (max t (retireBound cx ch (ColAt at (Wr b c m x)) w)) t
+      go true = refl
+      go false = refl
 
   -- WR beside two retires the older one
-  pub slot-wr-two : (b c m : ℕ) (w y : Write) (ws : List Write) → slotFrom cx ch (ColAt at (Wr b c m)) t (w ∷ y ∷ ws) ≡ max t (retireBound cx ch (ColAt at (Wr b c m)) w)
+  pub slot-wr-two : (b c m : ℕ) (x : Bool) (w y : Write) (ws : List Write) → slotFrom cx ch (ColAt at (Wr b c m x)) t (w ∷ y ∷ ws) ≡ max t (retireBound cx ch (ColAt at (Wr b c m x)) w)
   unfolding traits colTraits
-  slot-wr-two b c m w y ws = refl
+  slot-wr-two b c m x w y ws = refl

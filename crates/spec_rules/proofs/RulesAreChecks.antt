@@ -12,12 +12,12 @@ use Rattle.spec_rules.specs.declared.Bank.{Bank}
 use Rattle.spec_rules.specs.declared.Write.{Write}
 use Rattle.spec_rules.specs.declared.Channel.{Channel}
 use Rattle.spec_rules.specs.Neighbour.{bankCount, Context, Neighbours, near}
-use Rattle.spec_rules.specs.Packets.{onPins, traits, instant}
-use Rattle.spec_rules.specs.History.{Event, bankAfter, isClosed, isOpen, leaving, waitingAfter, bankOf, only, anyWrite, Deed, deeds, closes, events, keeps, over, has}
-use Rattle.spec_rules.specs.Distances.{Kind, packet, ROW, COL, ACT, onlyACT, PRER, RD, retire, bankAs, Banks, any, same, sameOrNeighbour, others, sameNeighbourOrClosed, within, Distance, distances, asked, each, ofRule}
-use Rattle.spec_rules.specs.Rules.{freeFor, openFor, dataDelay, stays, dataInPlace, ruleOf, rule1, rule4, rule9, rule12, rule14, rule15, rule16, rules}
+use Rattle.spec_rules.specs.Packets.{onPins, traits, instant, isPacket}
+use Rattle.spec_rules.specs.History.{Event, bankAfter, isClosed, isOpen, left, leaving, waitingAfter, bankOf, only, anyWrite, retireImplies, bankRetired, closesBank, isImplied, Deed, deeds, events, keeps, over, has}
+use Rattle.spec_rules.specs.Distances.{Kind, packet, ROW, COL, ACT, onlyACT, PRER, RD, WR, retire, implied, bankAs, Banks, any, same, sameOrNeighbour, others, sameNeighbourOrClosed, within, Distance, distances, asked, each, ofRule}
+use Rattle.spec_rules.specs.Rules.{freeFor, openFor, longestDelay, impliedDelay, stays, allLoseNone, fitsBetween, dataInPlace, ruleOf, rule1, rule4, rule9, rule12, rule14, rule15, rule16, rule17, rules}
 use Rattle.spec_rules.specs.Channel.{inBank, trackOf, stateOf, waitingOf, dueOf, leavingOf}
-use Rattle.spec_rules.specs.Checks.{boundOf, lastOn, lastAt, boundBanks, boundBy, bound, checkOf, checks}
+use Rattle.spec_rules.specs.Checks.{boundOf, lastOn, lastAt, boundBanks, boundBy, bound, checkOf, thenState, checks}
 use Rattle.spec_rules.proofs.Bools.{all-ext}
 use Rattle.spec_rules.proofs.HistoryLaws.{lastOf, Within, all-map, last-ext, any-law, bank-law}
 use Rattle.spec_rules.proofs.PrechargeLaws.{Reaching, seven-law}
@@ -38,9 +38,9 @@ module _ (f g : ℕ → Bank) (same : (x : ℕ) → f x ≡ g x) where
   open-same none = refl
   open-same (some b) = ap isOpen (same b)
 
-  closes-same : (cx : Context) (ws : List Write) (r : Record) → anyWrite (λ w. closes cx f r (w .bank)) ws ≡ anyWrite (λ w. closes cx g r (w .bank)) ws
-  closes-same cx [] r = refl
-  closes-same cx (w ∷ ws) r = rw (same (w .bank), closes-same cx ws r)
+  loses-same : (cx : Context) (ws : List Write) (o : Option ℕ) → anyWrite (λ w. closesBank cx f o (w .bank)) ws ≡ anyWrite (λ w. closesBank cx g o (w .bank)) ws
+  loses-same cx [] o = refl
+  loses-same cx (w ∷ ws) o = rw (same (w .bank), loses-same cx ws o)
 
 module _ (cx : Context) (ns : Neighbours cx) (ch : Channel) (es : List Record) (k : Tracks cx ch es) (r : Record) where
   abbrev h : List Event
@@ -82,6 +82,9 @@ module _ (cx : Context) (ns : Neighbours cx) (ch : Channel) (es : List Record) (
   cols : OnChannel COL
   cols = on-pins (λ e. e .traits .col) (ch .lasts .col .0) (k .lasts .col)
 
+  implieds : OnChannel implied
+  implieds = on-pins (λ e. isImplied (e .traits)) (ch .lasts .implied .0) (k .lasts .implied)
+
   opened : AtBank ACT
   opened = (k .lasts .opened, λ e f. f .opens-in)
 
@@ -97,7 +100,7 @@ module _ (cx : Context) (ns : Neighbours cx) (ch : Channel) (es : List Record) (
   -- what each line of the table asks for, in its order
   tracked : AllTracked (distances (cx .settings))
   unfolding distances
-  tracked = packets ▸ rows ▸ cols ▸ opened ▸ opened ▸ opened ▸ refl ▸ k .lasts .pre ▸ acts ▸ acts ▸ acts ▸ k .lasts .rd ▸ reads ▸ retires ▸ tt
+  tracked = packets ▸ rows ▸ cols ▸ opened ▸ opened ▸ opened ▸ refl ▸ k .lasts .pre ▸ acts ▸ acts ▸ acts ▸ k .lasts .rd ▸ reads ▸ retires ▸ implieds ▸ tt
 
   -- ---- a line of the table, by its banks
 
@@ -139,27 +142,43 @@ module _ (cx : Context) (ns : Neighbours cx) (ch : Channel) (es : List Record) (
 
   -- ---- the other rules
 
-  is1 : rule1 cx es r ≡ (isInstant (instant r) && leb (instant r + dataDelay cx r) horizon) && checkOf cx ch r 1
+  is1 : rule1 cx es r ≡ (isInstant (instant r) && (leb (instant r + longestDelay cx r) horizon && leb (instant r + impliedDelay cx (leavingOf cx ch r)) horizon)) && checkOf cx ch r 1
   unfolding rule1
-  is1 = rw (is-table 1)
+  is1 = rw (k .waiting, is-table 1)
 
   is4 : rule4 cx es r ≡ freeFor cx (stateOf ch) (traits r .opens)
   unfolding rule4
   is4 = sym (free-same (stateOf ch) (bankAfter cx es) (k .state) cx (traits r .opens))
 
-  is9 : rule9 cx es r ≡ openFor (stateOf ch) (traits r .reads) && (openFor (stateOf ch) (traits r .writes) && openFor (stateOf ch) (bankOf (leavingOf cx ch r)))
+  is9 : rule9 cx es r
+      ≡ openFor (thenState cx ch r) (traits r .reads) && (openFor (thenState cx ch r) (traits r .writes) && openFor (stateOf ch) (bankOf (leavingOf cx ch r)))
   unfolding rule9
   is9 =
+      let ws : List Write = waitingAfter cx es in
+      let then : ℕ → Bank = λ x. bankRetired cx ws r x (bankAfter cx es x) in
+      let mid : ℕ → Bank = λ x. bankRetired cx ws r x (stateOf ch x) in
       let same : (o : Option ℕ) → openFor (bankAfter cx es) o ≡ openFor (stateOf ch) o = λ o. sym (open-same (stateOf ch) (bankAfter cx es) (k .state) o) in
-      rw (k .waiting, same (traits r .reads), same (traits r .writes), same (bankOf (leaving cx (waitingAfter cx es) r)))
+      let later : (o : Option ℕ) → openFor then o ≡ openFor mid o = λ o. sym (open-same mid then (λ x. ap (bankRetired cx ws r x) (k .state x)) o) in
+      ap₂ _&&_ (later (traits r .reads)) (ap₂ _&&_ (later (traits r .writes)) (same (bankOf (leaving cx ws r))))
+      ∙ ap (λ (ws : List Write). openFor (λ x. bankRetired cx ws r x (stateOf ch x)) (traits r .reads) && (openFor (λ x. bankRetired cx ws r x (stateOf ch x)) (traits r .writes) && openFor (stateOf ch) (bankOf (leaving cx ws r)))) (sym (k .waiting))
 
   is12 : rule12 cx es r ≡ has (bankOf (leavingOf cx ch r)) || stays (waitingOf (ch .buffer)) (traits r)
   unfolding rule12
   is12 = rw (k .waiting)
 
-  is14 : rule14 cx es r ≡ not (anyWrite (λ w. closes cx (stateOf ch) r (w .bank)) (waitingOf (ch .buffer)))
+  is14 : rule14 cx es r ≡ allLoseNone cx (stateOf ch) (waitingOf (ch .buffer)) r
   unfolding rule14
-  is14 = rw (k .waiting, closes-same (stateOf ch) (bankAfter cx es) (k .state) cx (waitingAfter cx es) r)
+  is14 =
+      let ws : List Write = waitingAfter cx es in
+      let o : Option Write = leaving cx ws r in
+      let same : (x : ℕ) → stateOf ch x ≡ bankAfter cx es x = k .state in
+      let later : (x : ℕ) → bankRetired cx ws r x (stateOf ch x) ≡ bankRetired cx ws r x (bankAfter cx es x) = λ x. ap (bankRetired cx ws r x) (k .state x) in
+      rw (
+        k .waiting,
+        loses-same (stateOf ch) (bankAfter cx es) same cx ws (traits r .precharges),
+        loses-same (stateOf ch) (bankAfter cx es) same cx (left o ws) (retireImplies o),
+        loses-same (λ x. bankRetired cx ws r x (stateOf ch x)) (λ x. bankRetired cx ws r x (bankAfter cx es x)) later cx (left o ws) (traits r .implies),
+      )
 
   is15 : rule15 cx es r ≡ dataInPlace (dueOf cx ch) r
   unfolding rule15
@@ -169,7 +188,11 @@ module _ (cx : Context) (ns : Neighbours cx) (ch : Channel) (es : List Record) (
   unfolding rule16
   is16 = rw (k .waiting)
 
+  is17 : rule17 cx es r ≡ fitsBetween cx (waitingOf (ch .buffer)) r && checkOf cx ch r 17
+  unfolding rule17
+  is17 = rw (k .waiting, is-table 17)
+
   pub rules-are-checks : rules cx es r ≡ checks cx ch r
   unfolding rules checks
   rules-are-checks =
-      rw (is1, is-table 2, is-table 3, is4, is-table 5, is-table 6, is-table 7, is-table 8, is9, is-table 10, is-table 11, is12, is-table 13, is14, is15, is16)
+      rw (is1, is-table 2, is-table 3, is4, is-table 5, is-table 6, is-table 7, is-table 8, is9, is-table 10, is-table 11, is12, is-table 13, is14, is15, is16, is17)

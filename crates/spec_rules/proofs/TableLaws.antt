@@ -42,7 +42,7 @@ leb-maxLine f (d ∷ l) t = leb-max (f d) (maxLine f l) t ∙ rw (leb-maxLine f 
 
 -- the rules that have lines
 abbrev pub byDistance : List ℕ
-byDistance = 1 ∷ 2 ∷ 3 ∷ 5 ∷ 6 ∷ 7 ∷ 8 ∷ 10 ∷ 11 ∷ 13 ∷ []
+byDistance = 1 ∷ 2 ∷ 3 ∷ 5 ∷ 6 ∷ 7 ∷ 8 ∷ 10 ∷ 11 ∷ 13 ∷ 17 ∷ []
 
 abbrev listed : ℕ → List ℕ → Bool
 listed m [] = false

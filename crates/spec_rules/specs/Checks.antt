@@ -9,13 +9,14 @@ use lib.ListN.{length}
 use Rattle.num.specs.Search.{firstFalse}
 use Rattle.settings.specs.Instants.{horizon, isInstant}
 use Rattle.record.specs.declared.Record.{Record}
+use Rattle.spec_rules.specs.declared.Bank.{Bank}
 use Rattle.spec_rules.specs.declared.BankTrack.{BankTrack}
 use Rattle.spec_rules.specs.declared.Channel.{Channel}
 use Rattle.spec_rules.specs.Neighbour.{bankCount, Context, near}
 use Rattle.spec_rules.specs.Packets.{Traits, traits, instant}
-use Rattle.spec_rules.specs.History.{bankOf, only, anyWrite, deeds, closes, has}
-use Rattle.spec_rules.specs.Distances.{Kind, packet, ROW, COL, ACT, onlyACT, PRER, RD, WR, retire, bankAs, Banks, any, same, sameOrNeighbour, others, sameNeighbourOrClosed, Distance, distances, each, ofRule}
-use Rattle.spec_rules.specs.Rules.{freeFor, openFor, dataDelay, stays, dataInPlace}
+use Rattle.spec_rules.specs.History.{bankOf, only, bankRetired, deeds, has}
+use Rattle.spec_rules.specs.Distances.{Kind, packet, ROW, COL, ACT, onlyACT, PRER, RD, WR, retire, implied, bankAs, Banks, any, same, sameOrNeighbour, others, sameNeighbourOrClosed, Distance, distances, each, ofRule}
+use Rattle.spec_rules.specs.Rules.{freeFor, openFor, longestDelay, impliedDelay, stays, allLoseNone, fitsBetween, dataInPlace}
 use Rattle.spec_rules.specs.Broken.{lowest, recordIn}
 use Rattle.spec_rules.specs.Channel.{fresh, trackOf, stateOf, waitingOf, dueOf, leavingOf, after}
 
@@ -55,6 +56,7 @@ lastOn ch PRER = ch .lasts .pre .0
 lastOn ch RD = ch .lasts .rd .0
 lastOn ch WR = 0
 lastOn ch retire = 0
+lastOn ch implied = ch .lasts .implied .0
 
 -- of bank x
 abbrev pub lastAt : BankTrack → Kind → ℕ
@@ -67,6 +69,7 @@ lastAt k PRER = k .pre .0
 lastAt k RD = k .rd .0
 lastAt k WR = 0
 lastAt k retire = k .retire .0
+lastAt k implied = 0
 
 module _ (cx : Context) (ch : Channel) where
   -- what the banks ask of a deed at bank b, by those that it counts
@@ -94,10 +97,14 @@ module _ (cx : Context) (ch : Channel) where
     unfoldable pub checkOf : ℕ → Bool
     checkOf n = ofRule n (λ d. each (λ x. leb (bound d (x .traits)) (x .at)) (deeds cx (waitingOf (ch .buffer)) r)) (distances (cx .settings))
 
-    -- the sixteen tests in their order
+    -- the states once the write has left that the record retires
+    abbrev pub thenState : ℕ → Bank
+    thenState x = bankRetired cx (waitingOf (ch .buffer)) r x (stateOf ch x)
+
+    -- the seventeen tests in their order
     unfoldable pub checks : List Bool
     checks =
-        ((isInstant (instant r) && leb (instant r + dataDelay cx r) horizon) && checkOf 1)
+        ((isInstant (instant r) && (leb (instant r + longestDelay cx r) horizon && leb (instant r + impliedDelay cx (leavingOf cx ch r)) horizon)) && checkOf 1)
         ∷ checkOf 2
         ∷ checkOf 3
         ∷ freeFor cx (stateOf ch) (traits r .opens)
@@ -105,14 +112,15 @@ module _ (cx : Context) (ch : Channel) where
         ∷ checkOf 6
         ∷ checkOf 7
         ∷ checkOf 8
-        ∷ (openFor (stateOf ch) (traits r .reads) && (openFor (stateOf ch) (traits r .writes) && openFor (stateOf ch) (bankOf (leavingOf cx ch r))))
+        ∷ (openFor thenState (traits r .reads) && (openFor thenState (traits r .writes) && openFor (stateOf ch) (bankOf (leavingOf cx ch r))))
         ∷ checkOf 10
         ∷ checkOf 11
         ∷ (has (bankOf (leavingOf cx ch r)) || stays (waitingOf (ch .buffer)) (traits r))
         ∷ checkOf 13
-        ∷ not (anyWrite (λ w. closes cx (stateOf ch) r (w .bank)) (waitingOf (ch .buffer)))
+        ∷ allLoseNone cx (stateOf ch) (waitingOf (ch .buffer)) r
         ∷ dataInPlace (dueOf cx ch) r
         ∷ (not (traits r .masked) || has (bankOf (leavingOf cx ch r)))
+        ∷ (fitsBetween cx (waitingOf (ch .buffer)) r && checkOf 17)
         ∷ []
 
 -- the lowest rule that a record breaks in a state, or 0

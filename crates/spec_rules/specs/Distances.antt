@@ -10,10 +10,10 @@ use Rattle.num.specs.Search.{allUpTo}
 use Rattle.settings.specs.declared.Settings.{Settings}
 use Rattle.spec_rules.specs.Neighbour.{Context, near, bankCount}
 use Rattle.spec_rules.specs.Packets.{Traits, onPins}
-use Rattle.spec_rules.specs.History.{Deed, Event, only, over, keeps}
+use Rattle.spec_rules.specs.History.{Deed, Event, only, isImplied, over, keeps}
 
 -- what a deed is to a distance: any packet, a ROW packet, a COL packet; an ACT, where REFA counts as one, and an ACT alone; a PRER or
--- REFP; an RD, a WR, a retire
+-- REFP; an RD, a WR, a retire; an implied PRER
 pub data Kind : Type 0 where
   packet : Kind
   ROW : Kind
@@ -24,6 +24,7 @@ pub data Kind : Type 0 where
   RD : Kind
   WR : Kind
   retire : Kind
+  implied : Kind
 
 -- the bank of a deed of this kind; a packet, a ROW and a COL packet count as of bank 0, for no distance between them asks for banks
 abbrev pub bankAs : Kind → Traits → Option ℕ
@@ -36,6 +37,7 @@ bankAs PRER k = k .precharges
 bankAs RD k = k .reads
 bankAs WR k = k .writes
 bankAs retire k = k .retires
+bankAs implied k = only (isImplied k) (some 0)
 
 -- which banks the two deeds must have
 pub data Banks : Type 0 where
@@ -97,6 +99,8 @@ distances s =
     -- "13. To PRER, same or neighbour: RD + tRDP, retire + tRTP."
     ∷ (rule 13 from RD to PRER for sameOrNeighbour is s .rdp)
     ∷ (rule 13 from retire to PRER for sameOrNeighbour is s .rtp)
+    -- "Rule 17 (House): [..] no ROW packet comes before an implied PRER still due."
+    ∷ (rule 17 from implied to ROW for any is 0)
     ∷ []
 
 -- ---- what the table says

@@ -21,20 +21,22 @@ pub struct BankTrack {
 }
 
 // The last instants of the whole channel, 0 where there was none: of a ROW or COL packet, of a ROW packet, of a COL packet, of a
-// PRER or REFP, and of an RD.
+// PRER or REFP, of an RD, and of a PRER that an RDA or the retire of a WRA implied.
 pub struct LastInstants {
     pub packet: PacketAt,
     pub row: PacketAt,
     pub col: PacketAt,
     pub pre: PacketAt,
     pub rd: PacketAt,
+    pub implied: PacketAt,
 }
 
-// A write that waits: its bank and column, and the instant of its WR.
+// A write that waits: its bank and column, the instant of its WR, and whether its retire closes the bank (WRA).
 pub struct Write {
     pub bank: u32,
     pub column: u32,
     pub at: PacketAt,
+    pub close: bool,
 }
 
 // The writes that wait (document 02 a): "Two may wait, in order". The older one stands first.

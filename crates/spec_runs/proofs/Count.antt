@@ -72,8 +72,8 @@ read-retires : (cx : Context) (m : ModelState) (r : Record) (k : ℕ) → readOf
 unfolding readOf retiredWrite leaving traits colTraits
 read-retires cx m (RowAt t p) k e = cc
 read-retires cx m (ColAt t (Nocop mask)) k e = cc
-read-retires cx m (ColAt t (Wr b c mask)) k e = cc
-read-retires cx m (ColAt t (Rd b c mask)) k e = refl
+read-retires cx m (ColAt t (Wr b c mask x)) k e = cc
+read-retires cx m (ColAt t (Rd b c mask x)) k e = refl
 read-retires cx m (DataOf t d) k e = cc
 
 -- an answer counts the ones of these masks where the record is taken, and none where it is not

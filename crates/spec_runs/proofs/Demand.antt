@@ -23,9 +23,9 @@ use Rattle.spec_rules.specs.declared.Channel.{Channel}
 use Rattle.spec_rules.specs.Neighbour.{Context, Neighbours, contextOf}
 use Rattle.spec_rules.specs.Packets.{instant}
 use Rattle.spec_rules.specs.History.{waitingAfter}
-use Rattle.spec_rules.specs.Rules.{dataDelay}
+use Rattle.spec_rules.specs.Rules.{longestDelay, impliedDelay}
 use Rattle.spec_rules.specs.Broken.{recordIn, ruleAt, firstBroken, everyRule}
-use Rattle.spec_rules.specs.Channel.{fresh, waitingOf, after}
+use Rattle.spec_rules.specs.Channel.{fresh, waitingOf, leavingOf, after}
 use Rattle.spec_rules.specs.Checks.{checkOf, checks, judged, foundAt}
 use Rattle.spec_rules.proofs.Bools.{and-left, and-right}
 use Rattle.spec_rules.proofs.BrokenLaws.{lowest-none}
@@ -68,7 +68,7 @@ module _ (cx : Context) where
   passed-in-time : (ch : Channel) (r : Record) → judged cx ch r ≡ 0 → instant r ≤ horizon
   unfolding judged checks
   passed-in-time ch r e =
-      let within : Bool = isInstant (instant r) && leb (instant r + dataDelay cx r) horizon in
+      let within : Bool = isInstant (instant r) && (leb (instant r + longestDelay cx r) horizon && leb (instant r + impliedDelay cx (leavingOf cx ch r)) horizon) in
       let one : within && checkOf cx ch r 1 ≡ true = lowest-none 0 (checks cx ch r) e 0 in
       let range = and-left (isInstant (instant r)) _ (and-left within _ one) in
       leb-true (instant r) horizon (and-right (leb 4 (instant r)) _ range)
@@ -133,7 +133,7 @@ module _ (cx : Context) (v : valid (cx .settings) ≡ true) (ns : Neighbours cx)
       let first : List Call = e .first in
       let c : OfBytes first = first-bytes first (e .last ∷ []) (rw (e .ends) at b) in
       rw (e .ends, planner-last cx freshPlanner first (e .last))
-      (flush-empties cx ns [] (listed cx freshPlanner first) (plannerAfter cx freshPlanner first) (run-made cx ns first c .inv) _ _ _
+      (flush-empties cx ns [] (listed cx freshPlanner first) (plannerAfter cx freshPlanner first) (run-made cx ns first c .rest) _ _ _
       (sim-run cx ns [] first c) (e .last .request) (e .last .room) (e .flush) (e .taken))
 
   -- and the masks that were retired under are those of the accepted writes, in order

@@ -292,8 +292,8 @@ module _ (cx : Context) where
       one (RowAt t (Refa b)) = refl
       one (RowAt t (Refp b)) = refl
       one (ColAt t (Nocop m)) = refl
-      one (ColAt t (Wr b c m)) = refl
-      one (ColAt t (Rd b c m)) = refl
+      one (ColAt t (Wr b c m x)) = refl
+      one (ColAt t (Rd b c m x)) = refl
       one (DataOf t d) = refl
 
   module _ (rooms : List ℕ) (m : ModelState) (store : List ℕ) (l : List Record) (k : Ready m store l) where

@@ -1,7 +1,7 @@
 -- The planner in a call, the model that has taken its records, and flat memory: flat memory is the store with the waiting writes
 -- done, in order. Each packet of the planner keeps this.
 -- Assumes nothing.
-use Prim.Native.Nat.{ℕ, _+_, _^_, _<_, max}
+use Prim.Native.Nat.{ℕ, _+_, _^_, _≤_, _<_, max}
 use mathlib.Core.Path.{_≡_, refl, sym, ap, _∙_}
 use mathlib.Core.Bool.{Bool, true, false, _&&_, cond}
 use mathlib.Core.List.{List, [], _∷_, _++_, append-nil, append-assoc}
@@ -22,17 +22,19 @@ use Rattle.spec_rules.specs.declared.Write.{Write}
 use Rattle.spec_rules.specs.declared.Buffer.{Buffer}
 use Rattle.spec_rules.specs.declared.Buffer.the-variants.{Empty, One, Two}
 use Rattle.spec_rules.specs.declared.Channel.{Channel}
-use Rattle.spec_rules.specs.Neighbour.{bankCount, Context}
+use Rattle.spec_rules.specs.Neighbour.{bankCount, Context, near}
 use Rattle.spec_rules.specs.Packets.{traits, colTraits, instant}
-use Rattle.spec_rules.specs.History.{first, rest, onlyWrite, passed, leaving, left, loads, queued, two}
-use Rattle.spec_rules.specs.Channel.{stateOf, waitingOf, bankNext, leavingOf, afterData, after}
-use Rattle.spec_rules.specs.Earliest.{placedAt, under, retireBound, slotFrom, soonest, leastFrom}
+use Rattle.spec_rules.specs.History.{first, rest, onlyWrite, passed, leaving, left, loads, queued, retireImplies, closedBy, reaches, two}
+use Rattle.spec_rules.specs.Channel.{stateOf, waitingOf, leavingOf, afterData, after}
+use Rattle.spec_rules.specs.Earliest.{placedAt, under, earliest, retireLeast, slotFrom, leastFrom}
 use Rattle.spec_rules.proofs.Bools.{not-both, neither}
 use Rattle.spec_rules.proofs.TrackLaws.{keeps-all}
 use Rattle.spec_state.proofs.RoundTrip.{WritesIn}
 use Rattle.spec_plan.specs.Plan.{Draft, rowPacket, colPacket, waiting, stateIn, carried, shifted, slot, leaver, placedIn, sent, flushed, loaded, written}
-use Rattle.spec_plan.proofs.SentLaws.{Sized, here-leaving, sent-channel, sent-mask, sent-second, sent-records, sent-state, row-gone, read-gone, flushed-gone, row-waiting, read-waiting, sent-waiting, flushed-waiting}
-use Rattle.spec_plan.proofs.Invariant.{inBanks, none-picked, Changed, left-in}
+use Rattle.spec_plan.proofs.SentLaws.{Sized, here-leaving, sent-channel, sent-mask, sent-second, sent-records, sent-state, row-gone, read-gone, flushed-gone, row-waiting, read-waiting, sent-waiting, flushed-waiting, flushed-state}
+use Rattle.spec_plan.proofs.Invariant.{inBanks, none-picked, Changed, left-in, newestCloses}
+use Rattle.spec_plan.proofs.PlanLaws.{implied-changed, rest-far}
+use Rattle.spec_state.proofs.AfterLaws.{stateBy}
 use Rattle.spec_model.specs.declared.ModelState.{ModelState}
 use Rattle.spec_model.specs.Store.{dualoctAt, dualoct, dualoctBytes, masked}
 use Rattle.spec_model.specs.Model.{freshModel, openRow, retireMask, retiredWrite, retiredTo, storeNext, refrNext, bytesLeft, bytesNext, secondNext, modelNext, readOf}
@@ -210,29 +212,35 @@ module _ (cx : Context) (st : List ℕ) (before : List Record) where
     unfolding bytesNext secondNext readOf placedAt under answerOf
     sim-row p i q new far c = rw append-nil at (sim-kept (rowPacket p) (row-gone cx p d) (row-waiting cx p d) i q new far c tt refl refl)
 
-    -- RD leaves the waiting writes
-    pub sim-rd : (b c : ℕ) → Sized d → WritesIn cx (waiting d)
-        → Sim cx st before (sent cx (colPacket (Rd b c 0xFFFF)) d) memory (answers ++ (dualoct stored (dualoctAt cx b (openRow (stateIn d b)) c) ∷ [])) masks
-    unfolding bytesNext secondNext readOf placedAt under answerOf bankNext retiredWrite
-    sim-rd b c n i =
-        let x : Record = colPacket (Rd b c 0xFFFF) in
-        sim-kept x (read-gone cx b c 0xFFFF d) (read-waiting cx b c 0xFFFF d) i (λ x. false) Closed (none-picked (waiting d)) (sent-state cx x d n) tt
-        (rw (here-leaving cx x d ∙ read-gone cx b c 0xFFFF d)) refl
+    -- RD leaves the waiting writes, and RDA closes none of their banks
+    pub sim-rd : (close : Bool) (b c : ℕ) → Sized d → WritesIn cx (waiting d) → close && inBanks (near cx b) (waiting d) ≡ false
+        → Sim cx st before (sent cx (colPacket (Rd b c 0xFFFF close)) d) memory (answers ++ (dualoct stored (dualoctAt cx b (openRow (stateIn d b)) c) ∷ [])) masks
+    unfolding bytesNext secondNext readOf placedAt under answerOf retiredWrite stateBy traits colTraits
+    sim-rd close b c n i far =
+        let x : Record = colPacket (Rd b c 0xFFFF close) in
+        let q : ℕ → Bool = reaches cx (cond close (some b) none) in
+        let ch : Changed q Closed (stateIn d) (stateIn (sent cx x d)) = λ y m. sent-state cx x d n y m ∙ rw (read-gone cx b c 0xFFFF close d) (implied-changed cx (cond close (some b) none) y (stateIn d y)) in
+        sim-kept x (read-gone cx b c 0xFFFF close d) (read-waiting cx b c 0xFFFF close d) i q Closed (reached-none close far) ch tt
+        (rw (here-leaving cx x d ∙ read-gone cx b c 0xFFFF close d)) refl
+      where
+        reached-none : (close : Bool) → close && inBanks (near cx b) (waiting d) ≡ false → inBanks (reaches cx (cond close (some b) none)) (waiting d) ≡ false
+        reached-none true h = h
+        reached-none false h = none-picked (waiting d)
 
     -- what a packet that may retire makes of flat memory: the store takes what leaves
-    leaves-done : (x : Record) → Sized d → WritesIn cx (waiting d) → Changed (λ x. false) Closed (stateIn d) (stateIn (sent cx x d)) →
+    leaves-done : (x : Record) → Sized d → WritesIn cx (waiting d) → (q : ℕ → Bool) → Changed q Closed (stateIn d) (stateIn (sent cx x d)) → inBanks q (left (leaver cx (d .planner) x) (waiting d)) ≡ false →
         let o : Option Write = leaver cx (d .planner) x in
         memory ≡ doneAll cx (sent cx x d .planner .channel) (left o (waiting d)) (shifted o (d .planner .mask) (d .planner .second)) (d .planner .second) (bytesLeft o older newer) newer
         (retiredTo cx (d .planner .channel) o (carried o (d .planner .mask)) older stored)
     unfolding leaving
-    leaves-done x n i c =
+    leaves-done x n i q c far =
         let o : Option Write = leaver cx (d .planner) x in
         let here : Record = placedAt (slot cx (d .planner) x) x in
         let test : Bool = traits here .notRead && passed cx (first (waiting d)) (instant here) in
         let m : ℕ = d .planner .mask in
         let n : ℕ = d .planner .second in
         k .flat ∙ leave-done cx (d .planner .channel) (d .planner .channel .buffer) test m n older newer stored
-        ∙ done-far cx (d .planner .channel) (sent cx x d .planner .channel) (λ x. false) Closed c (left o (waiting d)) (left-in cx o (waiting d) i) (none-picked (left o (waiting d)))
+        ∙ done-far cx (d .planner .channel) (sent cx x d .planner .channel) q Closed c (left o (waiting d)) (left-in cx o (waiting d) i) far
         (shifted o m n) n (bytesLeft o older newer) newer (retiredTo cx (d .planner .channel) o (carried o m) older stored)
 
     leaves-masks : (x : Record) →
@@ -246,24 +254,30 @@ module _ (cx : Context) (st : List ℕ) (before : List Record) where
         ∙ ap (λ (l : List ℕ). retired ++ l) (leave-masks (d .planner .channel .buffer) test (d .planner .mask) (d .planner .second)) ∙ k .written-under
 
     -- NOCOP retires the older write
-    pub sim-flushed : Sized d → WritesIn cx (waiting d) → Sim cx st before (flushed cx d) memory answers masks
-    unfolding flushed bytesNext secondNext readOf placedAt under answerOf storeNext retiredWrite retireMask bankNext refrNext
-    sim-flushed n i =
+    pub sim-flushed : Sized d → WritesIn cx (waiting d) → newestCloses (waiting d) ≡ true → Sim cx st before (flushed cx d) memory answers masks
+    unfolding flushed bytesNext secondNext readOf placedAt under answerOf storeNext retiredWrite retireMask refrNext
+    sim-flushed n i nq =
         let x : Record = colPacket (Nocop 0xFFFF) in
         let z : Draft = sent cx x d in
         let r : Record = placedIn cx (d .planner) x in
         let o : Option Write = leaver cx (d .planner) x in
-        let c : Changed (λ x. false) Closed (stateIn d) (stateIn z) = sent-state cx x d n in
+        let q : ℕ → Bool = reaches cx (retireImplies (first (waiting d))) in
+        let c : Changed q Closed (stateIn d) (stateIn z) = λ y m. flushed-state cx d n y m ∙ implied-changed cx (retireImplies (first (waiting d))) y (stateIn d y) in
         let ws : waiting z ≡ left o (waiting d) = nocop-left in
+        let far : inBanks q (left o (waiting d)) ≡ false = rw (flushed-gone cx d) (left-far (waiting d) nq) in
         record {
           refr = refr;
           older = bytesLeft (leavingOf cx (d .planner .channel) r) older newer;
           newer = newer;
           at = rw append-nil at (sim-more z r memory masks (sent-records cx x d) (sent-channel cx x d) tt
-              (rw (ws, sent-mask cx x d, sent-second cx x d, here-leaving cx x d) (leaves-done x n i c))
+              (rw (ws, sent-mask cx x d, sent-second cx x d, here-leaving cx x d) (leaves-done x n i q c far))
               (rw (ws, sent-mask cx x d, sent-second cx x d, here-leaving cx x d) (leaves-masks x)));
         }
       where
+        left-far : (ws : List Write) → newestCloses ws ≡ true → inBanks (reaches cx (retireImplies (first ws))) (left (first ws) ws) ≡ false
+        left-far [] h = refl
+        left-far (w ∷ ws) h = rest-far cx (w ∷ ws) h
+
         nocop-left : waiting (sent cx (colPacket (Nocop 0xFFFF)) d) ≡ left (leaver cx (d .planner) (colPacket (Nocop 0xFFFF))) (waiting d)
         nocop-left = flushed-waiting cx d ∙ rw (flushed-gone cx d) (sym (go (waiting d)))
           where
@@ -272,24 +286,30 @@ module _ (cx : Context) (st : List ℕ) (before : List Record) where
             go (w ∷ ws) = refl
 
   -- WR with two waiting retires the older one: fewer than two are left
-  pub written-few : (d : Draft) (b c : ℕ) → two (left (leaver cx (d .planner) (colPacket (Wr b c 0xFFFF))) (waiting d)) ≡ false
+  pub written-few : (d : Draft) (b c : ℕ) (x : Bool) → two (left (leaver cx (d .planner) (colPacket (Wr b c 0xFFFF x))) (waiting d)) ≡ false
   unfolding leaving slot leastFrom placedAt instant traits colTraits waitingOf
-  written-few d b c = go (d .planner .channel .buffer) (soonest cx (d .planner .channel) (colPacket (Wr b c 0xFFFF)) (d .planner .now .0))
+  written-few d b c cl = go (d .planner .channel .buffer) (max (d .planner .now .0) (earliest cx (d .planner .channel) (colPacket (Wr b c 0xFFFF cl))))
     where
+      r : Record
+      r = colPacket (Wr b c 0xFFFF cl)
+
+      late : (a b t : ℕ) → a ≤ max t (max a b)
+      late a b t = omega arith
+
       one : (q : Bool) (x : Write) → two (left (onlyWrite q (some x)) (x ∷ [])) ≡ false
       one true x = refl
       one false x = refl
 
       go : (f : Buffer) (t0 : ℕ)
-          → two (left (onlyWrite (passed cx (first (waitingOf f)) (slotFrom cx (d .planner .channel) (colPacket (Wr b c 0xFFFF)) t0 (waitingOf f))) (first (waitingOf f))) (waitingOf f)) ≡ false
+          → two (left (onlyWrite (passed cx (first (waitingOf f)) (slotFrom cx (d .planner .channel) (colPacket (Wr b c 0xFFFF cl)) t0 (waitingOf f))) (first (waitingOf f))) (waitingOf f)) ≡ false
       go Empty t0 = refl
-      go (One x) t0 = one (leb (x .at .0 + cx .settings .rtr) (slotFrom cx (d .planner .channel) (colPacket (Wr b c 0xFFFF)) t0 (x ∷ []))) x
-      go (Two x y) t0 = rw (le-leb (x .at .0 + cx .settings .rtr) (max t0 (retireBound cx (d .planner .channel) (colPacket (Wr b c 0xFFFF)) x)) (omega arith))
+      go (One x) t0 = one (leb (x .at .0 + cx .settings .rtr) (slotFrom cx (d .planner .channel) (colPacket (Wr b c 0xFFFF cl)) t0 (x ∷ []))) x
+      go (Two x y) t0 = rw (le-leb (x .at .0 + cx .settings .rtr) (max t0 (max (x .at .0 + cx .settings .rtr) (retireLeast cx (d .planner .channel) (colPacket (Wr b c 0xFFFF cl)) x))) (late (x .at .0 + cx .settings .rtr) (retireLeast cx (d .planner .channel) (colPacket (Wr b c 0xFFFF cl)) x) t0))
 
   -- WR retires what is due, and waits itself, with the data of its D
-  module _ (d : Draft) (memory : List ℕ) (answers : List (List ℕ)) (masks : List ℕ) (refr : ℕ) (older newer : Dualoct) (k : SimAt cx st before d memory answers masks refr older newer) (at : Place) (row mask : ℕ) (bytes : Dualoct) where
+  module _ (d : Draft) (memory : List ℕ) (answers : List (List ℕ)) (masks : List ℕ) (refr : ℕ) (older newer : Dualoct) (k : SimAt cx st before d memory answers masks refr older newer) (close : Bool) (at : Place) (row mask : ℕ) (bytes : Dualoct) where
     abbrev x : Record
-    x = colPacket (Wr (at .bank) (at .column) 0xFFFF)
+    x = colPacket (Wr (at .bank) (at .column) 0xFFFF close)
 
     abbrev z : Draft
     z = sent cx x d
@@ -301,7 +321,7 @@ module _ (cx : Context) (st : List ℕ) (before : List Record) where
     o = leaver cx (d .planner) x
 
     abbrev new : Write
-    new = record { bank = at .bank; column = at .column; at = record { 0 = slot cx (d .planner) x } }
+    new = record { bank = at .bank; column = at .column; at = record { 0 = slot cx (d .planner) x }; close = close }
 
     waits : waiting z ≡ queued (left o (waiting d)) new
     unfolding loads placedAt under
@@ -341,22 +361,26 @@ module _ (cx : Context) (st : List ℕ) (before : List Record) where
     unfolding traits
     data-stays ws t = keeps-all cx (DataOf t bytes) ws refl
 
-    pub sim-written : (bytes .dqa < 2 ^ 64) × (bytes .dqb < 2 ^ 64) → Sized d → WritesIn cx (waiting d) → at .bank < bankCount → stateIn d (at .bank) ≡ Open row
-        → Sim cx st before (written cx at mask bytes d) (masked memory (dualoctAt cx (at .bank) row (at .column)) mask (dualoctBytes bytes)) answers (masks ++ (mask ∷ []))
-    unfolding written loaded bytesNext secondNext readOf answerOf storeNext retiredWrite openRow refrNext after afterData bankNext
-    sim-written i n wi m op =
+    wr-state : (y : ℕ) (b : Bank) → retireImplies o ≡ none → stateBy cx o x y b ≡ b
+    unfolding stateBy traits colTraits
+    wr-state y b e = rw e
+
+    pub sim-written : (bytes .dqa < 2 ^ 64) × (bytes .dqb < 2 ^ 64) → Sized d → WritesIn cx (waiting d) → retireImplies o ≡ none → at .bank < bankCount → stateIn d (at .bank) ≡ Open row
+        → Sim cx st before (written cx close at mask bytes d) (masked memory (dualoctAt cx (at .bank) row (at .column)) mask (dualoctBytes bytes)) answers (masks ++ (mask ∷ []))
+    unfolding written loaded bytesNext secondNext readOf answerOf storeNext retiredWrite openRow refrNext after afterData
+    sim-written i n wi pl m op =
         let y : Draft = loaded cx mask bytes z in
         let q : Record = DataOf (record { 0 = z .planner .now .0 + cx .settings .cwd }) bytes in
         let ws : List Write = left o (waiting d) in
         let m1 : ℕ = shifted o (d .planner .mask) (d .planner .second) in
         let a1 : Dualoct = bytesLeft o older newer in
-        let c : Changed (λ x. false) Closed (stateIn d) (stateIn z) = sent-state cx x d n in
-        let few : two ws ≡ false = written-few d (at .bank) (at .column) in
+        let c : Changed (λ x. false) Closed (stateIn d) (stateIn z) = λ y m. sent-state cx x d n y m ∙ wr-state y (stateIn d y) pl in
+        let few : two ws ≡ false = written-few d (at .bank) (at .column) close in
         let state : stateIn z (at .bank) ≡ Open row = c (at .bank) m ∙ op in
         let store1 : List ℕ = retiredTo cx (d .planner .channel) o (carried o (d .planner .mask)) older (stored d memory answers masks refr older newer k) in
         let flat : masked memory (dualoctAt cx (at .bank) row (at .column)) mask (dualoctBytes bytes)
         ≡ doneAll cx (z .planner .channel) (queued ws new) (cond (two (queued ws new)) m1 mask) (cond (two (queued ws new)) mask (d .planner .second)) (cond (two (queued ws new)) a1 bytes) (cond (two (queued ws new)) bytes newer) store1 =
-        sym (join-done cx (z .planner .channel) ws few new mask m1 (d .planner .second) bytes a1 newer store1 ∙ rw (state, ← leaves-done d memory answers masks refr older newer k x n wi c)) in
+        sym (join-done cx (z .planner .channel) ws few new mask m1 (d .planner .second) bytes a1 newer store1 ∙ rw (state, ← leaves-done d memory answers masks refr older newer k x n wi (λ x. false) c (none-picked ws))) in
         let under-masks : retired d memory answers masks refr older newer k ++ maskIf o (carried o (d .planner .mask)) ++ (waitMasks ws m1 (d .planner .second) ++ (mask ∷ [])) ≡ masks ++ (mask ∷ []) =
         sym (append-assoc (retired d memory answers masks refr older newer k ++ maskIf o (carried o (d .planner .mask))) (waitMasks ws m1 (d .planner .second)) (mask ∷ []))
         ∙ ap (λ (l : List ℕ). l ++ (mask ∷ [])) (leaves-masks d memory answers masks refr older newer k x) in

@@ -20,9 +20,7 @@ use Rattle.spec_plan.specs.Planner.{freshPlanner}
 use Rattle.spec_plan.specs.Plan.{Draft, stepsOf, planned}
 use Rattle.spec_plan.specs.Call.{accepted, draftBy, draftOf, planNext, planRecords}
 use Rattle.spec_plan.specs.Runs.{Call, OfBytes, plannerAfter, listed}
-use Rattle.spec_plan.proofs.Invariant.{Inv}
-use Rattle.spec_plan.proofs.Trace.{trace-start}
-use Rattle.spec_plan.proofs.CallLaws.{call-made}
+use Rattle.spec_plan.proofs.CallLaws.{Rest, rested as planRested, made-rest, called, call-made}
 use Rattle.spec_plan.proofs.Legal.{run-fresh}
 use Rattle.spec_model.specs.Model.{freshModel}
 use Rattle.spec_runs.specs.Flat.{Fed, memoryBy, answersBy, memoryOf, answersOf, flatNext, flatAnswer, flatAfter, flatAnswers, masksBy, masksOf, flatMask, flatMasks}
@@ -42,14 +40,14 @@ module _ (cx : Context) (ns : Neighbours cx) (st : List ℕ) where
 
   -- ---- one call
 
-  module _ (before : List Record) (p : PlannerState) (v : Inv cx p) (memory : List ℕ) (answers : List (List ℕ)) (masks : List ℕ) (k : Between before p memory answers masks) where
+  module _ (before : List Record) (p : PlannerState) (v : Rest cx p) (memory : List ℕ) (answers : List (List ℕ)) (masks : List ℕ) (k : Between before p memory answers masks) where
     abbrev both : Both cx ns p st before memory answers masks (rested p)
-    both = (record { trace = trace-start cx p; inv = v }, k)
+    both = (planRested cx p v, k)
 
     sim-planned : (q : Request) → InRange (cx .settings) q → Sim cx st before (planned cx q p) (memoryBy cx q memory) (answers ++ answersBy cx q memory) (masks ++ masksBy q)
     unfolding planned stepsOf memoryBy answersBy masksBy
-    sim-planned (Read at) i = rw append-nil (sim-read cx ns p st before memory answers masks (rested p) both at i)
-    sim-planned (Write at mask bytes) i = rw append-nil (sim-write cx ns p st before memory answers masks (rested p) both at mask bytes (i .0) (i .2, i .3))
+    sim-planned (Read at c) i = rw append-nil (sim-read cx ns p st before memory answers masks c (rested p) both at i)
+    sim-planned (Write at mask bytes c) i = rw append-nil (sim-write cx ns p st before memory answers masks c (rested p) both at mask bytes (i .0) (i .1) (i .2, i .3))
     sim-planned Refresh i = rw (append-nil answers, append-nil masks) (sim-refresh cx ns p st before memory answers masks (rested p) both)
     sim-planned (Wait n) i = rw (append-nil answers, append-nil masks) (sim-wait cx ns p st before memory answers masks (rested p) both n)
     sim-planned Flush i = rw (append-nil answers, append-nil masks) (sim-flush cx ns p st before memory answers masks (rested p) both .0)
@@ -84,7 +82,7 @@ module _ (cx : Context) (ns : Neighbours cx) (st : List ℕ) where
         };
       }
 
-  pub sim-call : (before : List Record) (p : PlannerState) → Inv cx p → (memory : List ℕ) (answers : List (List ℕ)) (masks : List ℕ) → Between before p memory answers masks
+  pub sim-call : (before : List Record) (p : PlannerState) → Rest cx p → (memory : List ℕ) (answers : List (List ℕ)) (masks : List ℕ) → Between before p memory answers masks
       → (request : List ℕ) (room : ℕ) → Bytes request →
       let f : Fed = record { request = request; accepted = accepted cx p request room } in
       Between (before ++ planRecords cx p request room) (planNext cx p request room) (flatNext cx f memory) (answers ++ flatAnswer cx f memory) (masks ++ flatMask cx f)
@@ -101,14 +99,14 @@ module _ (cx : Context) (ns : Neighbours cx) (st : List ℕ) where
 
   -- ---- lists of calls
 
-  pub sim-calls : (calls : List Call) → OfBytes calls → (before : List Record) (p : PlannerState) → Inv cx p → (memory : List ℕ) (answers : List (List ℕ)) (masks : List ℕ)
+  pub sim-calls : (calls : List Call) → OfBytes calls → (before : List Record) (p : PlannerState) → Rest cx p → (memory : List ℕ) (answers : List (List ℕ)) (masks : List ℕ)
       → Between before p memory answers masks
       → Between (before ++ listed cx p calls) (plannerAfter cx p calls) (flatAfter cx (fed cx p calls) memory) (answers ++ flatAnswers cx (fed cx p calls) memory) (masks ++ flatMasks cx (fed cx p calls))
   unfolding plannerAfter listed fed flatAfter flatAnswers flatMasks OfBytes
   sim-calls [] b before p v memory answers masks k = rw (append-nil before, append-nil answers, append-nil masks) k
   sim-calls (c ∷ calls) b before p v memory answers masks k =
       let q : PlannerState = planNext cx p (c .request) (c .room) in
-      let inv : Inv cx q = call-made cx p (c .request) (c .room) ns (b .0) v .inv in
+      let inv : Rest cx q = made-rest cx p (called cx p (c .request) (c .room)) (call-made cx p (c .request) (c .room) ns (b .0) v) in
       rw (← append-assoc before (planRecords cx p (c .request) (c .room)), ← append-assoc answers, ← append-assoc masks)
       (sim-calls calls (b .1) (before ++ planRecords cx p (c .request) (c .room)) q inv _ _ _ (sim-call before p v memory answers masks k (c .request) (c .room) (b .0)))
 
@@ -122,4 +120,4 @@ module _ (cx : Context) (ns : Neighbours cx) (st : List ℕ) where
   pub sim-run : (calls : List Call) → OfBytes calls
       → Between (listed cx freshPlanner calls) (plannerAfter cx freshPlanner calls) (flatAfter cx (fed cx freshPlanner calls) st) (flatAnswers cx (fed cx freshPlanner calls) st)
       (flatMasks cx (fed cx freshPlanner calls))
-  sim-run calls b = sim-calls calls b [] freshPlanner (run-fresh cx ns .inv) st [] [] sim-fresh
+  sim-run calls b = sim-calls calls b [] freshPlanner (run-fresh cx ns .rest) st [] [] sim-fresh

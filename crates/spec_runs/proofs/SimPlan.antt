@@ -2,7 +2,7 @@
 -- Assumes nothing.
 use Prim.Native.Nat.{ℕ, zero, suc, _+_, _^_, _<_, _≤_}
 use mathlib.Core.Path.{_≡_, refl, sym, ap, _∙_}
-use mathlib.Core.Bool.{Bool, true, false, not, _&&_}
+use mathlib.Core.Bool.{Bool, true, false, not, _&&_, _||_, and-false}
 use mathlib.Core.List.{List, [], _∷_, _++_}
 use mathlib.Core.Option.{some}
 use lib.Dec.{eqb}
@@ -10,7 +10,7 @@ use borrow.Author.Tests.{ltb-true, eq-eqb}
 use native.Mathlib.Omega.{arith}
 use Rattle.packet.specs.declared.RowPacket.{RowPacket}
 use Rattle.packet.specs.declared.RowPacket.the-variants.{Act, Prer, Refa, Refp}
-use Rattle.packet.specs.declared.ColPacket.the-variants.{Rd}
+use Rattle.packet.specs.declared.ColPacket.the-variants.{Wr, Rd}
 use Rattle.record.specs.declared.Dualoct.{Dualoct}
 use Rattle.record.specs.declared.Place.{Place}
 use Rattle.record.specs.declared.Record.{Record}
@@ -21,15 +21,15 @@ use Rattle.spec_rules.specs.declared.Write.{Write}
 use Rattle.spec_rules.specs.declared.Channel.{Channel}
 use Rattle.spec_rules.specs.Neighbour.{bankCount, Context, Neighbours, near}
 use Rattle.spec_rules.specs.History.{bankBy, isClosed, isOpen, anyWrite, two}
-use Rattle.spec_rules.specs.Channel.{stateOf, bankNext}
+use Rattle.spec_rules.specs.Channel.{stateOf}
 use Rattle.spec_rules.proofs.Bools.{not-both, and-left, and-right, neither}
 use Rattle.spec_state.specs.Valid.{bankValid}
 use Rattle.spec_state.proofs.RoundTrip.{WritesIn}
 use Rattle.spec_plan.specs.declared.PlannerState.{PlannerState}
-use Rattle.spec_plan.specs.Plan.{Draft, rowPacket, colPacket, waiting, stateIn, openOn, hits, anyWaits, sent, flushed, flushedWhile, closed, loses, closedUpTo, cleared, delays, reached, plannedRead, plannedWrite, turned, plannedRefresh, plannedWait, plannedFlush, plannedClose}
-use Rattle.spec_plan.proofs.SentLaws.{when-either, sent-size, sent-state, row-waiting, while-keeps, while-ends, while-state, saved, saved-far, up-to-waiting}
+use Rattle.spec_plan.specs.Plan.{Draft, rowPacket, colPacket, when, waiting, stateIn, openOn, hits, anyWaits, anyCloses, sent, flushed, flushedWhile, loses, closed, closedUpTo, cleared, delays, reached, written, plannedRead, plannedWrite, turned, plannedRefresh, plannedWait, plannedFlush, plannedClose}
+use Rattle.spec_plan.proofs.SentLaws.{when-either, sent-size, row-state, row-waiting, Plain, flushed-plain, while-keeps, while-ends, while-state, saved, saved-far, up-to-waiting}
 use Rattle.spec_plan.proofs.Invariant.{allOpen, inBanks, Changed, NearClosed, held-far, far-other}
-use Rattle.spec_plan.proofs.PlanLaws.{Good, good-flushed, good-closed, good-cleared, good-reached}
+use Rattle.spec_plan.proofs.PlanLaws.{Good, gone-plain, good-written, good-flushed, good-closed, good-cleared, good-reached}
 use Rattle.spec_model.specs.Store.{dualoctAt, dualoct, dualoctBytes, masked}
 use Rattle.spec_model.specs.Model.{freshModel, openRow, retiredTo}
 use Rattle.spec_model.proofs.StoreLaws.{dualoct-other, dualoctAt-inj}
@@ -70,13 +70,20 @@ read-past cx ch v (w ∷ u ∷ ws) i o b row c lr lc h m n x y store =
 module _ (cx : Context) (ns : Neighbours cx) (p : PlannerState) (st : List ℕ) (before : List Record) (memory : List ℕ) (answers : List (List ℕ)) (masks : List ℕ) where
   -- the planner has come this far in a call, and the model and flat memory with it
   abbrev pub Both : Draft → Type 0
-  Both d = Good cx p d × Sim cx st before d memory answers masks
+  Both d = (Good cx p d × Plain cx d) × Sim cx st before d memory answers masks
+
+  -- and so, with a write that closes its bank waiting
+  abbrev Half : Draft → Type 0
+  Half d = Good cx p d × Sim cx st before d memory answers masks
+
+  half-flushed : (d : Draft) → Half d → Half (flushed cx d)
+  half-flushed d k = (
+    good-flushed cx ns p d (k .0),
+    sim-flushed cx st before d memory answers masks (k .1 .refr) (k .1 .older) (k .1 .newer) (k .1 .at) (k .0 .inv .size) (k .0 .inv .held .write-in) (k .0 .queue),
+  )
 
   both-flushed : (d : Draft) → Both d → Both (flushed cx d)
-  both-flushed d k = (
-    good-flushed cx ns p d (k .0),
-    sim-flushed cx st before d memory answers masks (k .1 .refr) (k .1 .older) (k .1 .newer) (k .1 .at) (k .0 .inv .size) (k .0 .inv .held .write-in),
-  )
+  both-flushed d k = let h = half-flushed d (k .0 .0, k .1) in ((h .0, flushed-plain cx d (k .0 .1)), h .1)
 
   both-while : (d : Draft) → Both d → (test : List Write → Bool) → test [] ≡ false → Both (flushedWhile cx test d)
   both-while d k test e = while-keeps cx Both (λ z _ b. both-flushed z b) test e d k
@@ -84,7 +91,7 @@ module _ (cx : Context) (ns : Neighbours cx) (p : PlannerState) (st : List ℕ) 
   both-row : (d : Draft) → Both d → (r : RowPacket) (q : ℕ → Bool) (new : Bank) → inBanks q (waiting d) ≡ false → Changed q new (stateIn d) (stateIn (sent cx (rowPacket r) d))
       → Sim cx st before (sent cx (rowPacket r) d) memory answers masks
   both-row d k r q new far c =
-      sim-row cx st before d memory answers masks (k .1 .refr) (k .1 .older) (k .1 .newer) (k .1 .at) r (k .0 .inv .held .write-in) q new far c
+      sim-row cx st before d memory answers masks (k .1 .refr) (k .1 .older) (k .1 .newer) (k .1 .at) r (k .0 .0 .inv .held .write-in) q new far c
 
   -- ---- banks closed, a row reached
 
@@ -92,12 +99,12 @@ module _ (cx : Context) (ns : Neighbours cx) (p : PlannerState) (st : List ℕ) 
   both-saved d k x = both-while d k (loses cx x) refl
 
   both-closed : (d : Draft) → Both d → (x : ℕ) → x < bankCount → Both (closed cx x d)
-  unfolding closed bankNext bankBy
+  unfolding closed bankBy
   both-closed d k x m =
       let z : Draft = saved cx x d in
       let b : Both z = both-saved d k x in (
         good-closed cx ns p d (k .0) x m,
-        both-row z b (Prer x) (near cx x) Closed (saved-far cx x d) (sent-state cx (rowPacket (Prer x)) z (b .0 .inv .size)),
+        both-row z b (Prer x) (near cx x) Closed (saved-far cx x d) (row-state cx (Prer x) z (b .0 .0 .inv .size)),
       )
 
   both-up-to : (d : Draft) → Both d → (pick : ℕ → Bool) (n : ℕ) → n ≤ bankCount → Both (closedUpTo cx pick n d)
@@ -109,52 +116,47 @@ module _ (cx : Context) (ns : Neighbours cx) (p : PlannerState) (st : List ℕ) 
       when-either Both (pick n && not (isClosed (stateIn z n))) (closed cx n) z (λ _. both-closed z b n (omega arith)) (λ _. b)
 
   -- a packet to a bank that is closed with its neighbours
-  far-from : (d : Draft) → Good cx p d → (b : ℕ) → NearClosed cx (stateIn d) b → inBanks (near cx b) (waiting d) ≡ false
-  far-from d g b n = held-far cx (stateIn d) b (waiting d) (g .inv .held .write-in) (g .inv .held .opened) n
+  far-from : (d : Draft) → Good cx p d × Plain cx d → (b : ℕ) → NearClosed cx (stateIn d) b → inBanks (near cx b) (waiting d) ≡ false
+  far-from d g b n = held-far cx (stateIn d) b (waiting d) (g .0 .inv .held .write-in) (g .0 .inv .held .opened) n
 
-  other-than : (d : Draft) → Good cx p d → (b : ℕ) → NearClosed cx (stateIn d) b → inBanks (λ x. eqb x b) (waiting d) ≡ false
+  other-than : (d : Draft) → Good cx p d × Plain cx d → (b : ℕ) → NearClosed cx (stateIn d) b → inBanks (λ x. eqb x b) (waiting d) ≡ false
   other-than d g b n = far-other cx (stateIn d) b (waiting d) (far-from d g b n)
 
   sim-reached : (d : Draft) → Both d → (b row : ℕ) → Sim cx st before (reached cx b row d) memory answers masks
-  unfolding reached bankNext bankBy
+  unfolding reached bankBy
   sim-reached d k b row =
       let z : Draft = cleared cx b d in
       let a = both-up-to d k (near cx b) bankCount (omega arith) in
       let c = good-cleared cx ns p d (k .0) b in
       when-either (λ z. Sim cx st before z memory answers masks) (not (openOn (stateIn d b) row)) (λ d. sent cx (rowPacket (Act b row)) (cleared cx b d)) d
       (λ _. both-row z a (Act b row) (λ x. eqb x b) (Open row) (other-than z (a .0) b (c .1))
-      (sent-state cx (rowPacket (Act b row)) z (a .0 .inv .size)))
+      (row-state cx (Act b row) z (a .0 .0 .inv .size)))
       (λ _. k .1)
 
   -- ---- requests
 
-  pub sim-read : (d : Draft) → Both d → (at : Place) → InPlace (cx .settings) at → Sim cx st before (plannedRead cx at d) memory (answers ++ (dualoct memory (dualoctOf cx at) ∷ [])) masks
+  pub sim-read : (close : Bool) (d : Draft) → Both d → (at : Place) → InPlace (cx .settings) at → Sim cx st before (plannedRead cx close at d) memory (answers ++ (dualoct memory (dualoctOf cx at) ∷ [])) masks
   unfolding plannedRead bankCount openRow
-  sim-read d k at i =
+  sim-read close d k at i =
       let z : Draft = reached cx (at .bank) (at .row) d in
       let g = good-reached cx ns p d (k .0) (at .bank) (at .row) (i .0) (i .1) in
-      let test : List Write → Bool = delays at in
-      read-on (flushedWhile cx test z) (both-while z (g .0, sim-reached d k (at .bank) (at .row)) test refl)
-      (while-state cx test refl z (g .0 .inv .size) (at .bank) (i .0) ∙ g .1) (neither (two (waiting (flushedWhile cx test z))) _ (while-ends cx test refl z) .1)
+      let test : List Write → Bool = delays cx close at in
+      let empty : test [] ≡ false = and-false close in
+      let y : Draft = flushedWhile cx test z in
+      let ends = neither (two (waiting y)) _ (while-ends cx test empty z) in
+      let last = neither (anyWrite (hits (at .bank) (at .column)) (waiting y)) _ (ends .1) in
+      read-on y (both-while z (g .0, sim-reached d k (at .bank) (at .row)) test empty)
+      (while-state cx test empty z (g .0 .0 .inv .size) (g .0 .1) (at .bank) (i .0) ∙ g .1) (last .0) (last .1)
     where
-      read-on : (z : Draft) → Both z → stateIn z (at .bank) ≡ Open (at .row) → anyWrite (hits (at .bank) (at .column)) (waiting z) ≡ false
-          → Sim cx st before (sent cx (colPacket (Rd (at .bank) (at .column) 0xFFFF)) z) memory (answers ++ (dualoct memory (dualoctOf cx at) ∷ [])) masks
-      read-on z b o h =
+      read-on : (z : Draft) → Both z → stateIn z (at .bank) ≡ Open (at .row) → anyWrite (hits (at .bank) (at .column)) (waiting z) ≡ false → close && inBanks (near cx (at .bank)) (waiting z) ≡ false
+          → Sim cx st before (sent cx (colPacket (Rd (at .bank) (at .column) 0xFFFF close)) z) memory (answers ++ (dualoct memory (dualoctOf cx at) ∷ [])) masks
+      read-on z b o h far =
           let stored : List ℕ = storeAll cx freshModel (before ++ z .records) st in
-          let past = read-past cx (z .planner .channel) (b .0 .inv .banked .rows-in) (waiting z) (b .0 .inv .held .write-in) (b .0 .inv .held .opened)
+          let past = read-past cx (z .planner .channel) (b .0 .0 .inv .banked .rows-in) (waiting z) (b .0 .0 .inv .held .write-in) (b .0 .0 .inv .held .opened)
           (at .bank) (at .row) (at .column) (i .1) (i .2) h (z .planner .mask) (z .planner .second) (b .1 .older) (b .1 .newer) stored in
           let here : dualoct stored (dualoctAt cx (at .bank) (openRow (stateIn z (at .bank))) (at .column)) ≡ dualoct memory (dualoctOf cx at) =
           rw o (sym (ap (λ (m : List ℕ). dualoct m (dualoctOf cx at)) (b .1 .at .flat) ∙ past)) in
-          rw here at (sim-rd cx st before z memory answers masks (b .1 .refr) (b .1 .older) (b .1 .newer) (b .1 .at) (at .bank) (at .column) (b .0 .inv .size) (b .0 .inv .held .write-in))
-
-  pub sim-write : (d : Draft) → Both d → (at : Place) (mask : ℕ) (bytes : Dualoct) → InPlace (cx .settings) at → (bytes .dqa < 2 ^ 64) × (bytes .dqb < 2 ^ 64)
-      → Sim cx st before (plannedWrite cx at mask bytes d) (masked memory (dualoctOf cx at) mask (dualoctBytes bytes)) answers (masks ++ (mask ∷ []))
-  unfolding plannedWrite bankCount
-  sim-write d k at mask bytes i n =
-      let z : Draft = reached cx (at .bank) (at .row) d in
-      let g = good-reached cx ns p d (k .0) (at .bank) (at .row) (i .0) (i .1) in
-      let m = sim-reached d k (at .bank) (at .row) in
-      sim-written cx st before z memory answers masks (m .refr) (m .older) (m .newer) (m .at) at (at .row) mask bytes n (g .0 .inv .size) (g .0 .inv .held .write-in) (i .0) (g .1)
+          rw here at (sim-rd cx st before z memory answers masks (b .1 .refr) (b .1 .older) (b .1 .newer) (b .1 .at) close (at .bank) (at .column) (b .0 .0 .inv .size) (b .0 .0 .inv .held .write-in) far)
 
   sim-turned : (d : Draft) → Sim cx st before d memory answers masks → Sim cx st before (turned cx d) memory answers masks
   unfolding turned
@@ -163,7 +165,7 @@ module _ (cx : Context) (ns : Neighbours cx) (p : PlannerState) (st : List ℕ) 
       record { refr = k .refr; older = k .older; newer = k .newer; at = record { model = a .model; flat = a .flat; same = a .same; written-under = a .written-under; data-in = a .data-in } }
 
   pub sim-refresh : (d : Draft) → Both d → Sim cx st before (plannedRefresh cx d) memory answers masks
-  unfolding plannedRefresh bankNext bankBy
+  unfolding plannedRefresh bankBy
   sim-refresh d k =
       let b : ℕ = d .planner .refresh in
       let z : Draft = cleared cx b d in
@@ -172,10 +174,10 @@ module _ (cx : Context) (ns : Neighbours cx) (p : PlannerState) (st : List ℕ) 
       let y : Draft = sent cx (rowPacket (Refa b)) z in
       let waits : waiting y ≡ waiting z = row-waiting cx (Refa b) z in
       let k1 = both-row z a (Refa b) (λ x. eqb x b) Refresh (other-than z (a .0) b (c .1))
-      (sent-state cx (rowPacket (Refa b)) z (a .0 .inv .size)) in
+      (row-state cx (Refa b) z (a .0 .0 .inv .size)) in
       sim-turned (sent cx (rowPacket (Refp b)) y)
-      (sim-row cx st before y memory answers masks (k1 .refr) (k1 .older) (k1 .newer) (k1 .at) (Refp b) (rw waits (a .0 .inv .held .write-in)) (near cx b) Closed (rw waits (far-from z (a .0) b (c .1)))
-      (sent-state cx (rowPacket (Refp b)) y (sent-size cx (rowPacket (Refa b)) z ∙ a .0 .inv .size)))
+      (sim-row cx st before y memory answers masks (k1 .refr) (k1 .older) (k1 .newer) (k1 .at) (Refp b) (rw waits (a .0 .0 .inv .held .write-in)) (near cx b) Closed (rw waits (far-from z (a .0) b (c .1)))
+      (row-state cx (Refp b) y (sent-size cx (rowPacket (Refa b)) z ∙ a .0 .0 .inv .size)))
 
   pub sim-wait : (d : Draft) → Both d → (n : ℕ) → Sim cx st before (plannedWait cx n d) memory answers masks
   unfolding plannedWait
@@ -194,3 +196,25 @@ module _ (cx : Context) (ns : Neighbours cx) (p : PlannerState) (st : List ℕ) 
   pub sim-close : (d : Draft) → Both d → Sim cx st before (plannedClose cx d) memory answers masks
   unfolding plannedClose
   sim-close d k = both-up-to d k (λ x. true) bankCount (omega arith) .1
+
+  -- the row reached, with planner, model and flat memory
+  pub both-reached : (d : Draft) → Both d → (b row : ℕ) → b < bankCount → row < cx .settings .rows → Both (reached cx b row d) × (stateIn (reached cx b row d) b ≡ Open row)
+  both-reached d k b row m l = let g = good-reached cx ns p d (k .0) b row m l in ((g .0, sim-reached d k b row), g .1)
+
+  -- NOCOPs for a write that closes its bank
+  pub half-while : (d : Draft) → Half d → (test : List Write → Bool) → test [] ≡ false → Half (flushedWhile cx test d)
+  half-while d k test e = while-keeps cx Half (λ z _ h. half-flushed z h) test e d k
+
+module _ (cx : Context) (ns : Neighbours cx) (p : PlannerState) (st : List ℕ) (before : List Record) (memory : List ℕ) (answers : List (List ℕ)) (masks : List ℕ) where
+  -- a write, or a write and close, writes flat memory
+  pub sim-write : (close : Bool) (d : Draft) → Both cx ns p st before memory answers masks d → (at : Place) (mask : ℕ) (bytes : Dualoct) → InPlace (cx .settings) at → mask < 2 ^ 16 → (bytes .dqa < 2 ^ 64) × (bytes .dqb < 2 ^ 64)
+      → Sim cx st before (plannedWrite cx close at mask bytes d) (masked memory (dualoctOf cx at) mask (dualoctBytes bytes)) answers (masks ++ (mask ∷ []))
+  unfolding plannedWrite bankCount
+  sim-write close d k at mask bytes i mi n =
+      let y : Draft = reached cx (at .bank) (at .row) d in
+      let b = both-reached cx ns p st before memory answers masks d k (at .bank) (at .row) (i .0) (i .1) in
+      let m = b .0 .1 in
+      let g = good-written cx ns p y (b .0 .0) close at (at .row) mask bytes (i .0) (i .2) mi (b .1) in
+      let r : Record = colPacket (Wr (at .bank) (at .column) 0xFFFF close) in
+      let w = sim-written cx st before y memory answers masks (m .refr) (m .older) (m .newer) (m .at) close at (at .row) mask bytes n (b .0 .0 .0 .inv .size) (b .0 .0 .0 .inv .held .write-in) (gone-plain cx ns p y (b .0 .0) r) (i .0) (b .1) in
+      half-while cx ns p st before (masked memory (dualoctOf cx at) mask (dualoctBytes bytes)) answers (masks ++ (mask ∷ [])) (written cx close at mask bytes y) (g .0, w) anyCloses refl .1

@@ -22,10 +22,10 @@ abbrev pub dualoctOf : Context → Place → ℕ
 dualoctOf cx at = dualoctAt cx (at .bank) (at .row) (at .column)
 
 -- "An accepted write sets byte i of its dualoct to its data byte i where mask bit i is 1, leaves every other byte [..]. An accepted
--- refresh, wait [..] change nothing"; "Close joins demand 3's calls and, like flush, changes and answers nothing in flat memory."
+-- refresh, wait [..] change nothing"; "Close joins demand 3's calls and, like flush, changes and answers nothing in flat memory."; to which "kind 6 is a read and kind 7 a write"
 unfoldable pub memoryBy : Context → Request → List ℕ → List ℕ
-memoryBy cx (Read at) memory = memory
-memoryBy cx (Write at mask d) memory = masked memory (dualoctOf cx at) mask (dualoctBytes d)
+memoryBy cx (Read at close) memory = memory
+memoryBy cx (Write at mask d close) memory = masked memory (dualoctOf cx at) mask (dualoctBytes d)
 memoryBy cx Refresh memory = memory
 memoryBy cx (Wait n) memory = memory
 memoryBy cx Flush memory = memory
@@ -33,8 +33,8 @@ memoryBy cx Close memory = memory
 
 -- "An accepted read answers its dualoct and changes nothing." Every other request answers nothing.
 unfoldable pub answersBy : Context → Request → List ℕ → List (List ℕ)
-answersBy cx (Read at) memory = dualoct memory (dualoctOf cx at) ∷ []
-answersBy cx (Write at mask d) memory = []
+answersBy cx (Read at close) memory = dualoct memory (dualoctOf cx at) ∷ []
+answersBy cx (Write at mask d close) memory = []
 answersBy cx Refresh memory = []
 answersBy cx (Wait n) memory = []
 answersBy cx Flush memory = []
@@ -68,8 +68,8 @@ flatAnswers cx (f ∷ l) memory = flatAnswer cx f memory ++ flatAnswers cx l (fl
 -- ---- the masks of accepted writes, in order
 
 unfoldable pub masksBy : Request → List ℕ
-masksBy (Read at) = []
-masksBy (Write at mask d) = mask ∷ []
+masksBy (Read at close) = []
+masksBy (Write at mask d close) = mask ∷ []
 masksBy Refresh = []
 masksBy (Wait n) = []
 masksBy Flush = []

@@ -36,7 +36,7 @@ unfolding layout
 tags-part n =
     let p : ℕ → List ℕ = λ k. plane 4 (n .figure k) 32 in
     let xs : List ℕ = p 0 ++ (p 1 ++ (p 2 ++ (p 3 ++ p 4))) in
-    let r : List ℕ = rest (n .last 0) (n .last 1) (n .last 2) (n .last 3) (n .last 4) (n .count) (n .write) (n .second) (n .tail) in
+    let r : List ℕ = rest (n .last 0) (n .last 1) (n .last 2) (n .last 3) (n .last 4) (n .last 5) (n .count) (n .write) (n .second) (n .tail) in
     let k : length xs ≡ 640 = simp (length-append, length-plane) in
     let g : length (plane 2 (n .tag) 32) ≡ 64 = length-plane 2 (n .tag) 32 in
     let join : body (n .figure 0) (n .figure 1) (n .figure 2) (n .figure 3) (n .figure 4) (n .tag) r ≡ xs ++ (plane 2 (n .tag) 32 ++ r) = simp append-assoc in
@@ -51,7 +51,7 @@ tag-at n x l f = ap number (plane-at (layout n) 640 2 (n .tag) 32 x (tags-part n
 -- ---- banks closed one after the other
 
 -- these numbers with other tags and other instants of PRER
-abbrev shut : Numbers → (ℕ → ℕ) → (ℕ → ℕ) → Numbers
+abbrev pub shut : Numbers → (ℕ → ℕ) → (ℕ → ℕ) → Numbers
 shut n tag pre =
     record { figure = λ j y. cond (eqb j 2) (pre y) (n .figure j y); tag = tag; last = n .last; count = n .count; write = n .write; second = n .second; tail = n .tail }
 
@@ -60,7 +60,7 @@ module _ (n : Numbers) (v : ℕ) where
   unfolding shutStored
   shut-stored tag pre x l e =
       on (640 + 2 * x) (bytes 2 0) (on (256 + 4 * x) (bytes 4 v) e (put-pre _ v x l)) (put-tag _ 0 x l)
-      ∙ layout-ext _ (shut n (with tag x 0) (with pre x v)) (λ i m. refl) (λ i m. refl) (λ i m. refl) (λ i m. refl) (λ i m. refl) (λ i m. refl) refl refl refl refl refl refl refl refl refl
+      ∙ layout-ext _ (shut n (with tag x 0) (with pre x v)) (λ i m. refl) (λ i m. refl) (λ i m. refl) (λ i m. refl) (λ i m. refl) (λ i m. refl) refl refl refl refl refl refl refl refl refl refl
 
   -- where a bank's tag is in its two bytes
   side-stored : (tag pre : ℕ → ℕ) (x : ℕ) (b : List ℕ) → (x < 32 → tag x < 256 ^ 2) → b ≡ layout (shut n tag pre)
@@ -84,10 +84,10 @@ module _ (n : Numbers) (v : ℕ) where
 
 -- the banks of a set closed, by the tags and the instants of before; bank x has the new instant in any case
 module _ (tag pre : ℕ → ℕ) (x v : ℕ) where
-  abbrev tagBy : (ℕ → Bool) → ℕ → ℕ
+  abbrev pub tagBy : (ℕ → Bool) → ℕ → ℕ
   tagBy set i = cond (set i) 0 (tag i)
 
-  abbrev preBy : (ℕ → Bool) → ℕ → ℕ
+  abbrev pub preBy : (ℕ → Bool) → ℕ → ℕ
   preBy set i = cond (eqb i x || (set i && not (eqb (tag i) 0))) v (pre i)
 
   own-pre : (i : ℕ) → with pre x v i ≡ preBy (λ i. eqb i x) i
@@ -126,7 +126,7 @@ module _ (tag pre : ℕ → ℕ) (x v : ℕ) where
         go false h = rw (and-false shuts, or-false (set i))
         go true h = let e = eqb-true i y h in rw (e, lt-ltb y 32 (omega arith)) (same (set y) (eqb (tag y) 0) refl)
 
--- ---- PRER and REFP, where no data are due
+-- ---- a bank and its two sides closed
 
 tag-closed : (k : Bank) → eqb (bankTag k) 0 ≡ isClosed k
 unfolding bankTag isClosed
@@ -146,24 +146,24 @@ tag-fits cx Closed m h = omega arith
 tag-fits cx (Open r) m h = let l = ltb-true r (cx .settings .rows) h in omega arith
 tag-fits cx Refresh m h = omega arith
 
-module _ (cx : Context) (ch : Channel) (q : List ℕ) (e : length (ch .banks) ≡ 32) (i : WriteIn (ch .buffer)) (d : ch .due ≡ false) (x t : ℕ) (l : x < 32)
+module _ (cx : Context) (ch : Channel) (q : List ℕ) (i : WriteIn (ch .buffer)) (x t : ℕ) (l : x < 32)
     (low high : ℕ) (sides : (y : ℕ) → y < 32 → (eqb y x || eqb y low) || eqb y high ≡ near cx x y) (fits : (y : ℕ) → y < 32 → bankTag (stateOf ch y) < 256 ^ 2) where
-  abbrev tags : ℕ → ℕ
+  abbrev pub tags : ℕ → ℕ
   tags y = bankTag (stateOf ch y)
 
-  abbrev pres : ℕ → ℕ
+  abbrev pub pres : ℕ → ℕ
   pres y = trackOf ch y .pre .0 - 3
 
   -- the banks of a set closed
-  abbrev closed : (ℕ → Bool) → Numbers
+  abbrev pub closed : (ℕ → Bool) → Numbers
   closed set = shut (numbersOf ch q) (tagBy tags pres x (t - 3) set) (preBy tags pres x (t - 3) set)
 
   own-closed : shutStored (channelBytes ch ++ q) x (t - 3) ≡ layout (closed (λ y. eqb y x))
   unfolding numbersOf figureOf
   own-closed =
       shut-stored (numbersOf ch q) (t - 3) tags pres x l
-      (by-numbers ch q i ∙ layout-ext _ (shut (numbersOf ch q) tags pres) (λ y m. refl) (λ y m. refl) (λ y m. refl) (λ y m. refl) (λ y m. refl) (λ y m. refl) refl refl refl refl refl refl refl refl refl)
-      ∙ layout-ext _ (closed (λ y. eqb y x)) (λ y m. refl) (λ y m. refl) (λ y m. own-pre tags pres x (t - 3) y) (λ y m. refl) (λ y m. refl) (λ y m. refl) refl refl refl refl refl refl refl refl refl
+      (by-numbers ch q i ∙ layout-ext _ (shut (numbersOf ch q) tags pres) (λ y m. refl) (λ y m. refl) (λ y m. refl) (λ y m. refl) (λ y m. refl) (λ y m. refl) refl refl refl refl refl refl refl refl refl refl)
+      ∙ layout-ext _ (closed (λ y. eqb y x)) (λ y m. refl) (λ y m. refl) (λ y m. own-pre tags pres x (t - 3) y) (λ y m. refl) (λ y m. refl) (λ y m. refl) refl refl refl refl refl refl refl refl refl refl
 
   small : (set : Bool) (n : ℕ) → n < 256 ^ 2 → cond set 0 n < 256 ^ 2
   small true n h = omega arith
@@ -172,18 +172,22 @@ module _ (cx : Context) (ch : Channel) (q : List ℕ) (e : length (ch .banks) �
   side-closed : (set : ℕ → Bool) (y : ℕ) (b : List ℕ) → b ≡ layout (closed set) → sideStored b y (t - 3) ≡ layout (closed (λ z. set z || eqb z y))
   side-closed set y b h =
       side-stored (numbersOf ch q) (t - 3) (tagBy tags pres x (t - 3) set) (preBy tags pres x (t - 3) set) y b (λ m. small (set y) (tags y) (fits y m)) h
-      ∙ layout-ext _ (closed (λ z. set z || eqb z y)) (λ z m. refl) (λ z m. refl) (λ z m. side-pre tags pres x (t - 3) set y z m) (λ z m. refl) (λ z m. refl) (λ z m. side-tag tags pres x (t - 3) set y z m) refl refl refl refl refl refl refl refl refl
+      ∙ layout-ext _ (closed (λ z. set z || eqb z y)) (λ z m. refl) (λ z m. refl) (λ z m. side-pre tags pres x (t - 3) set y z m) (λ z m. refl) (λ z m. refl) (λ z m. side-tag tags pres x (t - 3) set y z m) refl refl refl refl refl refl refl refl refl refl
 
-  near-pre : (y : ℕ) → y < 32 → preBy tags pres x (t - 3) (λ z. (eqb z x || eqb z low) || eqb z high) y
+  pub near-pre : (y : ℕ) → y < 32 → preBy tags pres x (t - 3) (λ z. (eqb z x || eqb z low) || eqb z high) y
       ≡ cond (eqb y x || (near cx x y && not (isClosed (stateOf ch y)))) (record { 0 = t }) (trackOf ch y .pre) .0 - 3
   near-pre y m = rw (sides y m, tag-closed (stateOf ch y)) (pick (eqb y x || (near cx x y && not (isClosed (stateOf ch y)))) (record { 0 = t }) (trackOf ch y .pre))
 
-  near-tag : (y : ℕ) → y < 32 → tagBy tags pres x (t - 3) (λ z. (eqb z x || eqb z low) || eqb z high) y ≡ bankTag (cond (near cx x y) Closed (stateOf ch y))
+  pub near-tag : (y : ℕ) → y < 32 → tagBy tags pres x (t - 3) (λ z. (eqb z x || eqb z low) || eqb z high) y ≡ bankTag (cond (near cx x y) Closed (stateOf ch y))
   near-tag y m = rw (sides y m) (tag-shut (near cx x y) (stateOf ch y))
 
-  all-closed : sideStored (sideStored (shutStored (channelBytes ch ++ q) x (t - 3)) low (t - 3)) high (t - 3) ≡ layout (closed (λ z. (eqb z x || eqb z low) || eqb z high))
+  pub all-closed : sideStored (sideStored (shutStored (channelBytes ch ++ q) x (t - 3)) low (t - 3)) high (t - 3) ≡ layout (closed (λ z. (eqb z x || eqb z low) || eqb z high))
   all-closed = side-closed (λ z. eqb z x || eqb z low) high _ (side-closed (λ z. eqb z x) low _ own-closed)
 
+-- ---- PRER and REFP, where no data are due
+
+module _ (cx : Context) (ch : Channel) (q : List ℕ) (e : length (ch .banks) ≡ 32) (i : WriteIn (ch .buffer)) (d : ch .due ≡ false) (x t : ℕ) (l : x < 32)
+    (low high : ℕ) (sides : (y : ℕ) → y < 32 → (eqb y x || eqb y low) || eqb y high ≡ near cx x y) (fits : (y : ℕ) → y < 32 → bankTag (stateOf ch y) < 256 ^ 2) where
   same-write : WriteIn (bufferOf (waitingOf (ch .buffer)))
   same-write = rw (buffer-waiting (ch .buffer)) i
 
@@ -191,15 +195,15 @@ module _ (cx : Context) (ch : Channel) (q : List ℕ) (e : length (ch .banks) �
   pub prer-all-stored : prerStored (channelBytes ch ++ q) x low high (t - 3) ≡ channelBytes (after cx ch (RowAt (record { 0 = t }) (Prer x))) ++ q
   unfolding prerStored after afterPacket trackNext traits rowTraits bankNext bankBy instant figureOf lastOfChannel loads numbersOf
   prer-all-stored =
-      row-stored _ (t - 3) (on 716 (bytes 4 (t - 3)) all-closed (put-716 _ (t - 3)))
-      ∙ layout-ext _ (nextNumbers cx ch (RowAt (record { 0 = t }) (Prer x)) q) (λ y m. refl) (λ y m. refl) near-pre (λ y m. refl) (λ y m. refl) near-tag refl refl refl refl refl
+      row-stored _ (t - 3) (on 716 (bytes 4 (t - 3)) (all-closed cx ch q i x t l low high sides fits) (put-716 _ (t - 3)))
+      ∙ layout-ext _ (nextNumbers cx ch (RowAt (record { 0 = t }) (Prer x)) q) (λ y m. refl) (λ y m. refl) (near-pre cx ch q i x t l low high sides fits) (λ y m. refl) (λ y m. refl) (near-tag cx ch q i x t l low high sides fits) refl refl refl refl refl refl
       (rw (buffer-waiting (ch .buffer), d)) (rw (buffer-waiting (ch .buffer))) (rw (buffer-waiting (ch .buffer))) refl
       ∙ sym (next-bytes cx ch (RowAt (record { 0 = t }) (Prer x)) q e same-write)
 
   pub refp-all-stored : prerStored (channelBytes ch ++ q) x low high (t - 3) ≡ channelBytes (after cx ch (RowAt (record { 0 = t }) (Refp x))) ++ q
   unfolding prerStored after afterPacket trackNext traits rowTraits bankNext bankBy instant figureOf lastOfChannel loads numbersOf
   refp-all-stored =
-      row-stored _ (t - 3) (on 716 (bytes 4 (t - 3)) all-closed (put-716 _ (t - 3)))
-      ∙ layout-ext _ (nextNumbers cx ch (RowAt (record { 0 = t }) (Refp x)) q) (λ y m. refl) (λ y m. refl) near-pre (λ y m. refl) (λ y m. refl) near-tag refl refl refl refl refl
+      row-stored _ (t - 3) (on 716 (bytes 4 (t - 3)) (all-closed cx ch q i x t l low high sides fits) (put-716 _ (t - 3)))
+      ∙ layout-ext _ (nextNumbers cx ch (RowAt (record { 0 = t }) (Refp x)) q) (λ y m. refl) (λ y m. refl) (near-pre cx ch q i x t l low high sides fits) (λ y m. refl) (λ y m. refl) (near-tag cx ch q i x t l low high sides fits) refl refl refl refl refl refl
       (rw (buffer-waiting (ch .buffer), d)) (rw (buffer-waiting (ch .buffer))) (rw (buffer-waiting (ch .buffer))) refl
       ∙ sym (next-bytes cx ch (RowAt (record { 0 = t }) (Refp x)) q e same-write)

@@ -1,7 +1,8 @@
--- A claim of every last instant of a state, and one of the WR of each waiting write: a record whose instant keeps both keeps them.
+-- A claim of every last instant of a state, and one of the WR of each waiting write: a record whose instant, and that of the PRER which
+-- it implies, keeps both keeps them.
 -- Assumes nothing.
-use Prim.Native.Nat.{ℕ, _<_}
-use mathlib.Core.Path.{_≡_, _∙_}
+use Prim.Native.Nat.{ℕ, _+_, _<_}
+use mathlib.Core.Path.{_≡_, refl, _∙_}
 use mathlib.Core.Bool.{Bool, true, false, _||_, cond}
 use mathlib.Core.List.{List, [], _∷_}
 use mathlib.Core.Option.{Option, none, some}
@@ -16,8 +17,8 @@ use Rattle.spec_rules.specs.declared.Write.{Write}
 use Rattle.spec_rules.specs.declared.Channel.{Channel}
 use Rattle.spec_rules.specs.Neighbour.{bankCount, Context}
 use Rattle.spec_rules.specs.Packets.{traits, instant}
-use Rattle.spec_rules.specs.History.{left, loads, joined, waitingNext, closes, has}
-use Rattle.spec_rules.specs.Channel.{idle, trackOf, stateOf, waitingOf, inBank, trackNext, afterPacket, trackRetired, afterRetire, afterData, leavingOf, after}
+use Rattle.spec_rules.specs.History.{left, loads, joined, waitingNext, retireImplies, closesBank, closes, has}
+use Rattle.spec_rules.specs.Channel.{idle, trackOf, stateOf, waitingOf, inBank, trackNext, afterPacket, trackRetired, afterRetire, trackImplied, afterImplied, afterData, leavingOf, after}
 use Rattle.spec_rules.proofs.ListLaws.{length-imap, getD-imap}
 use Rattle.spec_rules.proofs.TrackLaws.{after-waits}
 
@@ -41,6 +42,7 @@ pub record LastsAll (P : ℕ → Type 0) (ch : Channel) : Type 0 where
   pub col : P (ch .lasts .col .0)
   pub pre : P (ch .lasts .pre .0)
   pub rd : P (ch .lasts .rd .0)
+  pub implied : P (ch .lasts .implied .0)
 
 pub record All (P Q : ℕ → Type 0) (ch : Channel) : Type 0 where
   pub lasts : LastsAll P ch
@@ -58,9 +60,9 @@ module _ (Q : ℕ → Type 0) where
   unfolding loads instant
   writes-joined (RowAt t p) ws e k = k
   writes-joined (ColAt t (Nocop m)) ws e k = k
-  writes-joined (ColAt t (Wr b c m)) [] e k = (e, tt)
-  writes-joined (ColAt t (Wr b c m)) (w ∷ ws) e k = (k .0, (e, tt))
-  writes-joined (ColAt t (Rd b c m)) ws e k = k
+  writes-joined (ColAt t (Wr b c m x)) [] e k = (e, tt)
+  writes-joined (ColAt t (Wr b c m x)) (w ∷ ws) e k = (k .0, (e, tt))
+  writes-joined (ColAt t (Rd b c m x)) ws e k = k
   writes-joined (DataOf t d) ws e k = k
 
 -- ---- the last instants after a record
@@ -91,6 +93,7 @@ module _ (P : ℕ → Type 0) where
           col = pick (traits r .col) t (ch .lasts .col) e (k .col);
           pre = pick (has (traits r .precharges)) t (ch .lasts .pre) e (k .pre);
           rd = pick (has (traits r .reads)) t (ch .lasts .rd) e (k .rd);
+          implied = k .implied;
         }
 
     retire-all : (t : ℕ) (o : Option Write) → P t → LastsAll P (afterRetire t o ch)
@@ -113,24 +116,59 @@ module _ (P : ℕ → Type 0) where
           col = k .col;
           pre = k .pre;
           rd = k .rd;
+          implied = k .implied;
         }
 
--- ---- a record whose instant keeps the claims
+    implied-all : (t : ℕ) (o : Option ℕ) → (has o ≡ true → P t) → LastsAll P (afterImplied cx t o ch)
+    unfolding afterImplied trackImplied
+    implied-all t none e = k
+    implied-all t (some b) e =
+        let at : (x : ℕ) → x < bankCount → trackOf (afterImplied cx t (some b) ch) x ≡ trackImplied cx (stateOf ch) t b x (trackOf ch x) = λ x m. getD-imap (trackImplied cx (stateOf ch) t b) (ch .banks) x idle idle (rw (k .size) m) in
+        record {
+          size = length-imap _ 0 (ch .banks) ∙ k .size;
+          banks = λ x m. rw (at x m)
+              (record {
+                opened = k .banks x m .opened;
+                act = k .banks x m .act;
+                pre = pick (eqb x b || closesBank cx (stateOf ch) (some b) x) t _ (e refl) (k .banks x m .pre);
+                rd = k .banks x m .rd;
+                retire = k .banks x m .retire;
+              });
+          packet = k .packet;
+          row = k .row;
+          col = k .col;
+          pre = e refl;
+          rd = k .rd;
+          implied = e refl;
+        }
+
+-- ---- a record whose instants keep the claims
+
+-- the claim of the PRER that a record implies, by itself or by the retire that it makes
+abbrev pub Implied : (ℕ → Type 0) → Context → Channel → Record → Type 0
+Implied P cx ch r = (has (retireImplies (leavingOf cx ch r)) ≡ true → P (instant r + cx .settings .offp)) × (has (traits r .implies) ≡ true → P (instant r + cx .settings .offp))
 
 module _ (P Q : ℕ → Type 0) (cx : Context) (ch : Channel) (k : All P Q ch) where
-  lasts-after : (r : Record) → P (instant r) → LastsAll P (after cx ch r)
+  lasts-after : (r : Record) → P (instant r) → Implied P cx ch r → LastsAll P (after cx ch r)
   unfolding after afterData instant
-  lasts-after (RowAt t p) e = packet-all P cx ch (k .lasts) (RowAt t p) e
-  lasts-after (ColAt t p) e =
-      let o : Option Write = leavingOf cx ch (ColAt t p) in
-      packet-all P cx (afterRetire (t .0) o ch) (retire-all P cx ch (k .lasts) (t .0) o e) (ColAt t p) e
-  lasts-after (DataOf t d) e = let l = k .lasts in record { size = l .size; banks = l .banks; packet = l .packet; row = l .row; col = l .col; pre = l .pre; rd = l .rd }
+  lasts-after (RowAt t p) e i = packet-all P cx ch (k .lasts) (RowAt t p) e
+  lasts-after (ColAt t p) e i =
+      let r : Record = ColAt t p in
+      let o : Option Write = leavingOf cx ch r in
+      let u : ℕ = t .0 + cx .settings .offp in
+      let c1 : Channel = afterRetire (t .0) o ch in
+      let c2 : Channel = afterImplied cx u (retireImplies o) c1 in
+      let k2 : LastsAll P c2 = implied-all P cx c1 (retire-all P cx ch (k .lasts) (t .0) o e) u (retireImplies o) (i .0) in
+      implied-all P cx (afterPacket cx c2 r) (packet-all P cx c2 k2 r e) u (traits r .implies) (i .1)
+  lasts-after (DataOf t d) e i =
+      let l = k .lasts in
+      record { size = l .size; banks = l .banks; packet = l .packet; row = l .row; col = l .col; pre = l .pre; rd = l .rd; implied = l .implied }
 
-  pub after-all : (r : Record) → P (instant r) → Q (instant r) → All P Q (after cx ch r)
+  pub after-all : (r : Record) → P (instant r) → Implied P cx ch r → Q (instant r) → All P Q (after cx ch r)
   unfolding waitingNext
-  after-all r e f =
+  after-all r e i f =
       record {
-        lasts = lasts-after r e;
+        lasts = lasts-after r e i;
         writes = rw (after-waits cx ch r) (writes-joined Q r (left (leavingOf cx ch r) (waitingOf (ch .buffer))) f (writes-left Q (leavingOf cx ch r) (waitingOf (ch .buffer)) (k .writes)));
       }
 
@@ -147,6 +185,6 @@ pub all-more : (P Q R S : ℕ → Type 0) → ((t : ℕ) → P t → R t) → ((
 all-more P Q R S f g ch k =
     let l = k .lasts in
     record {
-      lasts = record { size = l .size; banks = λ x m. track-more P R f (trackOf ch x) (l .banks x m); packet = f _ (l .packet); row = f _ (l .row); col = f _ (l .col); pre = f _ (l .pre); rd = f _ (l .rd) };
+      lasts = record { size = l .size; banks = λ x m. track-more P R f (trackOf ch x) (l .banks x m); packet = f _ (l .packet); row = f _ (l .row); col = f _ (l .col); pre = f _ (l .pre); rd = f _ (l .rd); implied = f _ (l .implied) };
       writes = writes-more Q S g (waitingOf (ch .buffer)) (k .writes);
     }

@@ -8,9 +8,9 @@ use native.Mathlib.Nat.{add-zero, mul-le-mul-left, eq-or-lt-of-le, le-of-suc-le-
 use native.Mathlib.Omega.{arith}
 use borrow.Author.Tests.{eq-eqb, ne-eqb}
 use lib.ListN.{length, length-append}
-use Rattle.num.specs.Bytes.{bytes, splice, zeros}
+use Rattle.num.specs.Bytes.{bytes, splice}
 use Rattle.num.proofs.ByteLaws.{length-bytes}
-use Rattle.num.proofs.SpliceLaws.{splice-left, splice-right, splice-whole, length-zeros}
+use Rattle.num.proofs.SpliceLaws.{splice-left, splice-right, splice-whole}
 use Rattle.spec_state.specs.ChannelBytes.{plane}
 use Rattle.spec_state.specs.form.Layout.{body, rest, Numbers, layout, with, atFigure, atTag, atLast, atCount, atWrite, atSecond, atTail}
 use Rattle.spec_state.proofs.PlaneLaws.{length-plane, plane-ext, grow}
@@ -107,55 +107,59 @@ same : (w v u : ℕ) → length (bytes w v) ≡ length (bytes w u)
 same w v u = length-bytes w v ∙ sym (length-bytes w u)
 
 -- past the six planes, the bytes before the count, and those before the tail
-module _ (l w c n d count write second : ℕ) (q : List ℕ) where
-  abbrev five : List ℕ
-  five = bytes 4 l ++ (bytes 4 w ++ (bytes 4 c ++ (bytes 4 n ++ bytes 4 d)))
-
-  rest-0 : (v : ℕ) → splice (rest l w c n d count write second q) 0 (bytes 4 v) ≡ rest v w c n d count write second q
+module _ (l w c n d p count write second : ℕ) (q : List ℕ) where
+  rest-0 : (v : ℕ) → splice (rest l w c n d p count write second q) 0 (bytes 4 v) ≡ rest v w c n d p count write second q
   rest-0 v = here (bytes 4 l) (bytes 4 v) _ (same 4 l v)
 
-  rest-4 : (v : ℕ) → splice (rest l w c n d count write second q) 4 (bytes 4 v) ≡ rest l v c n d count write second q
+  rest-4 : (v : ℕ) → splice (rest l w c n d p count write second q) 4 (bytes 4 v) ≡ rest l v c n d p count write second q
   rest-4 v = skip (bytes 4 l) _ 4 0 (bytes 4 v) _ (length-bytes 4 l) (here (bytes 4 w) (bytes 4 v) _ (same 4 w v))
 
-  rest-8 : (v : ℕ) → splice (rest l w c n d count write second q) 8 (bytes 4 v) ≡ rest l w v n d count write second q
+  rest-8 : (v : ℕ) → splice (rest l w c n d p count write second q) 8 (bytes 4 v) ≡ rest l w v n d p count write second q
   rest-8 v = skip (bytes 4 l) _ 4 4 (bytes 4 v) _ (length-bytes 4 l) (skip (bytes 4 w) _ 4 0 (bytes 4 v) _ (length-bytes 4 w) (here (bytes 4 c) (bytes 4 v) _ (same 4 c v)))
 
-  rest-12 : (v : ℕ) → splice (rest l w c n d count write second q) 12 (bytes 4 v) ≡ rest l w c v d count write second q
+  rest-12 : (v : ℕ) → splice (rest l w c n d p count write second q) 12 (bytes 4 v) ≡ rest l w c v d p count write second q
   rest-12 v =
       skip (bytes 4 l) _ 4 8 (bytes 4 v) _ (length-bytes 4 l)
       (skip (bytes 4 w) _ 4 4 (bytes 4 v) _ (length-bytes 4 w) (skip (bytes 4 c) _ 4 0 (bytes 4 v) _ (length-bytes 4 c) (here (bytes 4 n) (bytes 4 v) _ (same 4 n v))))
 
-  rest-16 : (v : ℕ) → splice (rest l w c n d count write second q) 16 (bytes 4 v) ≡ rest l w c n v count write second q
+  rest-16 : (v : ℕ) → splice (rest l w c n d p count write second q) 16 (bytes 4 v) ≡ rest l w c n v p count write second q
   rest-16 v =
       skip (bytes 4 l) _ 4 12 (bytes 4 v) _ (length-bytes 4 l)
       (skip (bytes 4 w) _ 4 8 (bytes 4 v) _ (length-bytes 4 w)
       (skip (bytes 4 c) _ 4 4 (bytes 4 v) _ (length-bytes 4 c) (skip (bytes 4 n) _ 4 0 (bytes 4 v) _ (length-bytes 4 n) (here (bytes 4 d) (bytes 4 v) _ (same 4 d v)))))
 
+  rest-20 : (v : ℕ) → splice (rest l w c n d p count write second q) 20 (bytes 4 v) ≡ rest l w c n d v count write second q
+  rest-20 v =
+      skip (bytes 4 l) _ 4 16 (bytes 4 v) _ (length-bytes 4 l)
+      (skip (bytes 4 w) _ 4 12 (bytes 4 v) _ (length-bytes 4 w)
+      (skip (bytes 4 c) _ 4 8 (bytes 4 v) _ (length-bytes 4 c)
+      (skip (bytes 4 n) _ 4 4 (bytes 4 v) _ (length-bytes 4 n) (skip (bytes 4 d) _ 4 0 (bytes 4 v) _ (length-bytes 4 d) (here (bytes 4 p) (bytes 4 v) _ (same 4 p v))))))
+
   -- past the last instants
   rest-24 : (r : List ℕ) (at : ℕ) (vs ws : List ℕ) → splice r at vs ≡ ws
-      → splice (bytes 4 l ++ (bytes 4 w ++ (bytes 4 c ++ (bytes 4 n ++ (bytes 4 d ++ (zeros 4 ++ r)))))) (24 + at) vs
-      ≡ bytes 4 l ++ (bytes 4 w ++ (bytes 4 c ++ (bytes 4 n ++ (bytes 4 d ++ (zeros 4 ++ ws)))))
+      → splice (bytes 4 l ++ (bytes 4 w ++ (bytes 4 c ++ (bytes 4 n ++ (bytes 4 d ++ (bytes 4 p ++ r)))))) (24 + at) vs
+      ≡ bytes 4 l ++ (bytes 4 w ++ (bytes 4 c ++ (bytes 4 n ++ (bytes 4 d ++ (bytes 4 p ++ ws)))))
   rest-24 r at vs ws h =
-      let xs : List ℕ = five ++ zeros 4 in
-      let k : length xs ≡ 24 = simp (length-append, length-bytes, length-zeros) in
-      let join : (z : List ℕ) → bytes 4 l ++ (bytes 4 w ++ (bytes 4 c ++ (bytes 4 n ++ (bytes 4 d ++ (zeros 4 ++ z))))) ≡ xs ++ z = λ z. simp append-assoc in
+      let xs : List ℕ = bytes 4 l ++ (bytes 4 w ++ (bytes 4 c ++ (bytes 4 n ++ (bytes 4 d ++ bytes 4 p)))) in
+      let k : length xs ≡ 24 = simp (length-append, length-bytes) in
+      let join : (z : List ℕ) → bytes 4 l ++ (bytes 4 w ++ (bytes 4 c ++ (bytes 4 n ++ (bytes 4 d ++ (bytes 4 p ++ z))))) ≡ xs ++ z = λ z. simp append-assoc in
       ap (λ (b : List ℕ). splice b (24 + at) vs) (join r) ∙ skip xs r 24 at vs ws k h ∙ sym (join ws)
 
-  rest-count : (v : ℕ) → splice (rest l w c n d count write second q) 24 (bytes 8 v) ≡ rest l w c n d v write second q
+  rest-count : (v : ℕ) → splice (rest l w c n d p count write second q) 24 (bytes 8 v) ≡ rest l w c n d p v write second q
   rest-count v = rest-24 _ 0 (bytes 8 v) _ (here (bytes 8 count) (bytes 8 v) _ (same 8 count v))
 
-  rest-write : (v : ℕ) → splice (rest l w c n d count write second q) 32 (bytes 8 v) ≡ rest l w c n d count v second q
+  rest-write : (v : ℕ) → splice (rest l w c n d p count write second q) 32 (bytes 8 v) ≡ rest l w c n d p count v second q
   rest-write v = rest-24 _ 8 (bytes 8 v) _ (skip (bytes 8 count) _ 8 0 (bytes 8 v) _ (length-bytes 8 count) (here (bytes 8 write) (bytes 8 v) _ (same 8 write v)))
 
-  rest-second : (v : ℕ) → splice (rest l w c n d count write second q) 40 (bytes 8 v) ≡ rest l w c n d count write v q
+  rest-second : (v : ℕ) → splice (rest l w c n d p count write second q) 40 (bytes 8 v) ≡ rest l w c n d p count write v q
   rest-second v =
       rest-24 _ 16 (bytes 8 v) _
       (skip (bytes 8 count) _ 8 8 (bytes 8 v) _ (length-bytes 8 count) (skip (bytes 8 write) _ 8 0 (bytes 8 v) _ (length-bytes 8 write) (here (bytes 8 second) (bytes 8 v) _ (same 8 second v))))
 
-  rest-tail : (at : ℕ) (vs : List ℕ) → splice (rest l w c n d count write second q) (48 + at) vs ≡ rest l w c n d count write second (splice q at vs)
+  rest-tail : (at : ℕ) (vs : List ℕ) → splice (rest l w c n d p count write second q) (48 + at) vs ≡ rest l w c n d p count write second (splice q at vs)
   rest-tail at vs =
       let e : 48 + at ≡ 24 + (8 + (8 + (8 + at))) = omega arith in
-      ap (λ (i : ℕ). splice (rest l w c n d count write second q) i vs) e
+      ap (λ (i : ℕ). splice (rest l w c n d p count write second q) i vs) e
       ∙ rest-24 _ (8 + (8 + (8 + at))) vs _
       (skip (bytes 8 count) _ 8 (8 + (8 + at)) vs _ (length-bytes 8 count)
       (skip (bytes 8 write) _ 8 (8 + at) vs _ (length-bytes 8 write) (splice-right (bytes 8 second) q 8 at vs (length-bytes 8 second))))
@@ -163,9 +167,9 @@ module _ (l w c n d count write second : ℕ) (q : List ℕ) where
 -- ---- a store, by its place
 
 module _ (n : Numbers) where
-  abbrev past-to : (at : ℕ) (vs r : List ℕ) → splice (rest (n .last 0) (n .last 1) (n .last 2) (n .last 3) (n .last 4) (n .count) (n .write) (n .second) (n .tail)) at vs ≡ r
+  abbrev past-to : (at : ℕ) (vs r : List ℕ) → splice (rest (n .last 0) (n .last 1) (n .last 2) (n .last 3) (n .last 4) (n .last 5) (n .count) (n .write) (n .second) (n .tail)) at vs ≡ r
       → splice (body (n .figure 0) (n .figure 1) (n .figure 2) (n .figure 3) (n .figure 4) (n .tag)
-      (rest (n .last 0) (n .last 1) (n .last 2) (n .last 3) (n .last 4) (n .count) (n .write) (n .second) (n .tail))) (704 + at) vs
+      (rest (n .last 0) (n .last 1) (n .last 2) (n .last 3) (n .last 4) (n .last 5) (n .count) (n .write) (n .second) (n .tail))) (704 + at) vs
       ≡ body (n .figure 0) (n .figure 1) (n .figure 2) (n .figure 3) (n .figure 4) (n .tag) r
   past-to at vs r e =
       past-planes (n .figure 0) (n .figure 1) (n .figure 2) (n .figure 3) (n .figure 4) (n .tag) _ at vs
@@ -198,42 +202,46 @@ module _ (n : Numbers) where
 
     pub put-704 : splice (layout n) 704 (bytes 4 v) ≡ layout (atLast 0 v n)
     unfolding layout
-    put-704 = past-to 0 (bytes 4 v) _ (rest-0 _ _ _ _ _ _ _ _ _ v)
+    put-704 = past-to 0 (bytes 4 v) _ (rest-0 _ _ _ _ _ _ _ _ _ _ v)
 
     pub put-708 : splice (layout n) 708 (bytes 4 v) ≡ layout (atLast 1 v n)
     unfolding layout
-    put-708 = past-to 4 (bytes 4 v) _ (rest-4 _ _ _ _ _ _ _ _ _ v)
+    put-708 = past-to 4 (bytes 4 v) _ (rest-4 _ _ _ _ _ _ _ _ _ _ v)
 
     pub put-712 : splice (layout n) 712 (bytes 4 v) ≡ layout (atLast 2 v n)
     unfolding layout
-    put-712 = past-to 8 (bytes 4 v) _ (rest-8 _ _ _ _ _ _ _ _ _ v)
+    put-712 = past-to 8 (bytes 4 v) _ (rest-8 _ _ _ _ _ _ _ _ _ _ v)
 
     pub put-716 : splice (layout n) 716 (bytes 4 v) ≡ layout (atLast 3 v n)
     unfolding layout
-    put-716 = past-to 12 (bytes 4 v) _ (rest-12 _ _ _ _ _ _ _ _ _ v)
+    put-716 = past-to 12 (bytes 4 v) _ (rest-12 _ _ _ _ _ _ _ _ _ _ v)
 
     pub put-720 : splice (layout n) 720 (bytes 4 v) ≡ layout (atLast 4 v n)
     unfolding layout
-    put-720 = past-to 16 (bytes 4 v) _ (rest-16 _ _ _ _ _ _ _ _ _ v)
+    put-720 = past-to 16 (bytes 4 v) _ (rest-16 _ _ _ _ _ _ _ _ _ _ v)
+
+    pub put-724 : splice (layout n) 724 (bytes 4 v) ≡ layout (atLast 5 v n)
+    unfolding layout
+    put-724 = past-to 20 (bytes 4 v) _ (rest-20 _ _ _ _ _ _ _ _ _ _ v)
 
     pub put-count : splice (layout n) 728 (bytes 8 v) ≡ layout (atCount v n)
     unfolding layout
-    put-count = past-to 24 (bytes 8 v) _ (rest-count _ _ _ _ _ _ _ _ _ v)
+    put-count = past-to 24 (bytes 8 v) _ (rest-count _ _ _ _ _ _ _ _ _ _ v)
 
     pub put-write : splice (layout n) 736 (bytes 8 v) ≡ layout (atWrite v n)
     unfolding layout
-    put-write = past-to 32 (bytes 8 v) _ (rest-write _ _ _ _ _ _ _ _ _ v)
+    put-write = past-to 32 (bytes 8 v) _ (rest-write _ _ _ _ _ _ _ _ _ _ v)
 
     pub put-second : splice (layout n) 744 (bytes 8 v) ≡ layout (atSecond v n)
     unfolding layout
-    put-second = past-to 40 (bytes 8 v) _ (rest-second _ _ _ _ _ _ _ _ _ v)
+    put-second = past-to 40 (bytes 8 v) _ (rest-second _ _ _ _ _ _ _ _ _ _ v)
 
   -- into the bytes after the channel's
   pub put-tail : (at : ℕ) (vs : List ℕ) → splice (layout n) (752 + at) vs ≡ layout (atTail (splice (n .tail) at vs) n)
   unfolding layout
   put-tail at vs =
       let e : 752 + at ≡ 704 + (48 + at) = omega arith in
-      rw e (past-to (48 + at) vs _ (rest-tail _ _ _ _ _ _ _ _ _ at vs))
+      rw e (past-to (48 + at) vs _ (rest-tail _ _ _ _ _ _ _ _ _ _ at vs))
 
 -- six planes with the same numbers, before the same bytes
 pub body-ext : {f0 f1 f2 f3 f4 g h0 h1 h2 h3 h4 k : ℕ → ℕ} {r q : List ℕ}
@@ -247,7 +255,7 @@ body-ext {f0} {f1} {f2} {f3} {f4} {g} {h0} {h1} {h2} {h3} {h4} {k} e0 e1 e2 e3 e
 pub layout-ext : (n m : Numbers)
     → ((i : ℕ) → i < 32 → n .figure 0 i ≡ m .figure 0 i) → ((i : ℕ) → i < 32 → n .figure 1 i ≡ m .figure 1 i) → ((i : ℕ) → i < 32 → n .figure 2 i ≡ m .figure 2 i)
     → ((i : ℕ) → i < 32 → n .figure 3 i ≡ m .figure 3 i) → ((i : ℕ) → i < 32 → n .figure 4 i ≡ m .figure 4 i) → ((i : ℕ) → i < 32 → n .tag i ≡ m .tag i)
-    → n .last 0 ≡ m .last 0 → n .last 1 ≡ m .last 1 → n .last 2 ≡ m .last 2 → n .last 3 ≡ m .last 3 → n .last 4 ≡ m .last 4
+    → n .last 0 ≡ m .last 0 → n .last 1 ≡ m .last 1 → n .last 2 ≡ m .last 2 → n .last 3 ≡ m .last 3 → n .last 4 ≡ m .last 4 → n .last 5 ≡ m .last 5
     → n .count ≡ m .count → n .write ≡ m .write → n .second ≡ m .second → n .tail ≡ m .tail → layout n ≡ layout m
 unfolding layout
-layout-ext n m e0 e1 e2 e3 e4 e5 l0 l1 l2 l3 l4 c w y t = body-ext e0 e1 e2 e3 e4 e5 (rw (l0, l1, l2, l3, l4, c, w, y, t))
+layout-ext n m e0 e1 e2 e3 e4 e5 l0 l1 l2 l3 l4 l5 c w y t = body-ext e0 e1 e2 e3 e4 e5 (rw (l0, l1, l2, l3, l4, l5, c, w, y, t))

@@ -28,7 +28,7 @@ length-banks ch = simp (length-append, length-plane)
 
 pub length-lasts : (l : LastInstants) → length (lastsBytes l) ≡ 24
 unfolding lastsBytes
-length-lasts l = simp (length-append, length-bytes, length-zeros)
+length-lasts l = simp (length-append, length-bytes)
 
 pub length-count : (n : ℕ) (due : Bool) → length (countBytes n due) ≡ 8
 unfolding countBytes
@@ -62,7 +62,7 @@ Bytes-count n due = number-first 1 n _ (number-first 1 (cond due 1 0) _ (Bytes-z
 
 Bytes-write : (w : Write) → Bytes (writeBytes w)
 unfolding writeBytes
-Bytes-write w = number-first 1 (w .bank) _ (number-first 1 (w .column) _ (number-first 2 0 _ (Bytes-bytes 4 _)))
+Bytes-write w = number-first 1 (w .bank) _ (number-first 1 (w .column) _ (number-first 2 (cond (w .close) 1 0) _ (Bytes-bytes 4 _)))
 
 Bytes-buffer : (b : Buffer) (due : Bool) → Bytes (bufferBytes b due)
 unfolding bufferBytes
@@ -74,7 +74,7 @@ Bytes-lasts : (l : LastInstants) → Bytes (lastsBytes l)
 unfolding lastsBytes
 Bytes-lasts l =
     number-first 4 _ _
-    (number-first 4 _ _ (number-first 4 _ _ (number-first 4 _ _ (number-first 4 _ _ (Bytes-zeros 4)))))
+    (number-first 4 _ _ (number-first 4 _ _ (number-first 4 _ _ (number-first 4 _ _ (Bytes-bytes 4 _)))))
 
 Bytes-banks : (ch : Channel) → Bytes (banksBytes ch)
 unfolding banksBytes

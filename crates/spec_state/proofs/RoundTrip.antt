@@ -33,7 +33,7 @@ use Rattle.spec_rules.specs.Channel.{idle, trackOf, stateOf, waitingOf}
 use Rattle.spec_rules.specs.Checks.{since}
 use Rattle.spec_rules.proofs.Bools.{and-left, and-right}
 use Rattle.spec_state.specs.Valid.{isStamp, bankValid, trackValid, writeValid, lastsValid, channelValid}
-use Rattle.spec_state.specs.ChannelBytes.{instantBytes, bankTag, plane, instantPlane, banksBytes, lastsBytes, countBytes, writeBytes, bufferBytes, channelBytes, instantOf, instantIn, bankIn, trackIn, tracksIn, lastsIn, writeIn, bufferIn, channelIn, zeroPart, channelSpare}
+use Rattle.spec_state.specs.ChannelBytes.{instantBytes, bankTag, plane, instantPlane, banksBytes, lastsBytes, countBytes, writeBytes, bufferBytes, channelBytes, instantOf, instantIn, bankIn, trackIn, tracksIn, lastsIn, writeIn, bufferIn, channelIn, zeroPart, closeRight, channelSpare}
 use Rattle.spec_state.proofs.EachInstant.{TrackAll, WritesAll, LastsAll, All, all-more}
 use Rattle.spec_state.proofs.Stamps.{Stamp, IsInstant, Stamped, instant-stamp}
 use Rattle.spec_state.proofs.NextValid.{Sound, valid-sound}
@@ -188,7 +188,7 @@ number-zeros (suc n) = rw (number-zeros n)
 pub zero-back : (b : List ℕ) (at n : ℕ) → part b at n ≡ zeros n → zeroPart b at n ≡ true
 zero-back b at n h = rw (h, number-zeros n)
 
-lasts-back : (b : List ℕ) (ch : Channel) → LastsAll Back ch → part b 704 24 ≡ lastsBytes (ch .lasts) → (lastsIn b ≡ ch .lasts) × (zeroPart b 724 4 ≡ true)
+lasts-back : (b : List ℕ) (ch : Channel) → LastsAll Back ch → part b 704 24 ≡ lastsBytes (ch .lasts) → lastsIn b ≡ ch .lasts
 unfolding lastsBytes lastsIn
 lasts-back b ch v h =
     let l : LastInstants = ch .lasts in
@@ -196,24 +196,24 @@ lasts-back b ch v h =
     let p2 = part-split b 708 4 16 _ _ (length-bytes 4 (l .row .0 - 3)) (p1 .1) in
     let p3 = part-split b 712 4 12 _ _ (length-bytes 4 (l .col .0 - 3)) (p2 .1) in
     let p4 = part-split b 716 4 8 _ _ (length-bytes 4 (l .pre .0 - 3)) (p3 .1) in
-    let p5 = part-split b 720 4 4 _ _ (length-bytes 4 (l .rd .0 - 3)) (p4 .1) in (
-      rw (
-        instant-back b 704 (l .packet) (p1 .0) (v .packet),
-        instant-back b 708 (l .row) (p2 .0) (v .row),
-        instant-back b 712 (l .col) (p3 .0) (v .col),
-        instant-back b 716 (l .pre) (p4 .0) (v .pre),
-        instant-back b 720 (l .rd) (p5 .0) (v .rd),
-      ),
-      zero-back b 724 4 (p5 .1),
+    let p5 = part-split b 720 4 4 _ _ (length-bytes 4 (l .rd .0 - 3)) (p4 .1) in
+    rw (
+      instant-back b 704 (l .packet) (p1 .0) (v .packet),
+      instant-back b 708 (l .row) (p2 .0) (v .row),
+      instant-back b 712 (l .col) (p3 .0) (v .col),
+      instant-back b 716 (l .pre) (p4 .0) (v .pre),
+      instant-back b 720 (l .rd) (p5 .0) (v .rd),
+      instant-back b 724 (l .implied) (p5 .1) (v .implied),
     )
 
 -- one byte at its place
 byte-back : (b : List ℕ) (at n : ℕ) → part b at 1 ≡ bytes 1 n → n < 256 → at < length b → getD b at 0 ≡ n
 byte-back b at n h m l = sym (number-one b at l) ∙ ap number h ∙ number-bytes 1 n m
 
-due-back : (due : Bool) → (eqb (cond due 1 0) 1 ≡ due) × (leb (cond due 1 0) 1 ≡ true)
-due-back true = (refl, refl)
-due-back false = (refl, refl)
+-- a test as one number
+bit-back : (q : Bool) → (eqb (cond q 1 0) 1 ≡ q) × (leb (cond q 1 0) 1 ≡ true) × (cond q 1 0 < 256)
+bit-back true = (refl, refl, omega arith)
+bit-back false = (refl, refl, omega arith)
 
 -- the number of writes that wait, and whether data are due
 count-back : (b : List ℕ) (n : ℕ) (due : Bool) (rest : List ℕ) → 752 ≤ length b → n < 3 → part b 728 24 ≡ countBytes n due ++ rest
@@ -223,51 +223,51 @@ count-back b n due rest l m h =
     let whole = part-split b 728 8 16 _ _ (length-count n due) h in
     let p1 = part-split b 728 1 7 _ _ (length-bytes 1 n) (whole .0) in
     let p2 = part-split b 729 1 6 _ _ (length-bytes 1 (cond due 1 0)) (p1 .1) in
-    let byte : getD b 729 0 ≡ cond due 1 0 = byte-back b 729 (cond due 1 0) (p2 .0) (below due) (omega arith) in
-    (byte-back b 728 n (p1 .0) (omega arith) (omega arith), rw byte (due-back due .0), rw byte (due-back due .1), zero-back b 730 6 (p2 .1), whole .1)
-  where
-    below : (due : Bool) → cond due 1 0 < 256
-    below true = omega arith
-    below false = omega arith
+    let byte : getD b 729 0 ≡ cond due 1 0 = byte-back b 729 (cond due 1 0) (p2 .0) (bit-back due .2) (omega arith) in
+    (byte-back b 728 n (p1 .0) (omega arith) (omega arith), rw byte (bit-back due .0), rw byte (bit-back due .1), zero-back b 730 6 (p2 .1), whole .1)
 
 write-back : (cx : Context) (b : List ℕ) (at : ℕ) (w : Write) → at + 8 ≤ length b → cx .settings .columns ≤ 128 → WriteIn cx w → Back (w .at .0) → part b at 8 ≡ writeBytes w
-    → (writeIn b at ≡ w) × (zeroPart b (at + 2) 2 ≡ true)
+    → (writeIn b at ≡ w) × (closeRight b at ≡ true)
 unfolding writeBytes bankCount
 write-back cx b at w l m i v h =
+    let close : ℕ = cond (w .close) 1 0 in
     let bank : w .bank < 32 = i .0 in
     let column : w .column < cx .settings .columns = i .1 in
-    let p1 = part-split b at 1 7 (bytes 1 (w .bank)) (bytes 1 (w .column) ++ (bytes 2 0 ++ instantBytes (w .at))) (length-bytes 1 (w .bank)) h in
-    let p2 = part-split b (at + 1) 1 6 (bytes 1 (w .column)) (bytes 2 0 ++ instantBytes (w .at)) (length-bytes 1 (w .column)) (p1 .1) in
+    let p1 = part-split b at 1 7 (bytes 1 (w .bank)) (bytes 1 (w .column) ++ (bytes 2 close ++ instantBytes (w .at))) (length-bytes 1 (w .bank)) h in
+    let p2 = part-split b (at + 1) 1 6 (bytes 1 (w .column)) (bytes 2 close ++ instantBytes (w .at)) (length-bytes 1 (w .column)) (p1 .1) in
     let second : at + 1 + 1 ≡ at + 2 = omega arith in
     let fourth : at + 2 + 2 ≡ at + 4 = omega arith in
-    let p3 = part-split b (at + 2) 2 4 (bytes 2 0) (instantBytes (w .at)) (length-bytes 2 0) (rw second at (p2 .1)) in (
+    let p3 = part-split b (at + 2) 2 4 (bytes 2 close) (instantBytes (w .at)) (length-bytes 2 close) (rw second at (p2 .1)) in
+    let bit : number (part b (at + 2) 2) ≡ close = ap number (p3 .0) ∙ number-bytes 2 close (omega (arith, bit-back (w .close) .2)) in
+    let says : writeIn b at .close ≡ w .close = ap (λ (n : ℕ). eqb n 1) bit ∙ bit-back (w .close) .0 in (
       rw (
         byte-back b at (w .bank) (p1 .0) (omega arith) (omega arith),
         byte-back b (at + 1) (w .column) (p2 .0) (omega arith) (omega arith),
         instant-back b (at + 4) (w .at) (rw fourth at (p3 .1)) v,
+        says,
       ),
-      rw (p3 .0, number-bytes 2 0 (omega arith)),
+      rw bit (bit-back (w .close) .1),
     )
 
 buffer-back : (cx : Context) (b : List ℕ) (buffer : Buffer) (due : Bool) → 752 ≤ length b → cx .settings .columns ≤ 128
-    → WritesIn cx (waitingOf buffer) → WritesAll SomeBack (waitingOf buffer) → zeroPart b 724 4 ≡ true → part b 728 24 ≡ bufferBytes buffer due
+    → WritesIn cx (waitingOf buffer) → WritesAll SomeBack (waitingOf buffer) → part b 728 24 ≡ bufferBytes buffer due
     → (bufferIn b ≡ buffer) × (eqb (getD b 729 0) 1 ≡ due) × (channelSpare b ≡ true)
 unfolding bufferBytes bufferIn channelSpare waitingOf
-buffer-back cx b Empty due l m i v z h =
+buffer-back cx b Empty due l m i v h =
     let q = count-back b 0 due (zeros 16) l (omega arith) h in
     let p = part-split b 736 8 8 (zeros 8) (zeros 8) (length-zeros 8) (q .4) in
-    (rw (q .0), q .1, rw (z, q .0, q .2, q .3, zero-back b 736 8 (p .0), zero-back b 744 8 (p .1)))
-buffer-back cx b (One w) due l m i v z h =
+    (rw (q .0), q .1, rw (q .0, q .2, q .3, zero-back b 736 8 (p .0), zero-back b 744 8 (p .1)))
+buffer-back cx b (One w) due l m i v h =
     let q = count-back b 1 due (writeBytes w ++ zeros 8) l (omega arith) h in
     let p = part-split b 736 8 8 (writeBytes w) (zeros 8) (length-write w) (q .4) in
     let one = write-back cx b 736 w (omega arith) m (i .0) (v .0 .1) (p .0) in
-    (rw (q .0, one .0), q .1, rw (z, q .0, q .2, q .3, one .1, zero-back b 744 8 (p .1)))
-buffer-back cx b (Two x y) due l m i v z h =
+    (rw (q .0, one .0), q .1, rw (q .0, q .2, q .3, one .1, zero-back b 744 8 (p .1)))
+buffer-back cx b (Two x y) due l m i v h =
     let q = count-back b 2 due (writeBytes x ++ writeBytes y) l (omega arith) h in
     let p = part-split b 736 8 8 (writeBytes x) (writeBytes y) (length-write x) (q .4) in
     let one = write-back cx b 736 x (omega arith) m (i .0) (v .0 .1) (p .0) in
     let other = write-back cx b 744 y (omega arith) m (i .1 .0) (v .1 .0 .1) (p .1) in
-    (rw (q .0, one .0, other .0), q .1, rw (z, q .0, q .2, q .3, one .1, other .1))
+    (rw (q .0, one .0, other .0), q .1, rw (q .0, q .2, q .3, one .1, other .1))
 
 -- what a state must be for that: instants that fit their bytes, open rows, and banks and columns of waiting writes in range
 pub record Kept (cx : Context) (ch : Channel) : Type 0 where
@@ -284,8 +284,8 @@ channel-back cx ch b v k n h =
     let banks : tracksIn b 32 ≡ ch .banks =
     sym (tracks-are b (ch .banks) 32 (k .instants .lasts .size) (λ x l. sym (track-back cx b ch x p l (m .rows-most) (k .instants .lasts .banks x l) (k .rows-in x l)))) in
     let q = lasts-back b ch (k .instants .lasts) (p .lasts) in
-    let w = buffer-back cx b (ch .buffer) (ch .due) n (m .columns-most) (k .write-in) (k .instants .writes) (q .1) (p .buffer) in
-    (rw (banks, q .0, w .0, w .1), w .2)
+    let w = buffer-back cx b (ch .buffer) (ch .due) n (m .columns-most) (k .write-in) (k .instants .writes) (p .buffer) in
+    (rw (banks, q, w .0, w .1), w .2)
 
 pub valid-kept : (cx : Context) (ch : Channel) → channelValid cx ch ≡ true → Kept cx ch
 valid-kept cx ch c =
@@ -333,60 +333,62 @@ tags-in b w l =
     (plane-part b 2 640 (λ x. bankTag (getD (tracksIn b 32) x idle .bank)) 32 w (omega arith)
     (λ x m. ap (λ (k : BankTrack). bankTag (k .bank)) (tracks-at b 32 x m) ∙ tag-in (number (part b (640 + 2 * x) 2))))
 
-lasts-in : (b : List ℕ) → Bytes b → 752 ≤ length b → zeroPart b 724 4 ≡ true → part b 704 24 ≡ lastsBytes (lastsIn b)
+lasts-in : (b : List ℕ) → Bytes b → 752 ≤ length b → part b 704 24 ≡ lastsBytes (lastsIn b)
 unfolding lastsIn lastsBytes
-lasts-in b w l z =
+lasts-in b w l =
     sym
     (part-both b 704 4 20 _ _ (instant-in b 704 w (omega arith))
     (part-both b 708 4 16 _ _ (instant-in b 708 w (omega arith))
     (part-both b 712 4 12 _ _ (instant-in b 712 w (omega arith))
-    (part-both b 716 4 8 _ _ (instant-in b 716 w (omega arith)) (part-both b 720 4 4 _ _ (instant-in b 720 w (omega arith)) (zero-in b 724 4 w (omega arith) z))))))
+    (part-both b 716 4 8 _ _ (instant-in b 716 w (omega arith)) (part-both b 720 4 4 _ _ (instant-in b 720 w (omega arith)) (instant-in b 724 w (omega arith)))))))
 
-write-in : (b : List ℕ) (at : ℕ) → Bytes b → at + 8 ≤ length b → zeroPart b (at + 2) 2 ≡ true → writeBytes (writeIn b at) ≡ part b at 8
+-- a number that is 0 or 1, as a test
+bit-in : (n : ℕ) → leb n 1 ≡ true → cond (eqb n 1) 1 0 ≡ n
+bit-in n h = go (eqb n 1) refl
+  where
+    go : (q : Bool) → eqb n 1 ≡ q → cond q 1 0 ≡ n
+    go true e = sym (eqb-true n 1 e)
+    go false e = omega (arith, leb-true n 1 h, eqb-false n 1 e)
+
+write-in : (b : List ℕ) (at : ℕ) → Bytes b → at + 8 ≤ length b → closeRight b at ≡ true → writeBytes (writeIn b at) ≡ part b at 8
 unfolding writeBytes
 write-in b at w l z =
+    let close : ℕ = number (part b (at + 2) 2) in
     let second : at + 1 + 1 ≡ at + 2 = omega arith in
     let fourth : at + 2 + 2 ≡ at + 4 = omega arith in
     part-both b at 1 7 (bytes 1 (getD b at 0)) _ (one-byte b at w (omega arith))
     (part-both b (at + 1) 1 6 (bytes 1 (getD b (at + 1) 0)) _ (one-byte b (at + 1) w (omega arith))
-    (rw second (part-both b (at + 2) 2 4 (bytes 2 0) _ (bytes-zero 2 ∙ zero-in b (at + 2) 2 w (omega arith) z) (rw fourth (instant-in b (at + 4) w (omega arith))))))
+    (rw second (part-both b (at + 2) 2 4 (bytes 2 (cond (eqb close 1) 1 0)) _ (ap (bytes 2) (bit-in close z) ∙ bytes-part b (at + 2) 2 w (omega arith)) (rw fourth (instant-in b (at + 4) w (omega arith))))))
 
 count-in : (b : List ℕ) (n : ℕ) → Bytes b → 752 ≤ length b → getD b 728 0 ≡ n → leb (getD b 729 0) 1 ≡ true → zeroPart b 730 6 ≡ true
     → countBytes n (eqb (getD b 729 0) 1) ≡ part b 728 8
 unfolding countBytes
 count-in b n w l e d z =
     part-both b 728 1 7 (bytes 1 n) _ (ap (bytes 1) (sym e) ∙ one-byte b 728 w (omega arith))
-    (part-both b 729 1 6 (bytes 1 (cond (eqb (getD b 729 0) 1) 1 0)) _ (ap (bytes 1) (due-in (eqb (getD b 729 0) 1) refl) ∙ one-byte b 729 w (omega arith))
+    (part-both b 729 1 6 (bytes 1 (cond (eqb (getD b 729 0) 1) 1 0)) _ (ap (bytes 1) (bit-in (getD b 729 0) d) ∙ one-byte b 729 w (omega arith))
     (zero-in b 730 6 w (omega arith) z))
-  where
-    due-in : (q : Bool) → eqb (getD b 729 0) 1 ≡ q → cond q 1 0 ≡ getD b 729 0
-    due-in true e = sym (eqb-true (getD b 729 0) 1 e)
-    due-in false e = omega (arith, leb-true (getD b 729 0) 1 d, eqb-false (getD b 729 0) 1 e)
 
 -- what `channelSpare` says, test by test
 record Spare (b : List ℕ) : Type 0 where
-  after-lasts : zeroPart b 724 4 ≡ true
   count : leb (getD b 728 0) 2 ≡ true
   due : leb (getD b 729 0) 1 ≡ true
   after-due : zeroPart b 730 6 ≡ true
-  first : cond (eqb (getD b 728 0) 0) (zeroPart b 736 8) (zeroPart b 738 2) ≡ true
-  second : cond (leb (getD b 728 0) 1) (zeroPart b 744 8) (zeroPart b 746 2) ≡ true
+  first : cond (eqb (getD b 728 0) 0) (zeroPart b 736 8) (closeRight b 736) ≡ true
+  second : cond (leb (getD b 728 0) 1) (zeroPart b 744 8) (closeRight b 744) ≡ true
 
 spare-tests : (b : List ℕ) → channelSpare b ≡ true → Spare b
 unfolding channelSpare
 spare-tests b e =
     let counts : Bool = leb (getD b 728 0) 2 && (leb (getD b 729 0) 1 && zeroPart b 730 6) in
-    let rest = and-right (zeroPart b 724 4) _ e in
-    let c = and-left counts _ rest in
+    let c = and-left counts _ e in
     let d = and-right (leb (getD b 728 0) 2) _ c in
-    let f = and-right counts _ rest in
+    let f = and-right counts _ e in
     record {
-      after-lasts = and-left (zeroPart b 724 4) _ e;
       count = and-left (leb (getD b 728 0) 2) _ c;
       due = and-left (leb (getD b 729 0) 1) _ d;
       after-due = and-right (leb (getD b 729 0) 1) _ d;
-      first = and-left (cond (eqb (getD b 728 0) 0) (zeroPart b 736 8) (zeroPart b 738 2)) _ f;
-      second = and-right (cond (eqb (getD b 728 0) 0) (zeroPart b 736 8) (zeroPart b 738 2)) _ f;
+      first = and-left (cond (eqb (getD b 728 0) 0) (zeroPart b 736 8) (closeRight b 736)) _ f;
+      second = and-right (cond (eqb (getD b 728 0) 0) (zeroPart b 736 8) (closeRight b 736)) _ f;
     }
 
 buffer-in : (b : List ℕ) → Bytes b → 752 ≤ length b → Spare b → part b 728 24 ≡ bufferBytes (bufferIn b) (eqb (getD b 729 0) 1)
@@ -426,6 +428,6 @@ channel-encode-decode b w l v =
       rd = instants-in b 384 (λ k. k .rd) w (omega arith) (λ x. refl);
       retire = instants-in b 512 (λ k. k .retire) w (omega arith) (λ x. refl);
       bank = tags-in b w l;
-      lasts = lasts-in b w l (k .after-lasts);
+      lasts = lasts-in b w l;
       buffer = buffer-in b w l k;
     }

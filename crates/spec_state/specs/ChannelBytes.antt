@@ -51,18 +51,18 @@ banksBytes ch =
     ++ (instantPlane (λ x. trackOf ch x .pre)
     ++ (instantPlane (λ x. trackOf ch x .rd) ++ (instantPlane (λ x. trackOf ch x .retire) ++ plane 2 (λ x. bankTag (trackOf ch x .bank)) bankCount))))
 
--- 24 bytes: the last instants of the channel, of any packet, ROW, COL, PRER or REFP, RD; zeros
+-- 24 bytes: the last instants of the channel, of any packet, ROW, COL, PRER or REFP, RD, implied PRER
 unfoldable pub lastsBytes : LastInstants → List ℕ
 lastsBytes l =
-    instantBytes (l .packet) ++ (instantBytes (l .row) ++ (instantBytes (l .col) ++ (instantBytes (l .pre) ++ (instantBytes (l .rd) ++ zeros 4))))
+    instantBytes (l .packet) ++ (instantBytes (l .row) ++ (instantBytes (l .col) ++ (instantBytes (l .pre) ++ (instantBytes (l .rd) ++ instantBytes (l .implied)))))
 
 -- 8 bytes: how many writes wait, whether data are due, zeros
 unfoldable pub countBytes : ℕ → Bool → List ℕ
 countBytes count due = bytes 1 count ++ (bytes 1 (cond due 1 0) ++ zeros 6)
 
--- 8 bytes: bank, column, zeros, the instant of WR
+-- 8 bytes: bank, column, whether its retire closes the bank, the instant of WR
 unfoldable pub writeBytes : Write → List ℕ
-writeBytes w = bytes 1 (w .bank) ++ (bytes 1 (w .column) ++ (bytes 2 0 ++ instantBytes (w .at)))
+writeBytes w = bytes 1 (w .bank) ++ (bytes 1 (w .column) ++ (bytes 2 (cond (w .close) 1 0) ++ instantBytes (w .at)))
 
 -- 24 bytes: the writes that wait, older first; the place of one that does not wait is 0
 unfoldable pub bufferBytes : Buffer → Bool → List ℕ
@@ -103,10 +103,10 @@ tracksIn b (suc n) = tracksIn b n ++ (trackIn b n ∷ [])
 
 unfoldable pub lastsIn : List ℕ → LastInstants
 lastsIn b =
-    record { packet = instantIn b 704; row = instantIn b 708; col = instantIn b 712; pre = instantIn b 716; rd = instantIn b 720 }
+    record { packet = instantIn b 704; row = instantIn b 708; col = instantIn b 712; pre = instantIn b 716; rd = instantIn b 720; implied = instantIn b 724 }
 
 abbrev pub writeIn : List ℕ → ℕ → Write
-writeIn b at = record { bank = getD b at 0; column = getD b (at + 1) 0; at = instantIn b (at + 4) }
+writeIn b at = record { bank = getD b at 0; column = getD b (at + 1) 0; at = instantIn b (at + 4); close = eqb (number (part b (at + 2) 2)) 1 }
 
 unfoldable pub bufferIn : List ℕ → Buffer
 bufferIn b =
@@ -121,9 +121,12 @@ channelIn b = record { banks = tracksIn b bankCount; lasts = lastsIn b; buffer =
 abbrev pub zeroPart : List ℕ → ℕ → ℕ → Bool
 zeroPart b at n = eqb (number (part b at n)) 0
 
--- two writes wait at most, data are due or not, and every byte that no field uses is 0
+-- the two bytes that say whether a write closes its bank
+abbrev pub closeRight : List ℕ → ℕ → Bool
+closeRight b at = leb (number (part b (at + 2) 2)) 1
+
+-- two writes wait at most, data are due or not, a write closes its bank or not, and every byte that no field uses is 0
 unfoldable pub channelSpare : List ℕ → Bool
 channelSpare b =
-    zeroPart b 724 4
-    && ((leb (getD b 728 0) 2 && (leb (getD b 729 0) 1 && zeroPart b 730 6))
-    && (cond (eqb (getD b 728 0) 0) (zeroPart b 736 8) (zeroPart b 738 2) && cond (leb (getD b 728 0) 1) (zeroPart b 744 8) (zeroPart b 746 2)))
+    (leb (getD b 728 0) 2 && (leb (getD b 729 0) 1 && zeroPart b 730 6))
+    && (cond (eqb (getD b 728 0) 0) (zeroPart b 736 8) (closeRight b 736) && cond (leb (getD b 728 0) 1) (zeroPart b 744 8) (closeRight b 744))

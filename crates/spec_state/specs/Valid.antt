@@ -40,7 +40,7 @@ writeValid cx w = ltb (w .bank) bankCount && (ltb (w .column) (cx .settings .col
 
 unfoldable pub lastsValid : Channel → Bool
 lastsValid ch =
-    isStamp (ch .lasts .packet .0) && (isStamp (ch .lasts .row .0) && (isStamp (ch .lasts .col .0) && (isStamp (ch .lasts .pre .0) && isStamp (ch .lasts .rd .0))))
+    isStamp (ch .lasts .packet .0) && (isStamp (ch .lasts .row .0) && (isStamp (ch .lasts .col .0) && (isStamp (ch .lasts .pre .0) && (isStamp (ch .lasts .rd .0) && isStamp (ch .lasts .implied .0)))))
 
 -- ---- what the fields are to each other
 

@@ -15,7 +15,7 @@ use Rattle.spec_rules.specs.History.{isOpen, anyWrite, allWrites}
 use Rattle.spec_rules.specs.Channel.{stateOf, waitingOf}
 use Rattle.spec_rules.proofs.Bools.{not-both}
 use Rattle.spec_state.specs.Valid.{writeValid, apart, channelValid}
-use Rattle.spec_state.specs.ChannelBytes.{tracksIn, writeIn, bufferIn, channelIn, zeroPart, channelSpare}
+use Rattle.spec_state.specs.ChannelBytes.{tracksIn, writeIn, bufferIn, channelIn, zeroPart, closeRight, channelSpare}
 use Rattle.spec_state.proofs.PlaneLaws.{length-tracks}
 use Rattle.state_bytes.specs.form.Stored.{latest}
 use Rattle.state_bytes.specs.form.Tested.{allStored, tagsRight, writeRight, bufferRight, channelTested}
@@ -73,32 +73,42 @@ may-due true false true false z e = sym (and-false z)
 may-due true false false true z e = refl
 may-due true false false false z e = refl
 
-none-shuffle : (d due may a x z q : Bool) → cond (d && not due) ((z && a) && x) ((z && false) && q) ≡ ((d && ((a && x) && not due)) && (may || not due)) && z
-none-shuffle true true may a x z q = rw (and-false z, and-false (a && x))
-none-shuffle true false may a x z q = rw (or-true may) (simp (and-true, and-assoc, and-comm, and-shift))
-none-shuffle false due may a x z q = rw (and-false z)
+none-shuffle : (d due may a x q : Bool) → cond (d && not due) (a && x) (false && q) ≡ (d && ((a && x) && not due)) && (may || not due)
+none-shuffle true true may a x q = rw (and-false (a && x))
+none-shuffle true false may a x q = rw (or-true may) (simp (and-true, and-assoc))
+none-shuffle false due may a x q = refl
 
-one-shuffle : (d m b v x z q : Bool) → cond (d && m) ((z && (b && v)) && x) (((z && (b && v)) && false) && q) ≡ ((d && ((b && x) && v)) && m) && z
-one-shuffle true true b v x z q = simp (and-true, and-assoc, and-comm, and-shift)
-one-shuffle true false b v x z q = rw (and-false (z && (b && v)), and-false ((b && x) && v))
-one-shuffle false m b v x z q = rw (and-false (z && (b && v)))
+one-shuffle : (d m b v x q : Bool) → cond (d && m) ((b && v) && x) (((b && v) && false) && q) ≡ (d && ((b && x) && v)) && m
+one-shuffle true true b v x q = simp (and-true, and-assoc, and-comm, and-shift)
+one-shuffle true false b v x q = rw (and-false (b && v), and-false ((b && x) && v))
+one-shuffle false m b v x q = rw (and-false (b && v))
 
-two-shuffle : (two d m b v y w z : Bool) → ((z && (b && v)) && (two && (d && m))) && (y && w) ≡ (((two && d) && ((b && y) && (v && w))) && m) && z
-two-shuffle two d m b v y w z = simp (and-assoc, and-comm, and-shift)
+two-shuffle : (two d m b v y w : Bool) → ((b && v) && (two && (d && m))) && (y && w) ≡ ((two && d) && ((b && y) && (v && w))) && m
+two-shuffle two d m b v y w = simp (and-assoc, and-comm, and-shift)
 
 -- the buffer's tests by the number of writes: what is asked of the older's bytes and of the newer's, unused or used, and of the writes
-by-counts : (none one two due may d older first newer second v w z : Bool) → none && one ≡ false → none && two ≡ false → one && two ≡ false
-    → cond (none && (d && not due)) ((z && older) && newer)
-    (cond (one && (d && (may || not due))) ((z && (first && v)) && newer) (((z && (first && v)) && (two && (d && (may || not due)))) && (second && w)))
-    ≡ (((((none || one) || two) && d) && ((cond none older first && cond (none || one) newer second) && cond none (not due) (cond one v (v && w))))
-    && (may || not due)) && z
-by-counts true true two due may d a b x y v w z e f g = not-both true refl e
-by-counts true false true due may d a b x y v w z e f g = not-both true refl f
-by-counts true false false due may d a b x y v w z e f g =
-    rw (and-assoc z (b && v) false, and-false (b && v)) (none-shuffle d due may a x z (y && w))
-by-counts false true true due may d a b x y v w z e f g = not-both true refl g
-by-counts false true false due may d a b x y v w z e f g = one-shuffle d (may || not due) b v x z (y && w)
-by-counts false false two due may d a b x y v w z e f g = two-shuffle two d (may || not due) b v y w z
+by-counts : (none one two due may d older first newer second v w : Bool) → none && one ≡ false → none && two ≡ false → one && two ≡ false
+    → cond (none && (d && not due)) (older && newer)
+    (cond (one && (d && (may || not due))) ((first && v) && newer) (((first && v) && (two && (d && (may || not due)))) && (second && w)))
+    ≡ ((((none || one) || two) && d) && ((cond none older first && cond (none || one) newer second) && cond none (not due) (cond one v (v && w)))) && (may || not due)
+by-counts true true two due may d a b x y v w e f g = not-both true refl e
+by-counts true false true due may d a b x y v w e f g = not-both true refl f
+by-counts true false false due may d a b x y v w e f g = rw (and-false (b && v)) (none-shuffle d due may a x (y && w))
+by-counts false true true due may d a b x y v w e f g = not-both true refl g
+by-counts false true false due may d a b x y v w e f g = one-shuffle d (may || not due) b v x (y && w)
+by-counts false false two due may d a b x y v w e f g = two-shuffle two d (may || not due) b v y w
+
+-- what a write may say of its bank: 0, or 1 where it may close it
+close-most : (n : ℕ) (may : Bool) → leb n (cond may 1 0) ≡ leb n 1 && (may || not (eqb n 1))
+close-most n true = sym (and-true (leb n 1))
+close-most n false = go (eqb n 0) refl (eqb n 1) refl
+  where
+    go : (p : Bool) → eqb n 0 ≡ p → (q : Bool) → eqb n 1 ≡ q → leb n 0 ≡ leb n 1 && not q
+    go true e true f = absurd (omega (arith, eqb-true n 0 e, eqb-true n 1 f))
+    go true e false f = rw (le-leb n 0 (omega (arith, eqb-true n 0 e)), le-leb n 1 (omega (arith, eqb-true n 0 e)))
+    go false e true f = rw (and-false (leb n 1)) (lt-leb n 0 (omega (arith, eqb-true n 1 f)))
+    go false e false f =
+        rw (lt-leb n 0 (omega (arith, eqb-false n 0 e)), lt-leb n 1 (omega (arith, eqb-false n 0 e, eqb-false n 1 f)))
 
 -- ---- the writes
 
@@ -110,23 +120,26 @@ module _ (s : Settings) (b : List ℕ) where
   abbrev write-open : ℕ → Bool
   write-open p = isOpen (stateOf (channelIn b) (getD b p 0))
 
-  write-tested : (p : ℕ) → writeRight (s .columns) b p ≡ zeroPart b (p + 2) 2 && (write-valid p && write-open p)
+  abbrev closes : ℕ → Bool
+  closes p = eqb (number (part b (p + 2) 2)) 1
+
+  write-tested : (may : Bool) (p : ℕ) → writeRight (s .columns) (cond may 1 0) b p ≡ closeRight b p && ((may || not (closes p)) && (write-valid p && write-open p))
   unfolding writeRight writeValid bankCount contextOf
-  write-tested p = go (ltb (getD b p 0) 32) refl
+  write-tested may p = go (ltb (getD b p 0) 32) refl
     where
       at : ℕ
       at = number (part b (p + 4) 4)
 
-      go : (q : Bool) → ltb (getD b p 0) 32 ≡ q → writeRight (s .columns) b p ≡ zeroPart b (p + 2) 2 && (write-valid p && write-open p)
+      go : (q : Bool) → ltb (getD b p 0) 32 ≡ q → writeRight (s .columns) (cond may 1 0) b p ≡ closeRight b p && ((may || not (closes p)) && (write-valid p && write-open p))
       go true e =
           let tag : ℕ = tagIn s b (getD b p 0) in
           let slot : getD b p 0 % 32 ≡ getD b p 0 = omega (arith, ltb-true (getD b p 0) 32 e) in
-          rw (e, slot, instant-stored at, state-at s b (getD b p 0) (ltb-true _ 32 e), tag-open tag)
-          (shuffle (ltb (getD b (p + 1) 0) (s .columns)) (zeroPart b (p + 2) 2) (not (eqb tag 0)) (not (eqb tag 0xFFFF)) (not (eqb at 0)) (leb at latest))
+          rw (e, slot, close-most (number (part b (p + 2) 2)) may, instant-stored at, state-at s b (getD b p 0) (ltb-true _ 32 e), tag-open tag)
+          (shuffle (ltb (getD b (p + 1) 0) (s .columns)) (closeRight b p) (may || not (closes p)) (not (eqb tag 0)) (not (eqb tag 0xFFFF)) (not (eqb at 0)) (leb at latest))
         where
-          shuffle : (c z o r a l : Bool) → ((((c && z) && o) && r) && a) && l ≡ z && ((c && (a && l)) && (o && r))
-          shuffle c z o r a l = simp (and-assoc, and-comm, and-shift)
-      go false e = rw e (sym (and-false (zeroPart b (p + 2) 2)))
+          shuffle : (c z m o r a l : Bool) → ((((c && (z && m)) && o) && r) && a) && l ≡ z && (m && ((c && (a && l)) && (o && r)))
+          shuffle c z m o r a l = simp (and-assoc, and-comm, and-shift)
+      go false e = rw (e, and-false (may || not (closes p))) (sym (and-false (closeRight b p)))
 
   abbrev waits-valid : Bool
   waits-valid = allWrites (writeValid (cx s b)) (waitingOf (bufferIn b))
@@ -137,34 +150,46 @@ module _ (s : Settings) (b : List ℕ) where
   abbrev due-right : Bool
   due-right = not (eqb (getD b 729 0) 1) || anyWrite (λ w. true) (waitingOf (bufferIn b))
 
-  abbrev older : Bool
-  older = write-valid 736 && write-open 736
+  -- no write closes its bank
+  abbrev pub none-closes : Bool
+  none-closes = not (anyWrite (λ w. w .close) (waitingOf (bufferIn b)))
 
-  abbrev newer : Bool
-  newer = write-valid 744 && write-open 744
+  module _ (may : Bool) where
+    abbrev asked : ℕ → Bool
+    asked p = (may || not (closes p)) && (write-valid p && write-open p)
 
-  -- by the number of writes that wait
-  waits-as : (p q : Bool) → eqb (getD b 728 0) 0 ≡ p → eqb (getD b 728 0) 1 ≡ q
-      → waits-valid && (waits-open && due-right) ≡ cond p (not (eqb (getD b 729 0) 1)) (cond q older (older && newer))
-  unfolding bufferIn waitingOf
-  waits-as true q e f = rw e (or-false (not (eqb (getD b 729 0) 1)))
-  waits-as false true e f = rw (e, f, or-true (not (eqb (getD b 729 0) 1))) (simp and-true)
-  waits-as false false e f =
-      rw (e, f, or-true (not (eqb (getD b 729 0) 1))) (shuffle (write-valid 736) (write-valid 744) (write-open 736) (write-open 744))
-    where
-      shuffle : (v w o p : Bool) → (v && (w && true)) && ((o && (p && true)) && true) ≡ (v && o) && (w && p)
-      shuffle v w o p = simp (and-true, and-assoc, and-comm, and-shift)
+    -- by the number of writes that wait
+    waits-as : (p q : Bool) → eqb (getD b 728 0) 0 ≡ p → eqb (getD b 728 0) 1 ≡ q
+        → (waits-valid && (waits-open && due-right)) && (may || none-closes) ≡ cond p (not (eqb (getD b 729 0) 1)) (cond q (asked 736) (asked 736 && asked 744))
+    unfolding bufferIn waitingOf
+    waits-as true q e f = rw (e, or-true may, and-true (not (eqb (getD b 729 0) 1) || false)) (or-false (not (eqb (getD b 729 0) 1)))
+    waits-as false true e f =
+        rw (e, f, or-true (not (eqb (getD b 729 0) 1)), or-false (closes 736)) (one (write-valid 736) (write-open 736) (may || not (closes 736)))
+      where
+        one : (v o m : Bool) → ((v && true) && ((o && true) && true)) && m ≡ m && (v && o)
+        one v o m = simp (and-true, and-assoc, and-comm, and-shift)
+    waits-as false false e f =
+        rw (e, f, or-true (not (eqb (getD b 729 0) 1)), or-false (closes 744), neither may (closes 736) (closes 744))
+        (both (write-valid 736) (write-valid 744) (write-open 736) (write-open 744) (may || not (closes 736)) (may || not (closes 744)))
+      where
+        neither : (may p q : Bool) → may || not (p || q) ≡ (may || not p) && (may || not q)
+        neither true p q = refl
+        neither false true q = refl
+        neither false false q = refl
+
+        both : (v w o p m n : Bool) → ((v && (w && true)) && ((o && (p && true)) && true)) && (m && n) ≡ (m && (v && o)) && (n && (w && p))
+        both v w o p m n = simp (and-true, and-assoc, and-comm, and-shift)
 
   abbrev count-right : Bool
   count-right = leb (getD b 728 0) 2 && (leb (getD b 729 0) 1 && zeroPart b 730 6)
 
   abbrev spare-right : Bool
-  spare-right = cond (eqb (getD b 728 0) 0) (zeroPart b 736 8) (zeroPart b 738 2) && cond (leb (getD b 728 0) 1) (zeroPart b 744 8) (zeroPart b 746 2)
+  spare-right = cond (eqb (getD b 728 0) 0) (zeroPart b 736 8) (closeRight b 736) && cond (leb (getD b 728 0) 1) (zeroPart b 744 8) (closeRight b 744)
 
   module _ (w : Bytes b) (l : 752 ≤ length b) where
-    -- where the counts 257 and 258 may be, or not
-    held-tested : (may : Bool) → bufferRight (s .columns) (256 * cond may 1 0) b
-        ≡ ((count-right && (spare-right && (waits-valid && (waits-open && due-right)))) && (may || not (eqb (getD b 729 0) 1))) && zeroPart b 724 4
+    -- where the counts 257 and 258 may be, and writes that close their bank, or not
+    held-tested : (may : Bool) → bufferRight (s .columns) (256 * cond may 1 0) (cond may 1 0) b
+        ≡ (count-right && (spare-right && ((waits-valid && (waits-open && due-right)) && (may || none-closes)))) && (may || not (eqb (getD b 729 0) 1))
     unfolding bufferRight
     held-tested may =
         let n : ℕ = getD b 728 0 in
@@ -186,34 +211,35 @@ module _ (s : Settings) (b : List ℕ) where
           up-to-two n,
           up-to-one n,
           up-to-one d,
-          waits-as (eqb n 0) (eqb n 1) refl refl,
-          write-tested 736,
-          write-tested 744,
+          waits-as may (eqb n 0) (eqb n 1) refl refl,
+          write-tested may 736,
+          write-tested may 744,
         )
-        (by-counts (eqb n 0) (eqb n 1) (eqb n 2) (eqb d 1) may ((eqb d 0 || eqb d 1) && eqb z 0) (zeroPart b 736 8) (zeroPart b 738 2) (zeroPart b 744 8) (zeroPart b 746 2) older newer (zeroPart b 724 4)
+        (by-counts (eqb n 0) (eqb n 1) (eqb n 2) (eqb d 1) may ((eqb d 0 || eqb d 1) && eqb z 0) (zeroPart b 736 8) (closeRight b 736) (zeroPart b 744 8) (closeRight b 744) (asked may 736) (asked may 744)
         (not-two n 0 1 (omega arith)) (not-two n 0 2 (omega arith)) (not-two n 1 2 (omega arith)))
 
 -- ---- the channel
 
 -- with what a planner asks besides, or a model
-all-parts : (P L R A N C W O D z E F : Bool)
-    → ((P && L) && ((R && E) && A)) && (((N && (C && (W && (O && D)))) && F) && z)
-    ≡ ((z && (N && C)) && (((R && P) && (L && W)) && (A && (O && D)))) && (E && F)
-all-parts P L R A N C W O D z E F = simp (and-assoc, and-comm, and-shift)
+all-parts : (P L R A N C W O D E F K : Bool)
+    → ((P && L) && ((R && E) && A)) && ((N && (C && ((W && (O && D)) && K))) && F)
+    ≡ ((N && C) && (((R && P) && (L && W)) && (A && (O && D)))) && (E && (K && F))
+all-parts P L R A N C W O D E F K = simp (and-assoc, and-comm, and-shift)
 
 module _ (s : Settings) (b : List ℕ) where
   valid-parts : channelValid (contextOf s) (channelIn b)
-      ≡ ((rows-in s b && allStored b 0 160) && (allStored b 704 5 && waits-valid s b)) && (apart (contextOf s) (stateOf (channelIn b)) && (waits-open s b && due-right s b))
+      ≡ ((rows-in s b && allStored b 0 160) && (allStored b 704 6 && waits-valid s b)) && (apart (contextOf s) (stateOf (channelIn b)) && (waits-open s b && due-right s b))
   unfolding channelValid bankCount channelIn
   valid-parts =
       let n : eqb (length (tracksIn b 32)) 32 ≡ true = eq-eqb _ 32 (length-tracks b 32) in
       ap₂ (λ p q. p && (apart (contextOf s) (stateOf (channelIn b)) && q)) (ap₂ _&&_ n (ap₂ _&&_ (tracks-tested s b) (ap (λ q. q && waits-valid s b) (lasts-tested s b)))) refl
 
-  -- where data may be due or not, and the test of tags asks more
+  -- where data may be due and writes close their banks, or not, and the test of tags asks more
   pub channel-as : (may : Bool) (also : ℕ) (more : Bool) → Bytes b → 752 ≤ length b → tagsRight (s .rows) (s .core) also b ≡ (rows-in s b && more) && apart (contextOf s) (stateOf (channelIn b))
-      → channelTested s also (256 * cond may 1 0) b ≡ (channelSpare b && channelValid (contextOf s) (channelIn b)) && (more && (may || not (eqb (getD b 729 0) 1)))
+      → channelTested s also (256 * cond may 1 0) (cond may 1 0) b
+      ≡ (channelSpare b && channelValid (contextOf s) (channelIn b)) && (more && ((may || none-closes s b) && (may || not (eqb (getD b 729 0) 1))))
   unfolding channelTested channelSpare
   channel-as may also more w l h =
       rw (h, held-tested s b w l may, valid-parts)
-      (all-parts (allStored b 0 160) (allStored b 704 5) (rows-in s b) (apart (contextOf s) (stateOf (channelIn b))) (count-right s b) (spare-right s b)
-      (waits-valid s b) (waits-open s b) (due-right s b) (zeroPart b 724 4) more (may || not (eqb (getD b 729 0) 1)))
+      (all-parts (allStored b 0 160) (allStored b 704 6) (rows-in s b) (apart (contextOf s) (stateOf (channelIn b))) (count-right s b) (spare-right s b)
+      (waits-valid s b) (waits-open s b) (due-right s b) more (may || not (eqb (getD b 729 0) 1)) (may || none-closes s b))

@@ -16,7 +16,7 @@ use Rattle.spec_rules.specs.Neighbour.{bankCount, Context}
 use Rattle.spec_rules.specs.Channel.{waitingOf}
 use Rattle.spec_rules.proofs.Bools.{and-left, and-right}
 use Rattle.spec_state.specs.Valid.{isStamp, channelValid}
-use Rattle.spec_state.specs.ChannelBytes.{instantOf, trackIn, lastsIn, writeIn, bufferIn, channelIn, zeroPart, channelSpare}
+use Rattle.spec_state.specs.ChannelBytes.{instantOf, trackIn, lastsIn, writeIn, bufferIn, channelIn, zeroPart, closeRight, channelSpare}
 use Rattle.spec_state.proofs.PlaneLaws.{tracks-at}
 use Rattle.spec_state.proofs.EachInstant.{TrackAll, WritesAll}
 use Rattle.spec_state.proofs.Stamps.{Stamp, IsInstant, Stamped}
@@ -45,8 +45,9 @@ pub lasts-in-range : (b : List ℕ) → InRange b
     × (number (part b 712 4) ≤ latest)
     × (number (part b 716 4) ≤ latest)
     × (number (part b 720 4) ≤ latest)
+    × (number (part b 724 4) ≤ latest)
 lasts-in-range b r =
-    (r .lasts 0 (omega arith), r .lasts 1 (omega arith), r .lasts 2 (omega arith), r .lasts 3 (omega arith), r .lasts 4 (omega arith))
+    (r .lasts 0 (omega arith), r .lasts 1 (omega arith), r .lasts 2 (omega arith), r .lasts 3 (omega arith), r .lasts 4 (omega arith), r .lasts 5 (omega arith))
 
 -- ---- from the tests
 
@@ -81,42 +82,43 @@ module _ (cx : Context) (b : List ℕ) (v : channelValid cx (channelIn b) ≡ tr
       go (suc (suc (suc zero))) e = at (384 + 4 * (k % 32)) (omega arith) (s .rd)
       go (suc (suc (suc (suc p)))) e = at (512 + 4 * (k % 32)) (omega arith) (s .retire)
 
-  lasts-most : (k : ℕ) → k < 5 → number (part b (704 + 4 * k) 4) ≤ latest
+  lasts-most : (k : ℕ) → k < 6 → number (part b (704 + 4 * k) 4) ≤ latest
   unfolding channelIn lastsIn
   lasts-most zero l = stamp-most (number (part b 704 4)) (stamped .lasts .packet)
   lasts-most (suc zero) l = stamp-most (number (part b 708 4)) (stamped .lasts .row)
   lasts-most (suc (suc zero)) l = stamp-most (number (part b 712 4)) (stamped .lasts .col)
   lasts-most (suc (suc (suc zero))) l = stamp-most (number (part b 716 4)) (stamped .lasts .pre)
   lasts-most (suc (suc (suc (suc zero)))) l = stamp-most (number (part b 720 4)) (stamped .lasts .rd)
-  lasts-most (suc (suc (suc (suc (suc k))))) l = absurd (omega arith)
+  lasts-most (suc (suc (suc (suc (suc zero))))) l = stamp-most (number (part b 724 4)) (stamped .lasts .implied)
+  lasts-most (suc (suc (suc (suc (suc (suc k)))))) l = absurd (omega arith)
 
   -- where a write does not wait its place is 0
   module _ (n : 752 ≤ length b) (z : channelSpare b ≡ true) where
-    spare : cond (eqb (getD b 728 0) 0) (zeroPart b 736 8) (zeroPart b 738 2) && cond (leb (getD b 728 0) 1) (zeroPart b 744 8) (zeroPart b 746 2) ≡ true
+    spare : cond (eqb (getD b 728 0) 0) (zeroPart b 736 8) (closeRight b 736) && cond (leb (getD b 728 0) 1) (zeroPart b 744 8) (closeRight b 744) ≡ true
     unfolding channelSpare
-    spare = and-right (leb (getD b 728 0) 2 && (leb (getD b 729 0) 1 && zeroPart b 730 6)) _ (and-right (zeroPart b 724 4) _ z)
+    spare = and-right (leb (getD b 728 0) 2 && (leb (getD b 729 0) 1 && zeroPart b 730 6)) _ z
 
     zero-most : (p : ℕ) → p + 8 ≤ length b → zeroPart b p 8 ≡ true → number (part b (p + 4) 4) ≤ latest
     zero-most p m e = omega (arith, number-part b p 4 4 (omega arith), eqb-true (number (part b p 8)) 0 e)
 
     write-most : number (part b 740 4) ≤ latest
     unfolding channelIn bufferIn waitingOf
-    write-most = go (eqb (getD b 728 0) 0) (eqb (getD b 728 0) 1) (stamped .writes) (and-left (cond (eqb (getD b 728 0) 0) (zeroPart b 736 8) (zeroPart b 738 2)) _ spare)
+    write-most = go (eqb (getD b 728 0) 0) (eqb (getD b 728 0) 1) (stamped .writes) (and-left (cond (eqb (getD b 728 0) 0) (zeroPart b 736 8) (closeRight b 736)) _ spare)
       where
         go : (q r : Bool) → WritesAll IsInstant (waitingOf (cond q Empty (cond r (One (writeIn b 736)) (Two (writeIn b 736) (writeIn b 744)))))
-            → cond q (zeroPart b 736 8) (zeroPart b 738 2) ≡ true → number (part b 740 4) ≤ latest
+            → cond q (zeroPart b 736 8) (closeRight b 736) ≡ true → number (part b 740 4) ≤ latest
         go true r s e = zero-most 736 (omega arith) e
         go false true s e = instant-most (number (part b 740 4)) (s .0)
         go false false s e = instant-most (number (part b 740 4)) (s .0)
 
     second-most : number (part b 748 4) ≤ latest
     unfolding channelIn bufferIn waitingOf
-    second-most = go (leb (getD b 728 0) 1) refl (and-right (cond (eqb (getD b 728 0) 0) (zeroPart b 736 8) (zeroPart b 738 2)) _ spare)
+    second-most = go (leb (getD b 728 0) 1) refl (and-right (cond (eqb (getD b 728 0) 0) (zeroPart b 736 8) (closeRight b 736)) _ spare)
       where
         two : leb (getD b 728 0) 1 ≡ false → WritesAll IsInstant (writeIn b 736 ∷ writeIn b 744 ∷ [])
         two h = rw (ne-eqb (getD b 728 0) 0 (λ e. omega (arith, leb-false (getD b 728 0) 1 h)), ne-eqb (getD b 728 0) 1 (λ e. omega (arith, leb-false (getD b 728 0) 1 h))) at (stamped .writes)
 
-        go : (q : Bool) → leb (getD b 728 0) 1 ≡ q → cond q (zeroPart b 744 8) (zeroPart b 746 2) ≡ true → number (part b 748 4) ≤ latest
+        go : (q : Bool) → leb (getD b 728 0) 1 ≡ q → cond q (zeroPart b 744 8) (closeRight b 744) ≡ true → number (part b 748 4) ≤ latest
         go true h e = zero-most 744 (omega arith) e
         go false h e = instant-most (number (part b 748 4)) (two h .1 .0)
 

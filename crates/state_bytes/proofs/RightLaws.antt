@@ -24,7 +24,7 @@ use Rattle.spec_model.specs.ModelBytes.{modelLength, modelIn, modelRight}
 use Rattle.state_bytes.specs.form.Tested.{allStored, tagsRight, bufferRight, channelTested, plannerFields, modelFields}
 use Rattle.state_bytes.proofs.NumberLaws.{instant-stored, below-word}
 use Rattle.state_bytes.proofs.TestedLaws.{and-shift, none-refreshed, model-tags, planner-tags}
-use Rattle.state_bytes.proofs.BufferLaws.{channel-as}
+use Rattle.state_bytes.proofs.BufferLaws.{none-closes, channel-as}
 
 -- ---- planners
 
@@ -38,14 +38,14 @@ module _ (s : Settings) (b : List ℕ) where
         below-word (number (part b 756 2)) (number (part b 758 2)) 32 (omega arith),
       )
 
-  planner-shuffle : (n r z u p v e d : Bool) → ((n && (r && z)) && u) && ((p && v) && (e && d)) ≡ (p && (z && u)) && (v && (e && (d && (n && (r && (true && true))))))
-  planner-shuffle n r z u p v e d = rw (and-true r) (simp (and-assoc, and-comm, and-shift))
+  planner-shuffle : (n r z u p v e k d : Bool) → ((n && (r && z)) && u) && ((p && v) && (e && (k && d))) ≡ (p && (z && u)) && (v && (e && (k && (d && (n && (r && (true && true)))))))
+  planner-shuffle n r z u p v e k d = rw (and-true r) (simp (and-assoc, and-comm, and-shift))
 
   -- a mask is a number of two bytes
   mask-fits : Bytes b → (at : ℕ) → at + 2 ≤ length b → ltb (number (part b at 2)) 0x10000 ≡ true
   mask-fits w at l = lt-ltb (number (part b at 2)) 0x10000 (number-fits b at 2 w l)
 
-  pub planner-tested : Bytes b → length b ≡ 768 → plannerFields b && channelTested s 0 0 b ≡ plannerRight (contextOf s) b
+  pub planner-tested : Bytes b → length b ≡ 768 → plannerFields b && channelTested s 0 0 0 b ≡ plannerRight (contextOf s) b
   unfolding plannerRight plannerLength plannerValid plannerIn bankCount channelIn
   planner-tested w l =
       rw (
@@ -56,12 +56,12 @@ module _ (s : Settings) (b : List ℕ) where
         channel-as s b false 0 (none-refreshed s b) w (omega arith) (planner-tags s b w (omega arith)),
       )
       (planner-shuffle (isInstant (instantOf (number (part b 752 4)))) (ltb (number (part b 756 2)) 32) (zeroPart b 758 2) (zeroPart b 764 4)
-      (channelSpare b) (channelValid (contextOf s) (channelIn b)) (none-refreshed s b) (not (eqb (getD b 729 0) 1)))
+      (channelSpare b) (channelValid (contextOf s) (channelIn b)) (none-refreshed s b) (none-closes s b) (not (eqb (getD b 729 0) 1)))
 
   -- the same where the stored instants are in range
-  pub planner-rest : Bytes b → length b ≡ 768 → allStored b 0 160 && allStored b 704 5 ≡ true → (plannerFields b && tagsRight (s .rows) (s .core) 0 b) && bufferRight (s .columns) 0 b ≡ plannerRight (contextOf s) b
+  pub planner-rest : Bytes b → length b ≡ 768 → allStored b 0 160 && allStored b 704 6 ≡ true → (plannerFields b && tagsRight (s .rows) (s .core) 0 b) && bufferRight (s .columns) 0 0 b ≡ plannerRight (contextOf s) b
   unfolding channelTested
-  planner-rest w l h = and-assoc (plannerFields b) (tagsRight (s .rows) (s .core) 0 b) (bufferRight (s .columns) 0 b) ∙ rw h at (planner-tested w l)
+  planner-rest w l h = and-assoc (plannerFields b) (tagsRight (s .rows) (s .core) 0 b) (bufferRight (s .columns) 0 0 b) ∙ rw h at (planner-tested w l)
 
   pub planner-length-wrong : (length b ≡ 768 → ⊥) → plannerRight (contextOf s) b ≡ false
   unfolding plannerRight plannerLength
@@ -90,7 +90,7 @@ module _ (s : Settings) (b : List ℕ) where
   model-shuffle : (z r p v : Bool) → (z && r) && ((p && v) && true) ≡ (p && z) && (v && r)
   model-shuffle z r p v = rw (and-true (p && v)) (simp (and-assoc, and-comm, and-shift))
 
-  pub model-tested : Bytes b → length b ≡ 792 → modelFields s b && channelTested s 0xFFFF 256 b ≡ modelRight (contextOf s) b
+  pub model-tested : Bytes b → length b ≡ 792 → modelFields s b && channelTested s 0xFFFF 256 1 b ≡ modelRight (contextOf s) b
   unfolding modelRight modelLength modelValid modelIn contextOf
   model-tested w l =
       rw (eq-eqb (length b) 792 l, model-fields w (omega arith), channel-as s b true 0xFFFF true w (omega arith) (model-tags s b w (omega arith)))

@@ -176,7 +176,7 @@ module _ (s : Settings) (b : List ℕ) where
       let f : ℕ → Bool = λ k. leb (number (part b (0 + 4 * k) 4)) latest in
       all-ext _ _ 32 track-tested ∙ all-and (λ x. bankValid cx (bankIn (tagIn x))) (fives f) 32 ∙ ap (λ t. rows-in && t) (sym (planes-join f))
 
-  pub lasts-tested : lastsValid (channelIn b) ≡ allStored b 704 5
+  pub lasts-tested : lastsValid (channelIn b) ≡ allStored b 704 6
   unfolding channelIn lastsIn lastsValid allUpTo
   lasts-tested =
       rw (
@@ -185,6 +185,7 @@ module _ (s : Settings) (b : List ℕ) where
         stamp-stored (number (part b 712 4)),
         stamp-stored (number (part b 716 4)),
         stamp-stored (number (part b 720 4)),
+        stamp-stored (number (part b 724 4)),
       )
       (simp and-assoc)
 

@@ -16,7 +16,7 @@ pub fn model_right(s: Settings, b: &[u8]) -> bool
         return false;
     }
     let refr = num::u64_at(b, 752);
-    (refr < 65536) & (refr < num::wide32(s.rows)) & channel_right(s, 65535, 256, b)
+    (refr < 65536) & (refr < num::wide32(s.rows)) & channel_right(s, 65535, 256, 1, b)
 }
 
 // The model's REFR.

@@ -28,14 +28,14 @@ pub fn planner_right(s: Settings, b: &[u8]) -> bool
     if b.len() != PLANNER_BYTES {
         return false;
     }
-    fields_right(b) & channel_right(s, 0, 0, b)
+    fields_right(b) & channel_right(s, 0, 0, 0, b)
 }
 
 // The same of bytes whose stored instants are known to be in range.
 pub fn planner_rest_right(s: Settings, b: &[u8]) -> bool
     requires { ⌜ length (now b) ≡ 768 ⌝ }
-    requires { ⌜ allStored (now b) 0 160 && allStored (now b) 704 5 ≡ true ⌝ }
+    requires { ⌜ allStored (now b) 0 160 && allStored (now b) 704 6 ≡ true ⌝ }
     ensures { λ r. ⌜ r ≡ plannerRight (contextOf s) (now (b .entry)) ⌝ }
 {
-    fields_right(b) & tags_right(s.rows, s.core, 0, b) & buffer_right(s.columns, 0, b)
+    fields_right(b) & tags_right(s.rows, s.core, 0, b) & buffer_right(s.columns, 0, 0, b)
 }

@@ -64,6 +64,7 @@ pub fn lasts_at(b: &[u8]) -> LastInstants
         col: instant_at(b, 712),
         pre: instant_at(b, 716),
         rd: instant_at(b, 720),
+        implied: instant_at(b, 724),
     }
 }
 
@@ -77,6 +78,7 @@ fn write_at(b: &[u8], p: usize) -> Write
         bank: num::wide(b[p]),
         column: num::wide(b[p + 1]),
         at: instant_at(b, p + 4),
+        close: num::u16_at(b, p + 2) == 1,
     }
 }
 

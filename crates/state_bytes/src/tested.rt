@@ -43,12 +43,12 @@ fn all_stored(b: &[u8], at: usize, n: usize) -> bool
 // The five planes of instants, and the last instants of the channel.
 fn instants_right(b: &[u8]) -> bool
     requires { ⌜ 752 ≤ length (now b) ⌝ }
-    ensures { λ r. ⌜ r ≡ (allStored (now (b .entry)) 0 160 && allStored (now (b .entry)) 704 5) ⌝ }
+    ensures { λ r. ⌜ r ≡ (allStored (now (b .entry)) 0 160 && allStored (now (b .entry)) 704 6) ⌝ }
 {
-    if (tops(b, 0, 160) | tops(b, 704, 5)) <= LATEST {
+    if (tops(b, 0, 160) | tops(b, 704, 6)) <= LATEST {
         return true;
     }
-    all_stored(b, 0, 160) & all_stored(b, 704, 5)
+    all_stored(b, 0, 160) & all_stored(b, 704, 6)
 }
 
 // The highest tag of an open bank.
@@ -83,43 +83,43 @@ pub(crate) fn tags_right(rows: u32, core: u32, also: u16, b: &[u8]) -> bool
     right
 }
 
-// Whether the fields of the waiting write at a place are in range and its bank is open by ACT.
-fn write_right(columns: u32, b: &[u8], p: usize) -> bool
+// Whether the fields of the waiting write at a place are in range and its bank is open by ACT; `close` is the most that may be said of
+// its closing the bank.
+fn write_right(columns: u32, close: u32, b: &[u8], p: usize) -> bool
     requires { ⌜ 752 ≤ length (now b) ⌝ }
     requires { ⌜ p + 8 ≤ 752 ⌝ }
-    ensures { λ r. ⌜ r ≡ writeRight columns (now (b .entry)) p ⌝ }
+    ensures { λ r. ⌜ r ≡ writeRight columns close (now (b .entry)) p ⌝ }
 {
     let bank = num::wide(b[p]);
     let tag = num::u16_at(b, 640 + 2 * ((bank % 32) as usize));
     let at = num::u32_at(b, p + 4);
-    let fields = (bank < 32) & (num::wide(b[p + 1]) < columns) & (num::u16_at(b, p + 2) == 0);
+    let fields = (bank < 32) & (num::wide(b[p + 1]) < columns) & (num::u16_at(b, p + 2) <= close);
     fields & (tag != 0) & (tag != 65535) & (at != 0) & (at <= LATEST)
 }
 
 // The buffer: no write waits, or one or two, with one of two counts; the bytes that no field uses are 0. Only a write that waits is
 // tested.
-pub(crate) fn buffer_right(columns: u32, due: u64, b: &[u8]) -> bool
+pub(crate) fn buffer_right(columns: u32, due: u64, close: u32, b: &[u8]) -> bool
     requires { ⌜ 752 ≤ length (now b) ⌝ }
     requires { ⌜ due ≤ 256 ⌝ }
-    ensures { λ r. ⌜ r ≡ bufferRight columns due (now (b .entry)) ⌝ }
+    ensures { λ r. ⌜ r ≡ bufferRight columns due close (now (b .entry)) ⌝ }
 {
     let count = num::u64_at(b, 728);
-    let spare = num::u32_at(b, 724) == 0;
     if count == 0 {
-        return spare & (num::u64_at(b, 736) == 0) & (num::u64_at(b, 744) == 0);
+        return (num::u64_at(b, 736) == 0) & (num::u64_at(b, 744) == 0);
     }
-    let older = spare & write_right(columns, b, 736);
+    let older = write_right(columns, close, b, 736);
     if (count == 1) | (count == 1 + due) {
         return older & (num::u64_at(b, 744) == 0);
     }
-    older & ((count == 2) | (count == 2 + due)) & write_right(columns, b, 744)
+    older & ((count == 2) | (count == 2 + due)) & write_right(columns, close, b, 744)
 }
 
-// Whether the channel's bytes are not refused, where the tag `also` is allowed too, and counts that are `due` more.
-pub(crate) fn channel_right(s: Settings, also: u16, due: u64, b: &[u8]) -> bool
+// Whether the channel's bytes are not refused, where the tag `also` is allowed too, counts that are `due` more, and `close` of a write.
+pub(crate) fn channel_right(s: Settings, also: u16, due: u64, close: u32, b: &[u8]) -> bool
     requires { ⌜ 752 ≤ length (now b) ⌝ }
     requires { ⌜ due ≤ 256 ⌝ }
-    ensures { λ r. ⌜ r ≡ channelTested s also due (now (b .entry)) ⌝ }
+    ensures { λ r. ⌜ r ≡ channelTested s also due close (now (b .entry)) ⌝ }
 {
-    instants_right(b) & tags_right(s.rows, s.core, also, b) & buffer_right(s.columns, due, b)
+    instants_right(b) & tags_right(s.rows, s.core, also, b) & buffer_right(s.columns, due, close, b)
 }

@@ -1,10 +1,12 @@
--- The banks on the two sides of a bank are its neighbours: what is stored for a PRER is the state after it.
+-- The banks on the two sides of a bank are its neighbours: what is stored for a PRER is the state after it. Those of an open bank are
+-- closed: so is what is stored for a PRER that an RDA or the retire of a WRA implies.
 -- Assumes nothing.
-use Prim.Native.Nat.{ℕ, _-_, _^_, _<_}
+use Prim.Native.Nat.{ℕ, _+_, _-_, _^_, _<_}
 use mathlib.Core.Path.{_≡_}
 use mathlib.Core.Bool.{true, false, _&&_, _||_}
-use mathlib.Core.List.{List, _++_}
+use mathlib.Core.List.{List, _∷_, _++_}
 use mathlib.Core.Logic.{⊎-elim}
+use mathlib.Core.Option.{some}
 use native.Mathlib.Omega.{arith}
 use borrow.Author.Tests.{eq-eqb, eqb-true, ltb-true}
 use lib.Dec.{eqb, ltb}
@@ -13,21 +15,23 @@ use Rattle.settings.specs.declared.Settings.{Settings}
 use Rattle.settings.specs.Settings.{valid}
 use Rattle.settings.proofs.SettingsLaws.{bounds}
 use Rattle.packet.specs.declared.RowPacket.the-variants.{Prer, Refp}
-use Rattle.record.specs.declared.Record.the-variants.{RowAt}
+use Rattle.packet.specs.declared.ColPacket.the-variants.{Rd}
+use Rattle.record.specs.declared.Record.the-variants.{RowAt, ColAt}
 use Rattle.spec_rules.specs.declared.Write.{Write}
 use Rattle.spec_rules.specs.declared.Buffer.{Buffer}
 use Rattle.spec_rules.specs.declared.Buffer.the-variants.{Empty, One, Two}
 use Rattle.spec_rules.specs.declared.Channel.{Channel}
 use Rattle.spec_rules.specs.Neighbour.{bankCount, contextOf, near}
-use Rattle.spec_rules.specs.History.{allWrites}
-use Rattle.spec_rules.specs.Channel.{stateOf, waitingOf, after}
+use Rattle.spec_rules.specs.History.{isOpen, rest, allWrites}
+use Rattle.spec_rules.specs.Channel.{stateOf, waitingOf, afterRetire, afterImplied, after}
 use Rattle.spec_rules.proofs.Bools.{iff-eq, and-left, and-right}
 use Rattle.spec_state.specs.Valid.{writeValid, channelValid}
 use Rattle.spec_state.specs.ChannelBytes.{bankTag, channelBytes}
-use Rattle.spec_state.specs.form.Stores.{prerStored}
-use Rattle.spec_state.proofs.NextValid.{Sound, valid-sound}
-use Rattle.spec_state.proofs.StoreLaws.{ByBytes, WriteIn}
+use Rattle.spec_state.specs.form.Stores.{prerStored, impliedStored, rdStored, retireStored, shiftStored}
+use Rattle.spec_state.proofs.NextValid.{Sound, valid-sound, open-not-closed}
+use Rattle.spec_state.proofs.StoreLaws.{ByBytes, WriteIn, SidesClosed, sides-closed}
 use Rattle.spec_state.proofs.CloseLaws.{tag-fits, prer-all-stored, refp-all-stored}
+use Rattle.spec_state.proofs.ImpliedLaws.{rda-stored, closing-stored}
 use Rattle.chan_view.specs.form.Beside.{lowOf, highOf}
 use Rattle.chan_view.proofs.NearLaws.{Beside, own, low, high, or-cases, or-left, or-right, near-beside, near-own, near-low, near-high}
 
@@ -76,13 +80,33 @@ module _ (s : Settings) (v : valid s ≡ true) (ch : Channel) (k : channelValid 
   unfolding contextOf bankCount
   tags-in y l = tag-fits (contextOf s) (stateOf ch y) (bounds s v .rows-most) (sound .rows-in y l)
 
-  module _ (q : List ℕ) (d : ch .due ≡ false) (x t : ℕ) (l : x < 32) where
-    size : length (ch .banks) ≡ 32
-    unfolding bankCount
-    size = sound .size
+  size : length (ch .banks) ≡ 32
+  unfolding bankCount
+  size = sound .size
 
+  open-sides : (x : ℕ) → x < 32 → isOpen (stateOf ch x) ≡ true → SidesClosed (contextOf s) ch x
+  unfolding bankCount
+  open-sides x l o = sides-closed (contextOf s) ch x (λ y m n. sound .one-closed x y l m n) (open-not-closed (stateOf ch x) o)
+
+  module _ (q : List ℕ) (d : ch .due ≡ false) (x t : ℕ) (l : x < 32) where
     pub prer-after : prerStored (channelBytes ch ++ q) x (lowOf s x) (highOf s x) (t - 3) ≡ channelBytes (after (contextOf s) ch (RowAt (record { 0 = t }) (Prer x))) ++ q
     prer-after = prer-all-stored (contextOf s) ch q size write-in d x t l (lowOf s x) (highOf s x) (sides s x) tags-in
 
     pub refp-after : prerStored (channelBytes ch ++ q) x (lowOf s x) (highOf s x) (t - 3) ≡ channelBytes (after (contextOf s) ch (RowAt (record { 0 = t }) (Refp x))) ++ q
     refp-after = refp-all-stored (contextOf s) ch q size write-in d x t l (lowOf s x) (highOf s x) (sides s x) tags-in
+
+    pub rda-after : isOpen (stateOf ch x) ≡ true → (c m : ℕ)
+        → impliedStored (rdStored (channelBytes ch ++ q) x (t - 3)) x (t + s .offp - 3) ≡ channelBytes (after (contextOf s) ch (ColAt (record { 0 = t }) (Rd x c m true))) ++ q
+    unfolding contextOf
+    rda-after o c m = rda-stored (contextOf s) ch q size write-in d x t l c m (open-sides x l o)
+
+  -- the older write w has left, which is a WRA
+  pub closing-left : (q : List ℕ) → ch .due ≡ false → (w : Write) (ws : List Write) (t : ℕ) → waitingOf (ch .buffer) ≡ w ∷ ws
+      → impliedStored (shiftStored (retireStored (channelBytes ch ++ q) (w .bank) (t - 3)) (length ws)) (w .bank) (t + s .offp - 3)
+      ≡ channelBytes (afterImplied (contextOf s) (t + s .offp) (some (w .bank)) (afterRetire t (some w) ch)) ++ q
+  unfolding contextOf bankCount writeValid
+  closing-left q d w ws t z =
+      let l : w .bank < 32 = ltb-true (w .bank) 32 (and-left (ltb (w .bank) 32) _ (and-left (writeValid (contextOf s) w) _ (rw z at (sound .write)))) in
+      let o : isOpen (stateOf ch (w .bank)) ≡ true = and-left (isOpen (stateOf ch (w .bank))) _ (rw z at (sound .opened)) in
+      let k : length (rest (waitingOf (ch .buffer))) ≡ length ws = rw z in
+      rw (← k) (closing-stored (contextOf s) ch q size write-in d w t l (open-sides (w .bank) l o))

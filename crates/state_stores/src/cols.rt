@@ -1,6 +1,7 @@
 // What a COL packet and its D store, and what a retire stores.
+ghost use mathlib.Core.Bool.{cond};
 ghost use mathlib.Core.Path.{_≡_};
-ghost use Prim.Native.Nat.{_<_, _≤_, _^_};
+ghost use Prim.Native.Nat.{_*_, _<_, _≤_, _^_};
 ghost use lib.ListN.{length};
 ghost use Rattle.spec_state.specs.form.Layout.{writeWord};
 ghost use Rattle.spec_state.specs.form.Stores.{colStored, rdStored, retireStored, emptyStored, shiftStored, writeStored, besideStored, behindStored, dataStored};
@@ -58,51 +59,58 @@ pub fn store_shift(b: &mut [u8], count: u64)
     put_u64(b, 744, 0);
 }
 
+// The two bytes that say whether a waiting write closes its bank, at their place in its word.
+fn close_part(close: bool) -> u64
+    ensures { λ r. ⌜ (r ≡ 65536 * cond close 1 0) × (r ≤ 65536) ⌝ }
+{
+    if close { 65536 } else { 0 }
+}
+
 // The eight bytes of a waiting write, as one number.
-fn word_of(x: u32, column: u32, t: u64) -> u64
+fn word_of(x: u32, column: u32, close: bool, t: u64) -> u64
     requires { ⌜ x < 256 ⌝ }
     requires { ⌜ column < 256 ⌝ }
     requires { ⌜ t < 2 ^ 32 ⌝ }
-    ensures { λ word. ⌜ word ≡ writeWord x column t ⌝ }
+    ensures { λ word. ⌜ word ≡ writeWord x column close t ⌝ }
 {
-    wide32(x) + 256 * wide32(column) + 4294967296 * t
+    wide32(x) + 256 * wide32(column) + close_part(close) + 4294967296 * t
 }
 
 // One write waits: count is 1, or 257 where its data are due.
-pub fn store_write(b: &mut [u8], count: u64, x: u32, column: u32, t: u64)
+pub fn store_write(b: &mut [u8], count: u64, x: u32, column: u32, close: bool, t: u64)
     requires { ⌜ 752 ≤ length (now b) ⌝ }
     requires { ⌜ x < 256 ⌝ }
     requires { ⌜ column < 256 ⌝ }
     requires { ⌜ t < 2 ^ 32 ⌝ }
-    ensures { λ _. ⌜ now (b .exit) ≡ writeStored (now (b .entry)) count x column t ⌝ }
+    ensures { λ _. ⌜ now (b .exit) ≡ writeStored (now (b .entry)) count x column close t ⌝ }
 {
-    let word = word_of(x, column, t);
+    let word = word_of(x, column, close, t);
     put_u64(b, 728, count);
     put_u64(b, 736, word);
 }
 
 // A write waits beside another: count is 2, or 258 where its data are due.
-pub fn store_beside(b: &mut [u8], count: u64, x: u32, column: u32, t: u64)
+pub fn store_beside(b: &mut [u8], count: u64, x: u32, column: u32, close: bool, t: u64)
     requires { ⌜ 752 ≤ length (now b) ⌝ }
     requires { ⌜ x < 256 ⌝ }
     requires { ⌜ column < 256 ⌝ }
     requires { ⌜ t < 2 ^ 32 ⌝ }
-    ensures { λ _. ⌜ now (b .exit) ≡ besideStored (now (b .entry)) count x column t ⌝ }
+    ensures { λ _. ⌜ now (b .exit) ≡ besideStored (now (b .entry)) count x column close t ⌝ }
 {
-    let word = word_of(x, column, t);
+    let word = word_of(x, column, close, t);
     put_u64(b, 728, count);
     put_u64(b, 744, word);
 }
 
 // The second write becomes the first, and another waits beside it.
-pub fn store_behind(b: &mut [u8], count: u64, x: u32, column: u32, t: u64)
+pub fn store_behind(b: &mut [u8], count: u64, x: u32, column: u32, close: bool, t: u64)
     requires { ⌜ 752 ≤ length (now b) ⌝ }
     requires { ⌜ x < 256 ⌝ }
     requires { ⌜ column < 256 ⌝ }
     requires { ⌜ t < 2 ^ 32 ⌝ }
-    ensures { λ _. ⌜ now (b .exit) ≡ behindStored (now (b .entry)) count x column t ⌝ }
+    ensures { λ _. ⌜ now (b .exit) ≡ behindStored (now (b .entry)) count x column close t ⌝ }
 {
-    let newer = word_of(x, column, t);
+    let newer = word_of(x, column, close, t);
     let older = u64_at(b, 744);
     put_u64(b, 728, count);
     put_u64(b, 736, older);

@@ -1,8 +1,8 @@
-// What a ROW packet stores.
+// What a ROW packet and an implied PRER store.
 ghost use mathlib.Core.Path.{_≡_};
 ghost use Prim.Native.Nat.{_<_, _≤_};
 ghost use lib.ListN.{length};
-ghost use Rattle.spec_state.specs.form.Stores.{rowStored, actStored, refaStored, closeStored, shutStored, sideStored, prerStored};
+ghost use Rattle.spec_state.specs.form.Stores.{rowStored, actStored, refaStored, closeStored, shutStored, sideStored, prerStored, impliedStored};
 ghost use Rattle.chan_view.specs.form.Beside.{lowOf, highOf};
 use chan_view::neighbours::high_of;
 use chan_view::neighbours::low_of;
@@ -89,4 +89,15 @@ pub fn store_prer(s: Settings, b: &mut [u8], x: u32, t: u64)
     store_side(b, high_of(s, x), t);
     put_u32(b, 716, t);
     store_row(b, t);
+}
+
+// An implied PRER to bank x, whose neighbours are closed since x is open.
+pub fn store_implied(b: &mut [u8], x: usize, t: u64)
+    requires { ⌜ 752 ≤ length (now b) ⌝ }
+    requires { ⌜ x < 32 ⌝ }
+    ensures { λ _. ⌜ now (b .exit) ≡ impliedStored (now (b .entry)) x t ⌝ }
+{
+    store_shut(b, x, t);
+    put_u32(b, 716, t);
+    put_u32(b, 724, t);
 }

@@ -74,10 +74,11 @@ rowLine t (Prer b) = line t (codes "PRER") b 0 dash
 rowLine t (Refa b) = line t (codes "REFA") b 0 dash
 rowLine t (Refp b) = line t (codes "REFP") b 0 dash
 
+-- "The two names join the listing": RDA and WRA, where the packet closes its bank (document 02 f)
 unfoldable pub colLine : ℕ → ColPacket → List ℕ
 colLine t (Nocop m) = line t (codes "NOCOP") 0 0 (maskText m)
-colLine t (Wr b c m) = line t (codes "WR") b c (maskText m)
-colLine t (Rd b c m) = line t (codes "RD") b c (maskText m)
+colLine t (Wr b c m close) = line t (cond close (codes "WRA") (codes "WR")) b c (maskText m)
+colLine t (Rd b c m close) = line t (cond close (codes "RDA") (codes "RD")) b c (maskText m)
 
 -- the line of a record; "D shows its WR's bank and column", which are given
 unfoldable pub recordLine : ℕ → ℕ → Record → List ℕ
@@ -95,18 +96,18 @@ mostRecords = 16
 abbrev pub requestRoom : ℕ
 requestRoom = mostRecords * lineRoom
 
--- bank and column of the latest WR, for the line of its D
+-- bank and column of the latest WR or WRA, for the line of its D
 abbrev pub writeBank : Record → ℕ → ℕ
-writeBank (ColAt t (Wr b c m)) before = b
+writeBank (ColAt t (Wr b c m close)) before = b
 writeBank (ColAt t (Nocop m)) before = before
-writeBank (ColAt t (Rd b c m)) before = before
+writeBank (ColAt t (Rd b c m close)) before = before
 writeBank (RowAt t p) before = before
 writeBank (DataOf t d) before = before
 
 abbrev pub writeColumn : Record → ℕ → ℕ
-writeColumn (ColAt t (Wr b c m)) before = c
+writeColumn (ColAt t (Wr b c m close)) before = c
 writeColumn (ColAt t (Nocop m)) before = before
-writeColumn (ColAt t (Rd b c m)) before = before
+writeColumn (ColAt t (Rd b c m close)) before = before
 writeColumn (RowAt t p) before = before
 writeColumn (DataOf t d) before = before
 

@@ -66,17 +66,23 @@ row-is (suc (suc (suc (suc n)))) bank place mask l f = absurd (omega (arith, leb
 col-is : (command bank place mask : ℕ) → leb command 3 ≡ false → fieldsRight command bank place mask ≡ true
     → colNumbers (colCommand command bank place mask) ≡ numbers command bank place mask
 unfolding fieldsRight colCommand colNumbers
-col-is command bank place mask l f = go (eqb command 4) refl (eqb command 5) refl
+col-is command bank place mask l f = go (eqb command 4) refl
   where
-    go : (t : Bool) → eqb command 4 ≡ t → (u : Bool) → eqb command 5 ≡ u → colNumbers (colCommand command bank place mask) ≡ numbers command bank place mask
-    go true p u q = let c = eqb-true command 4 p in let z = zeros bank place (rw c at f) in rw (c, z .0, z .1)
-    go false p true q = rw (eqb-true command 5 q)
-    go false p false q =
+    -- the commands with a column
+    access : 5 ≤ command → command ≤ 8 → (t : Bool) → eqb command 5 ≡ t → (u : Bool) → eqb command 6 ≡ u → (v : Bool) → eqb command 7 ≡ v
+        → colNumbers (colCommand command bank place mask) ≡ numbers command bank place mask
+    access m h true p u q v o = rw (eqb-true command 5 p)
+    access m h false p true q v o = rw (eqb-true command 6 q)
+    access m h false p false q true o = rw (eqb-true command 7 o)
+    access m h false p false q false o = let c : command ≡ 8 = omega (arith, eqb-false command 5 p, eqb-false command 6 q, eqb-false command 7 o) in rw c
+
+    go : (t : Bool) → eqb command 4 ≡ t → colNumbers (colCommand command bank place mask) ≡ numbers command bank place mask
+    go true p = let c = eqb-true command 4 p in let z = zeros bank place (rw c at f) in rw (c, z .0, z .1)
+    go false p =
         let m : 3 < command = leb-false command 3 l in
         let n = ne-eqb command 0 (λ z. omega arith) in
-        let h : command ≤ 6 = leb-true command 6 (rw (n, l, p) at f) in
-        let c : command ≡ 6 = omega (arith, eqb-false) in
-        rw c
+        let h : command ≤ 8 = leb-true command 8 (rw (n, l, p) at f) in
+        access (omega (arith, eqb-false command 4 p)) h (eqb command 5) refl (eqb command 6) refl (eqb command 7) refl
 
 -- the packet of a command's word, where it has one, is the command
 decoded : (s : Settings) → Bounds s → (command bank place mask w : ℕ) → commandCoded s command bank place mask ≡ Word w
@@ -127,8 +133,10 @@ col-back : (s : Settings) (w : ℕ) (d : ColDecoded) → colDecoded (s .device) 
 unfolding colAnswer colNumbers noPacket answerOf commandCoded fieldsRight colCommand colCoded
 col-back s w NoCol e n = absurd (omega arith)
 col-back s w (Col (Nocop mask)) e n = let b = col-encode-decode (s .device) (s .columns) w (Nocop mask) e in rw (b .0, b .1)
-col-back s w (Col (Wr bank column mask)) e n = let b = col-encode-decode (s .device) (s .columns) w (Wr bank column mask) e in rw (b .0, b .1)
-col-back s w (Col (Rd bank column mask)) e n = let b = col-encode-decode (s .device) (s .columns) w (Rd bank column mask) e in rw (b .0, b .1)
+col-back s w (Col (Wr bank column mask false)) e n = let b = col-encode-decode (s .device) (s .columns) w (Wr bank column mask false) e in rw (b .0, b .1)
+col-back s w (Col (Wr bank column mask true)) e n = let b = col-encode-decode (s .device) (s .columns) w (Wr bank column mask true) e in rw (b .0, b .1)
+col-back s w (Col (Rd bank column mask false)) e n = let b = col-encode-decode (s .device) (s .columns) w (Rd bank column mask false) e in rw (b .0, b .1)
+col-back s w (Col (Rd bank column mask true)) e n = let b = col-encode-decode (s .device) (s .columns) w (Rd bank column mask true) e in rw (b .0, b .1)
 
 no-back : (s : Settings) (w : ℕ) → Encodes s w (noPacket (refusal.Word 0))
 unfolding noPacket answerOf

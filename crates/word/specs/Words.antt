@@ -1,5 +1,6 @@
 -- What the calls on packet words answer: rdram_word_encode and rdram_word_decode.
--- Commands: 0 ACT, 1 PRER, 2 REFA, 3 REFP, 4 NOCOP, 5 WR, 6 RD. A packet's place is the row of ACT and the column of WR and RD.
+-- Commands: 0 ACT, 1 PRER, 2 REFA, 3 REFP, 4 NOCOP, 5 WR, 6 RD, 7 WRA, 8 RDA. A packet's place is the row of ACT and the column of
+-- WR, RD, WRA and RDA.
 -- Assumes nothing.
 use Prim.Native.Nat.{ℕ}
 use mathlib.Core.Bool.{Bool, cond, _&&_, _||_}
@@ -31,15 +32,17 @@ fieldsRight command bank place mask =
     cond (eqb command 0) (eqb mask 0)
     (cond (leb command 3) (eqb place 0 && eqb mask 0)
     (cond (eqb command 4) (eqb bank 0 && eqb place 0)
-    (leb command 6)))
+    (leb command 8)))
 
 unfoldable pub rowCommand : ℕ → ℕ → ℕ → RowPacket
 rowCommand command bank place =
     cond (eqb command 0) (Act bank place) (cond (eqb command 1) (Prer bank) (cond (eqb command 2) (Refa bank) (Refp bank)))
 
+-- WRA and RDA, from 7 on, close their bank
 unfoldable pub colCommand : ℕ → ℕ → ℕ → ℕ → ColPacket
 colCommand command bank place mask =
-    cond (eqb command 4) (Nocop mask) (cond (eqb command 5) (Wr bank place mask) (Rd bank place mask))
+    let close : Bool = leb 7 command in
+    cond (eqb command 4) (Nocop mask) (cond (eqb command 5 || eqb command 7) (Wr bank place mask close) (Rd bank place mask close))
 
 -- the word of a command with these fields, where it has one under the settings
 unfoldable pub commandCoded : Settings → ℕ → ℕ → ℕ → ℕ → Coded
@@ -53,13 +56,13 @@ commandCoded s command bank place mask =
 unfoldable pub noWordAnswer : Refusal → WordAnswer
 noWordAnswer r = record { number = answerOf r .number; word = 0 }
 
--- why a command with these fields has no word: a bank above 31, a row of ACT not below rows, a column of WR or RD not below
--- columns; else 10
+-- why a command with these fields has no word: a bank above 31, a row of ACT not below rows, a column of WR, RD, WRA or RDA not
+-- below columns; else 10
 unfoldable pub whyNoWord : Settings → ℕ → ℕ → ℕ → Refusal
 whyNoWord s command bank place =
     cond (leb bank 31)
     (cond (eqb command 0 && leb (s .rows) place) refusal.Row
-    (cond ((eqb command 5 || eqb command 6) && leb (s .columns) place) refusal.Column (refusal.Word 0)))
+    (cond ((leb 5 command && leb command 8) && leb (s .columns) place) refusal.Column (refusal.Word 0)))
     refusal.Bank
 
 unfoldable pub wordAnswer : Refusal → Coded → WordAnswer
@@ -80,8 +83,8 @@ rowNumbers (Refp bank) = record { number = 0; command = 3; bank = bank; place = 
 
 unfoldable pub colNumbers : ColPacket → PacketAnswer
 colNumbers (Nocop mask) = record { number = 0; command = 4; bank = 0; place = 0; mask = mask }
-colNumbers (Wr bank column mask) = record { number = 0; command = 5; bank = bank; place = column; mask = mask }
-colNumbers (Rd bank column mask) = record { number = 0; command = 6; bank = bank; place = column; mask = mask }
+colNumbers (Wr bank column mask close) = record { number = 0; command = cond close 7 5; bank = bank; place = column; mask = mask }
+colNumbers (Rd bank column mask close) = record { number = 0; command = cond close 8 6; bank = bank; place = column; mask = mask }
 
 unfoldable pub noPacket : Refusal → PacketAnswer
 noPacket r = record { number = answerOf r .number; command = 0; bank = 0; place = 0; mask = 0 }

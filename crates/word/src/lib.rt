@@ -1,6 +1,7 @@
 // Packet words in numbers, as C callers give and take them.
 ghost use mathlib.Core.Path.{_≡_};
-ghost use Prim.Native.Nat.{_<_};
+ghost use mathlib.Core.Bool.{cond};
+ghost use Prim.Native.Nat.{_+_, _<_};
 ghost use Rattle.word.specs.Words.{fieldsRight, rowCommand, colCommand, commandCoded, noWordAnswer, whyNoWord, wordAnswer, wordEncodeCall, rowNumbers, colNumbers, noPacket, rowAnswer, colAnswer, packetAnswer, wordDecodeCall};
 use packet::Coded;
 use packet::ColDecoded;
@@ -41,7 +42,7 @@ fn fields_right(command: u32, bank: u32, place: u32, mask: u32) -> bool
     if command == 4 {
         return num::both(bank == 0, place == 0);
     }
-    command <= 6
+    command <= 8
 }
 
 fn row_command(command: u32, bank: u32, place: u32) -> RowPacket
@@ -59,23 +60,28 @@ fn row_command(command: u32, bank: u32, place: u32) -> RowPacket
     RowPacket::Refp { bank }
 }
 
+// The COL packet of a command; WRA and RDA, from 7 on, close their bank.
 fn col_command(command: u32, bank: u32, place: u32, mask: u32) -> ColPacket
     ensures { λ r. ⌜ r ≡ colCommand command bank place mask ⌝ }
 {
+    let column = place;
+    let close = 7 <= command;
     if command == 4 {
         return ColPacket::Nocop { mask };
     }
-    if command == 5 {
+    if (command == 5) | (command == 7) {
         return ColPacket::Wr {
             bank,
-            column: place,
+            column,
             mask,
+            close,
         };
     }
     ColPacket::Rd {
         bank,
-        column: place,
+        column,
         mask,
+        close,
     }
 }
 
@@ -112,7 +118,7 @@ fn why_no_word(s: Settings, command: u32, bank: u32, place: u32) -> Refusal
     if num::both(command == 0, s.rows <= place) {
         return Refusal::Row;
     }
-    let column = num::either(command == 5, command == 6);
+    let column = (5 <= command) & (command <= 8);
     if num::both(column, s.columns <= place) {
         return Refusal::Column;
     }
@@ -163,6 +169,14 @@ fn row_numbers(p: RowPacket) -> PacketAnswer
     }
 }
 
+// The number of WR or RD, or of the one that closes its bank.
+fn access_command(plain: u32, close: bool) -> u32
+    requires { ⌜ plain < 7 ⌝ }
+    ensures { λ r. ⌜ r ≡ cond close (plain + 2) plain ⌝ }
+{
+    if close { plain + 2 } else { plain }
+}
+
 fn col_numbers(p: ColPacket) -> PacketAnswer
     ensures { λ r. ⌜ r ≡ colNumbers p ⌝ }
 {
@@ -174,16 +188,26 @@ fn col_numbers(p: ColPacket) -> PacketAnswer
             place: 0,
             mask,
         },
-        ColPacket::Wr { bank, column, mask } => PacketAnswer {
+        ColPacket::Wr {
+            bank,
+            column,
+            mask,
+            close,
+        } => PacketAnswer {
             number: 0,
-            command: 5,
+            command: access_command(5, close),
             bank,
             place: column,
             mask,
         },
-        ColPacket::Rd { bank, column, mask } => PacketAnswer {
+        ColPacket::Rd {
+            bank,
+            column,
+            mask,
+            close,
+        } => PacketAnswer {
             number: 0,
-            command: 6,
+            command: access_command(6, close),
             bank,
             place: column,
             mask,

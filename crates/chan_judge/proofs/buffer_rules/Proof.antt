@@ -8,11 +8,16 @@ returns : tie.Need-returns
 unfolding lowestOr bufferTests
 returns c =
     rw (
-      c .unless3 .ensures,
+      c .unless4 .ensures,
       c .before .write-safe .ensures,
-      c .before .before .unless2 .ensures,
-      c .before .before .before .before .unless .ensures,
+      c .before .before .unless3 .ensures,
+      c .before .before .before .before .unless2 .ensures,
+      c .before .before .before .before .before .before .unless .ensures,
+      c .before .before .before .before .before .before .before .row-free .ensures,
     )
 
 pub buffer-rules-spec : {M : Type 1} → statement M
-buffer-rules-spec = tie.close (tie.spec (λ c κs. search needs) (λ c κs. search needs) (λ c κs. search needs) (λ c κs. search needs) returns)
+buffer-rules-spec =
+    tie.close
+    (tie.spec
+    (λ c κs. search needs) (λ c κs. search needs) (λ c κs. search needs) (λ c κs. search needs) (λ c κs. search needs) (λ c κs. search needs) returns)

@@ -17,7 +17,7 @@ returns c =
     let m = o .before .before in
     let n = m .before .before in
     let j = n .before .before .before in
-    let i = j .before .before .before in
+    let i = j .before .before .before .before in
     let z = i .before in
     rw (
       c .packet-rule .ensures,
@@ -29,6 +29,7 @@ returns c =
       n .before .high-of .ensures,
       j .slot-of2 .ensures .0,
       j .before .low-of .ensures,
+      j .before .before .centre .ensures,
       i .slot-of .ensures .0,
     )
     (rule-read (z .args .s) (z .args .v) (z .args .h) (z .args .t2 .banks) (long z) (z .args .t2 .lasts))
@@ -40,7 +41,7 @@ returns-2 c =
     let m = o .before .before in
     let n = m .before .before in
     let j = n .before .before .before in
-    let i = j .before .before .before in
+    let i = j .before .before .before .before in
     let z = i .before in
     rw (
       c .packet-rule2 .ensures,
@@ -51,6 +52,7 @@ returns-2 c =
       n .before .high-of .ensures,
       j .slot-of2 .ensures .0,
       j .before .low-of .ensures,
+      j .before .before .centre .ensures,
       i .slot-of .ensures .0,
     )
     (rule-unopened (z .args .s) (z .args .v) (z .args .h) (z .args .t2 .banks) (long z) (z .args .t2 .lasts) (c .before .before .if1 .left))
@@ -59,7 +61,7 @@ pub packet-in-spec : {M : Type 1} → statement M
 packet-in-spec =
     tie.close
     (tie.spec
-    (λ c κs. search needs) (λ c. search needs) (λ c. search needs) (λ c κs. search needs) (λ c κs. search needs) (λ c. search needs)
+    (λ c κs. search needs) (λ c. search needs) (λ c. search needs) (λ c κs. search needs) (λ c κs. search needs) (λ c κs. search needs) (λ c. search needs)
     (λ c. search needs) (λ c κs. search needs) (λ c κs. search needs) (λ c. search needs) (λ c. search needs) (λ c κs. search needs)
     (λ c. search needs) (λ c. search needs) (λ c κs. search needs) (λ c. search needs) (λ c. search needs) (λ c κs. search needs) (λ c κs. search needs) (λ c κs. search needs) returns (λ c κs. search needs)
     returns-2)

@@ -13,11 +13,12 @@ returns c =
       c .before .row-rules .ensures,
       c .before .before .col-rules .ensures,
       c .before .before .before .buffer-rules .ensures,
-      c .before .before .before .before .leaving .ensures,
+      c .before .before .before .before .prer-of .ensures,
+      c .before .before .before .before .before .leaving .ensures,
     )
 
 pub packet-rule-spec : {M : Type 1} → statement M
 packet-rule-spec =
     tie.close
     (tie.spec
-    (λ c κs. search needs) (λ c κs. search needs) (λ c κs. search needs) (λ c κs. search needs) (λ c κs. search needs) returns)
+    (λ c κs. search needs) (λ c κs. search needs) (λ c κs. search needs) (λ c κs. search needs) (λ c κs. search needs) (λ c κs. search needs) returns)

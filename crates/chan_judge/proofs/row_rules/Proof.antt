@@ -17,7 +17,8 @@ returns c =
       c .before .before .before .before .before .before .unless2 .ensures,
       c .before .before .before .before .before .before .before .closed-long .ensures,
       c .before .before .before .before .before .before .before .before .unless .ensures,
-      c .before .before .before .before .before .before .before .before .before .apart .ensures,
+      c .before .before .before .before .before .before .before .before .before .prer-keeps .ensures,
+      c .before .before .before .before .before .before .before .before .before .before .after-gap .ensures,
     )
 
 pub row-rules-spec : {M : Type 1} → statement M
@@ -25,4 +26,4 @@ row-rules-spec =
     tie.close
     (tie.spec
     (λ c κs. search needs) (λ c κs. search needs) (λ c κs. search needs) (λ c κs. search needs) (λ c κs. search needs) (λ c κs. search needs)
-    (λ c κs. search needs) (λ c κs. search needs) (λ c κs. search needs) (λ c κs. search needs) returns)
+    (λ c κs. search needs) (λ c κs. search needs) (λ c κs. search needs) (λ c κs. search needs) (λ c κs. search needs) returns)

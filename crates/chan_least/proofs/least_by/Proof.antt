@@ -16,7 +16,7 @@ returns c =
     ) at (sym (c .before .before .before .leaves-from .ensures) ∙ c .before .before .if1 .taken) in
     rw (
       c .later3 .ensures,
-      c .before .retire-bound .ensures,
+      c .before .retire-least .ensures,
       c .before .before .before .before .later2 .ensures,
       c .before .before .before .before .before .later .ensures,
       c .before .before .before .before .before .before .packet-bound .ensures,

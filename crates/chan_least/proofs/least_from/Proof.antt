@@ -18,10 +18,10 @@ returns c =
 
 returns-2 : tie.Need-returns-2
 returns-2 c =
-    let k = c .before .before .before .before .before .before in
+    let k = c .before .before .before .before .before .before .before in
     let z = k .before .before .before in
-    rw (c .least-by .ensures, c .before .act-in .ensures, c .before .before .tracks-in .ensures, c .before .before .before .held-of .ensures)
+    rw (c .least-by .ensures, c .before .act-in .ensures, c .before .before .tracks-in .ensures, c .before .before .before .centre-by .ensures, c .before .before .before .before .held-of .ensures)
     (least-packet (z .args .s) (z .args .ch) (long z) (z .args .r) _ (sym (k .before .before .seen-of .ensures) ∙ k .v .given .1) (z .args .now .0))
 
 pub least-from-spec : {M : Type 1} → statement M
-least-from-spec = tie.close (tie.spec (λ c κs. search needs) (λ c. search needs) (λ c. search needs) (λ c κs. search needs) (λ c κs. search needs) returns (λ c κs. search needs) (λ c κs. search needs) (λ c κs. search needs) (λ c κs. search needs) returns-2)
+least-from-spec = tie.close (tie.spec (λ c κs. search needs) (λ c. search needs) (λ c. search needs) (λ c κs. search needs) (λ c κs. search needs) returns (λ c κs. search needs) (λ c κs. search needs) (λ c κs. search needs) (λ c κs. search needs) (λ c κs. search needs) returns-2)

@@ -24,10 +24,12 @@ returns-3 : tie.Need-returns-3
 unfolding packetBound
 returns-3 c =
     rw (
-      c .read-bound .ensures,
-      c .before .if3 .taken,
-      c .before .before .if2 .left,
-      c .before .before .before .if1 .left,
+      c .later .ensures,
+      c .before .implied-bound .ensures,
+      c .before .before .read-bound .ensures,
+      c .before .before .before .if3 .taken,
+      c .before .before .before .before .if2 .left,
+      c .before .before .before .before .before .if1 .left,
     )
 
 returns-4 : tie.Need-returns-4
@@ -53,4 +55,4 @@ returns-5 c =
     )
 
 pub packet-bound-spec : {M : Type 1} → statement M
-packet-bound-spec = tie.close (tie.spec (λ c κs. search needs) (λ c κs. search needs) returns (λ c κs. search needs) (λ c κs. search needs) (λ c κs. search needs) (λ c κs. search needs) returns-2 (λ c κs. search needs) returns-3 (λ c κs. search needs) returns-4 (λ c κs. search needs) returns-5)
+packet-bound-spec = tie.close (tie.spec (λ c κs. search needs) (λ c κs. search needs) returns (λ c κs. search needs) (λ c κs. search needs) (λ c κs. search needs) (λ c κs. search needs) returns-2 (λ c κs. search needs) (λ c κs. search needs) (λ c κs. search needs) returns-3 (λ c κs. search needs) returns-4 (λ c κs. search needs) returns-5)

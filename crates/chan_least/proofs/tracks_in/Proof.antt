@@ -22,7 +22,7 @@ returns c =
       c .before .before .before .before .before .before .before .before .before .before .before .low-of .ensures,
       c .before .before .before .before .before .before .before .before .before .before .before .before .slot-of .ensures .0,
     )
-    (around-is (z .args .t2) (long z) (z .args .s) (z .args .b) (z .args .h))
+    (around-is (z .args .t2) (long z) (z .args .s) (z .args .b) (z .args .c) (z .args .h))
 
 pub tracks-in-spec : {M : Type 1} → statement M
 tracks-in-spec = tie.close (tie.spec (λ c κs. search needs) (λ c κs. search needs) (λ c κs. search needs) (λ c κs. search needs) (λ c κs. search needs) (λ c κs. search needs) (λ c κs. search needs) (λ c. search needs) (λ c. search needs) (λ c. search needs) (λ c. search needs) (λ c. search needs) (λ c. search needs) (λ c. search needs) (λ c. search needs) (λ c. search needs) (λ c. search needs) (λ c κs. search needs) returns)

@@ -1,8 +1,8 @@
--- Whether a record breaks no rule, by command: it fits, its instant is not before its least instant, its data are in time, and what
--- leaves is right. The laws in proofs/ say so.
+-- Whether a record breaks no rule, where it implies no PRER and no closing write waits, by command: it fits, its instant is not
+-- before its least instant, its data are in time, and what leaves is right. The laws in proofs/ say so.
 -- Assumes nothing.
 use Prim.Native.Nat.{ℕ, _+_, max}
-use mathlib.Core.Bool.{Bool, not, _&&_, cond}
+use mathlib.Core.Bool.{Bool, not, _&&_, _||_, cond}
 use lib.Dec.{eqb, leb}
 use Rattle.settings.specs.declared.Settings.{Settings}
 use Rattle.settings.specs.declared.PacketAt.{PacketAt}
@@ -24,6 +24,10 @@ use Rattle.chan_view.specs.form.View.{seenOf}
 use Rattle.chan_step.specs.form.Lasts.{retiresBy}
 use Rattle.chan_judge.specs.form.Tests.{dataRule}
 use Rattle.chan_least.specs.form.Least.{openBound, closeBound, readBound, writeBound, nocopBound, openedNear, preNear, rdNear, retireNear}
+
+-- a packet is in range, no data are due and no closing write waits
+abbrev pub comesWell : PacketAt → Held → Bool
+comesWell t h = isInstant (t .0) && not (h .due || (h .close || h .«next_close»))
 
 -- what rule 5 asks at most where no bank was opened after newest: just what it asks, where tRR is not above tRC and newest is the
 -- latest of all
@@ -68,13 +72,13 @@ rowWell s t (Prer b) h k l act = closesWell s t k l b h
 rowWell s t (Refa b) h k l act = opensWell s t k l act
 rowWell s t (Refp b) h k l act = closesWell s t k l b h
 
--- a NOCOP may leave none, a WR one; no RD comes where two wait
+-- a NOCOP may leave none, a WR one; no RD comes where two wait, and no RDA here
 unfoldable pub colWell : Settings → PacketAt → ColPacket → Held → Tracks → LastInstants → Bool → Bool
 colWell s t (Nocop m) h k l out = leavesWell s t k (not (h .waits)) m out && leb (nocopBound s l) (t .0)
-colWell s t (Wr b c m) h k l out = leavesWell s t k (not (h .two)) m out && writesWell s t k l
-colWell s t (Rd b c m) h k l out = not (h .two) && readsWell s t k l m
+colWell s t (Wr b c m x) h k l out = leavesWell s t k (not (h .two)) m out && writesWell s t k l
+colWell s t (Rd b c m x) h k l out = not (h .two || x) && readsWell s t k l m
 
 unfoldable pub recordWell : Settings → Record → Held → Tracks → LastInstants → ℕ → Bool
-recordWell s (RowAt t p) h k l act = (isInstant (t .0) && not (h .due)) && rowWell s t p h k l act
-recordWell s (ColAt t p) h k l act = (isInstant (t .0) && not (h .due)) && colWell s t p h k l (retiresBy s h (seenOf (ColAt t p)))
+recordWell s (RowAt t p) h k l act = comesWell t h && rowWell s t p h k l act
+recordWell s (ColAt t p) h k l act = comesWell t h && colWell s t p h k l (retiresBy s h (seenOf (ColAt t p)))
 recordWell s (DataOf t d) h k l act = eqb (dataRule s h t) 0

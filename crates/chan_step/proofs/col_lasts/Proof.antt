@@ -14,7 +14,7 @@ returns-2 c = rw (c .enum-told2 .given .1)
 
 returns-3 : tie.Need-returns-3
 unfolding colTraits
-returns-3 c = rw (c .before .before .before .before .enum-told3 .given .1)
+returns-3 c = rw (c .before .before .before .before .before .enum-told3 .given .1)
 
 pub col-lasts-spec : {M : Type 1} → statement M
 col-lasts-spec = tie.close (tie.spec (λ c. search needs) (λ c. search needs) (λ c. search needs) returns returns-2 returns-3)

@@ -10,7 +10,7 @@ returns c = rw (c .enum-told .given .1)
 
 returns-2 : tie.Need-returns-2
 unfolding rowTraits
-returns-2 c = rw (c .before .before .before .before .enum-told2 .given .1)
+returns-2 c = rw (c .before .before .before .before .before .enum-told2 .given .1)
 
 returns-3 : tie.Need-returns-3
 unfolding rowTraits
@@ -18,7 +18,7 @@ returns-3 c = rw (c .enum-told3 .given .1)
 
 returns-4 : tie.Need-returns-4
 unfolding rowTraits
-returns-4 c = rw (c .before .before .before .before .enum-told4 .given .1)
+returns-4 c = rw (c .before .before .before .before .before .enum-told4 .given .1)
 
 pub row-lasts-spec : {M : Type 1} → statement M
 row-lasts-spec =

@@ -44,7 +44,7 @@ retiredTrack t k = record { bank = k .bank; opened = k .opened; act = k .act; pr
 unfoldable pub changed : (BankTrack → BankTrack) → ℕ → List BankTrack → List BankTrack
 changed f x l = set l x (f (getD l x idle))
 
--- all banks after a PRER or REFP to bank b, those beside it being these
+-- all banks after a PRER or REFP to bank b, its own packet or implied, those beside it being these
 abbrev pub closedBanks : PacketAt → ℕ → ℕ → ℕ → List BankTrack → List BankTrack
 closedBanks t b low high l = changed (sideTrack t) high (changed (sideTrack t) low (changed (prerTrack t) b l))
 
@@ -58,8 +58,8 @@ rowBanks s t (Refp b) l = closedBanks t b (lowOf s b) (highOf s b) l
 -- after a COL packet, once the write that it retires has left; and after that retire, of a write to bank w
 unfoldable pub colBanks : PacketAt → ColPacket → List BankTrack → List BankTrack
 colBanks t (Nocop m) l = l
-colBanks t (Wr b c m) l = l
-colBanks t (Rd b c m) l = changed (readTrack t) b l
+colBanks t (Wr b c m x) l = l
+colBanks t (Rd b c m x) l = changed (readTrack t) b l
 
 abbrev pub retiredBanks : Bool → ℕ → PacketAt → List BankTrack → List BankTrack
 retiredBanks leaves w t l = cond leaves (changed (retiredTrack t) w l) l

@@ -19,7 +19,7 @@ use Rattle.chan_view.specs.declared.Seen.the-variants.{Packet, Data}
 use Rattle.chan_view.specs.declared.Held.{Held}
 use Rattle.chan_view.specs.form.View.{leaves}
 
--- after a packet
+-- after a packet, but for the PRER that it implies
 abbrev pub lastsBy : PacketAt → Traits → LastInstants → LastInstants
 lastsBy t k l =
     record {
@@ -28,12 +28,17 @@ lastsBy t k l =
       col = cond (k .col) t (l .col);
       pre = cond (has (k .precharges)) t (l .pre);
       rd = cond (has (k .reads)) t (l .rd);
+      implied = l .implied;
     }
 
 unfoldable pub lastsNext : Record → LastInstants → LastInstants
 lastsNext (RowAt t p) l = lastsBy t (rowTraits p) l
 lastsNext (ColAt t p) l = lastsBy t (colTraits p) l
 lastsNext (DataOf t d) l = l
+
+-- after an implied PRER, which is no packet
+abbrev pub impliedLasts : PacketAt → LastInstants → LastInstants
+impliedLasts t l = record { packet = l .packet; row = l .row; col = l .col; pre = t; rd = l .rd; implied = t }
 
 -- the buffer once the older write has left, if it does
 unfoldable pub leftBuffer : Bool → Buffer → Buffer
@@ -46,8 +51,8 @@ joinedBuffer b w = bufferOf (joined (some w) (waitingOf b))
 -- after a COL packet, and after a record; leaves says whether the older write does
 unfoldable pub colBuffer : PacketAt → ColPacket → Bool → Buffer → Buffer
 colBuffer t (Nocop m) leaves x = leftBuffer leaves x
-colBuffer t (Wr b c m) leaves x = joinedBuffer (leftBuffer leaves x) (record { bank = b; column = c; at = t })
-colBuffer t (Rd b c m) leaves x = leftBuffer leaves x
+colBuffer t (Wr b c m z) leaves x = joinedBuffer (leftBuffer leaves x) (record { bank = b; column = c; at = t; close = z })
+colBuffer t (Rd b c m z) leaves x = leftBuffer leaves x
 
 unfoldable pub bufferNext : Record → Bool → Buffer → Buffer
 bufferNext (RowAt t p) leaves x = x

@@ -41,24 +41,24 @@ slotOf b = cond (ltb b 32) b 0
 abbrev pub heldAt : ℕ → BankTrack → BankTrack
 heldAt b t = cond (ltb b 32) t idle
 
--- the tracks that a packet to bank b concerns where these writes wait
-abbrev pub tracksOf : Settings → List BankTrack → ℕ → Held → Tracks
-tracksOf s l b h =
+-- the tracks that a packet to bank b concerns, where its PRER is to bank c and these writes wait
+abbrev pub tracksOf : Settings → List BankTrack → ℕ → ℕ → Held → Tracks
+tracksOf s l b c h =
     record {
       own = getD l b idle;
-      low = getD l (lowOf s b) idle;
-      high = getD l (highOf s b) idle;
+      low = getD l (lowOf s c) idle;
+      high = getD l (highOf s c) idle;
       held = getD l (h .bank) idle;
       next = getD l (h .next) idle;
     }
 
 -- the same from what stands at the indices of these banks
-abbrev pub aroundOf : Settings → ℕ → Held → BankTrack → BankTrack → BankTrack → BankTrack → BankTrack → Tracks
-aroundOf s b h own low high held next =
+abbrev pub aroundOf : Settings → ℕ → ℕ → Held → BankTrack → BankTrack → BankTrack → BankTrack → BankTrack → Tracks
+aroundOf s b c h own low high held next =
     record {
       own = heldAt b own;
-      low = heldAt (lowOf s b) low;
-      high = heldAt (highOf s b) high;
+      low = heldAt (lowOf s c) low;
+      high = heldAt (highOf s c) high;
       held = heldAt (h .bank) held;
       next = heldAt (h .next) next;
     }

@@ -1,6 +1,6 @@
 -- Records and the write buffer as code reads them: flags with one bank, and number 32 for no bank.
 -- Assumes nothing.
-use Prim.Native.Nat.{ℕ, _+_}
+use Prim.Native.Nat.{ℕ, _+_, max}
 use mathlib.Core.Bool.{Bool, true, false, not, _&&_, _||_, cond}
 use lib.Dec.{leb}
 use Rattle.settings.specs.declared.Settings.{Settings}
@@ -41,6 +41,7 @@ plain t =
       col = false;
       other = false;
       masked = false;
+      close = false;
     }
 
 -- a ROW packet to a bank
@@ -60,6 +61,7 @@ rowTo t b state opens acts precharges =
       col = false;
       other = false;
       masked = false;
+      close = false;
     }
 
 unfoldable pub rowView : PacketAt → RowPacket → View
@@ -69,8 +71,8 @@ rowView t (Refa b) = rowTo t b Refresh true false false
 rowView t (Refp b) = rowTo t b Closed false false true
 
 -- a COL packet
-abbrev pub colTo : PacketAt → ℕ → ℕ → Bool → Bool → Bool → ℕ → View
-colTo t b c reads writes other mask =
+abbrev pub colTo : PacketAt → ℕ → ℕ → Bool → Bool → Bool → ℕ → Bool → View
+colTo t b c reads writes other mask close =
     record {
       at = t;
       bank = b;
@@ -85,32 +87,46 @@ colTo t b c reads writes other mask =
       col = true;
       other = other;
       masked = carries mask;
+      close = close;
     }
 
 unfoldable pub colView : PacketAt → ColPacket → View
-colView t (Nocop m) = colTo t 0 0 false false true m
-colView t (Wr b c m) = colTo t b c false true true m
-colView t (Rd b c m) = colTo t b c true false false m
+colView t (Nocop m) = colTo t 0 0 false false true m false
+colView t (Wr b c m x) = colTo t b c false true true m x
+colView t (Rd b c m x) = colTo t b c true false false m x
 
 unfoldable pub seenOf : Record → Seen
 seenOf (RowAt t p) = Packet (rowView t p)
 seenOf (ColAt t p) = Packet (colView t p)
 seenOf (DataOf t d) = Data t
 
--- how long after a packet its data come
+-- how long after a packet the last of what it sets itself comes: its data, or the PRER that an RDA implies
 abbrev pub delayOf : Settings → View → ℕ
-delayOf s v = cond (v .reads) (s .cac) (cond (v .writes) (s .cwd) 0)
+delayOf s v = cond (v .reads) (cond (v .close) (max (s .cac) (s .offp)) (s .cac)) (cond (v .writes) (s .cwd) 0)
 
 -- ---- the write buffer
 
 unfoldable pub heldOf : Buffer → Bool → Held
-heldOf Empty due = record { waits = false; two = false; due = false; bank = 32; at = never; next = 32; newest = never }
-heldOf (One x) due = record { waits = true; two = false; due = due; bank = x .bank; at = x .at; next = 32; newest = x .at }
-heldOf (Two x y) due = record { waits = true; two = true; due = due; bank = x .bank; at = x .at; next = y .bank; newest = y .at }
+heldOf Empty due = record { waits = false; two = false; due = false; bank = 32; at = never; close = false; next = 32; «next_close» = false; newest = never }
+heldOf (One x) due = record { waits = true; two = false; due = due; bank = x .bank; at = x .at; close = x .close; next = 32; «next_close» = false; newest = x .at }
+heldOf (Two x y) due =
+    record { waits = true; two = true; due = due; bank = x .bank; at = x .at; close = x .close; next = y .bank; «next_close» = y .close; newest = y .at }
 
 -- whether a packet retires the older write: it is a COL packet other than RD, and tRTR has passed since the WR
 abbrev pub leaves : Settings → Held → View → Bool
 leaves s h v = h .waits && (v .other && leb (h .at .0 + s .rtr) (v .at .0))
+
+-- whether a packet retires a closing write
+abbrev pub leavesClosing : Settings → Held → View → Bool
+leavesClosing s h v = h .close && leaves s h v
+
+-- whether a packet implies a PRER: an RDA by itself, another by the retire of a closing write
+abbrev pub impliesBy : Settings → Held → View → Bool
+impliesBy s h v = (v .reads && v .close) || leavesClosing s h v
+
+-- the bank of a packet's PRER, its own or an implied one; of other packets the bank that they name
+abbrev pub centreOf : Settings → Held → View → ℕ
+centreOf s h v = cond (leavesClosing s h v) (h .bank) (v .bank)
 
 -- whether a packet may leave the waiting writes as they are
 abbrev pub staysBy : Held → View → Bool

@@ -12,7 +12,7 @@ returns c =
     let k = c .before .before .before in
     let m = k .before .before .before .before .before in
     let n = m .before .before in
-    let z = n .before .before .before .before in
+    let z = n .before .before .before .before .before in
     let b = z .args .b .now in
     rw (
       c .packet-rule .ensures,
@@ -26,7 +26,8 @@ returns c =
       m .before .high-of .ensures,
       n .track-for2 .ensures,
       n .before .low-of .ensures,
-      n .before .before .track-for .ensures,
+      n .before .before .centre .ensures,
+      n .before .before .before .track-for .ensures,
       lasts-read b,
     )
     (state-enough (z .args .s) (z .args .v) (z .args .h) (channelIn b .banks) _ (channelIn b .lasts)
@@ -37,7 +38,7 @@ returns-2 c =
     let k = c .before .before in
     let m = k .before .before .before .before .before in
     let n = m .before .before in
-    let z = n .before .before .before .before in
+    let z = n .before .before .before .before .before in
     let b = z .args .b .now in
     rw (
       c .packet-rule2 .ensures,
@@ -50,7 +51,8 @@ returns-2 c =
       m .before .high-of .ensures,
       n .track-for2 .ensures,
       n .before .low-of .ensures,
-      n .before .before .track-for .ensures,
+      n .before .before .centre .ensures,
+      n .before .before .before .track-for .ensures,
       lasts-read b,
     )
     (state-enough (z .args .s) (z .args .v) (z .args .h) (channelIn b .banks) _ (channelIn b .lasts)
@@ -60,9 +62,9 @@ pub packet-in-spec : {M : Type 1} → statement M
 packet-in-spec =
     tie.close
     (tie.spec
-    (λ c κs. c .before .pre) (λ c κs. search needs) (λ c κs. c .before .before .before .pre) (λ c κs. search needs)
-    (λ c κs. c .before .before .before .before .before .pre) (λ c κs. c .before .before .before .before .before .before .pre)
-    (λ c κs. c .before .before .before .before .before .before .before .pre) (λ c κs. search needs) (λ c κs. search needs)
-    (λ c κs. c .before .before .before .before .before .before .before .before .before .before .pre)
-    (λ c κs. c .before .before .before .before .before .before .before .before .before .before .before .before .pre) (λ c κs. search needs) returns
+    (λ c κs. c .before .pre) (λ c κs. search needs) (λ c κs. search needs) (λ c κs. c .before .before .before .before .pre) (λ c κs. search needs)
+    (λ c κs. c .before .before .before .before .before .before .pre) (λ c κs. c .before .before .before .before .before .before .before .pre)
+    (λ c κs. c .before .before .before .before .before .before .before .before .pre) (λ c κs. search needs) (λ c κs. search needs)
+    (λ c κs. c .before .before .before .before .before .before .before .before .before .before .before .pre)
+    (λ c κs. c .before .before .before .before .before .before .before .before .before .before .before .before .before .pre) (λ c κs. search needs) returns
     (λ c κs. search needs) returns-2)

@@ -15,7 +15,7 @@ use Rattle.packet.specs.declared.ColPacket.{ColPacket}
 use Rattle.packet.specs.declared.ColPacket.the-variants.{Nocop, Wr, Rd}
 use Rattle.record.specs.declared.Dualoct.{Dualoct}
 use Rattle.spec_rules.specs.Neighbour.{contextOf}
-use Rattle.spec_state.specs.form.Stores.{colStored, actStored, refaStored, prerStored, rdStored, retireStored, shiftStored, writeStored, besideStored, dataStored}
+use Rattle.spec_state.specs.form.Stores.{colStored, actStored, refaStored, prerStored, rdStored, retireStored, shiftStored, writeStored, besideStored, dataStored, impliedStored}
 use Rattle.chan_view.specs.form.Beside.{lowOf, highOf}
 use Rattle.spec_model.specs.Store.{dualoctBytes}
 use Rattle.spec_model.specs.Model.{refrBy}
@@ -43,24 +43,35 @@ leavesAt s b t = not (eqb (getD b 728 0) 0) && leb (number (part b 740 4) + s .r
 unfoldable pub movedUp : List ℕ → ℕ → List ℕ
 movedUp b t = splice (shiftStored (retireStored b (getD b 736 0) t) (getD b 728 0 - 1)) 760 (dualoctBytes (modelIn b .second))
 
+-- an implied PRER to bank x, tOFFP after a stored instant, where there is one
+abbrev pub impliedNext : Settings → List ℕ → Bool → ℕ → ℕ → List ℕ
+impliedNext s b implied x t = cond implied (impliedStored b x (t + s .offp)) b
+
+-- whether the older write closes its bank
+abbrev pub closesIn : List ℕ → Bool
+closesIn b = eqb (number (part b 738 2)) 1
+
 -- the bytes, and how many writes wait, once the older write has left, if it leaves
+abbrev pub outNext : Settings → List ℕ → ℕ → List ℕ
+outNext s b t = impliedNext s (movedUp b t) (closesIn b) (getD b 736 0) t
+
 unfoldable pub leftNext : Settings → List ℕ → ℕ → List ℕ
-leftNext s b t = cond (leavesAt s b t) (movedUp b t) b
+leftNext s b t = cond (leavesAt s b t) (outNext s b t) b
 
 unfoldable pub leftCount : Settings → List ℕ → ℕ → ℕ
 leftCount s b t = cond (leavesAt s b t) (getD b 728 0 - 1) (getD b 728 0)
 
 -- a write where so many wait, its data due: alone, or beside another
-abbrev pub joined : List ℕ → ℕ → ℕ → ℕ → ℕ → List ℕ
-joined b left x c t = cond (eqb left 0) (writeStored b 257 x c t) (besideStored b 258 x c t)
+abbrev pub joined : List ℕ → ℕ → ℕ → ℕ → Bool → ℕ → List ℕ
+joined b left x c close t = cond (eqb left 0) (writeStored b 257 x c close t) (besideStored b 258 x c close t)
 
-unfoldable pub joinNext : Settings → List ℕ → ℕ → ℕ → ℕ → List ℕ
-joinNext s b x c t = joined (leftNext s b t) (leftCount s b t) x c t
+unfoldable pub joinNext : Settings → List ℕ → ℕ → ℕ → Bool → ℕ → List ℕ
+joinNext s b x c close t = joined (leftNext s b t) (leftCount s b t) x c close t
 
 unfoldable pub colNext : Settings → List ℕ → ColPacket → ℕ → List ℕ
 colNext s b (Nocop m) t = colStored (leftNext s b t) t
-colNext s b (Wr x c m) t = colStored (joinNext s b x c t) t
-colNext s b (Rd x c m) t = rdStored b x t
+colNext s b (Wr x c m close) t = colStored (joinNext s b x c close t) t
+colNext s b (Rd x c m close) t = impliedNext s (rdStored b x t) close x t
 
 -- the data of the newest write: the second, where two wait
 unfoldable pub dataNext : List ℕ → Dualoct → List ℕ

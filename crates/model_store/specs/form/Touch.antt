@@ -36,8 +36,8 @@ retireTouch (some w) held mask = Retires (writePlace w held) mask
 
 unfoldable pub colTouch : ColPacket → Option Write → Bank → Bank → Touch
 colTouch (Nocop m) leaving own held = retireTouch leaving held m
-colTouch (Wr b c m) leaving own held = retireTouch leaving held m
-colTouch (Rd b c m) leaving own held = Reads (record { bank = b; row = openRow own; column = c })
+colTouch (Wr b c m x) leaving own held = retireTouch leaving held m
+colTouch (Rd b c m x) leaving own held = Reads (record { bank = b; row = openRow own; column = c })
 
 unfoldable pub touchOf : Record → Option Write → Bank → Bank → Touch
 touchOf (RowAt t p) leaving own held = Nothing

@@ -19,10 +19,11 @@ use Rattle.spec_rules.specs.Earliest.{placedAt, under}
 use Rattle.spec_plan.specs.declared.PlannerState.{PlannerState}
 use Rattle.spec_plan.specs.Plan.{Draft, rowPacket, colPacket, carried, hits}
 use Rattle.spec_plan.specs.Call.{timely}
+use Rattle.spec_plan.proofs.Timely.{Walked}
 use Rattle.plan_by_value.specs.declared.Command.{Command}
 use Rattle.plan_by_value.specs.declared.Command.the-variants.{Row, Col}
 use Rattle.plan_by_value.specs.declared.Before.{Before}
-use Rattle.plan_by_value.specs.declared.Before.the-variants.{Prer, Rd, Flush}
+use Rattle.plan_by_value.specs.declared.Before.the-variants.{Prer, Rd, Flush, WriteEnd}
 use Rattle.plan_by_value.specs.declared.Banks.{Banks}
 use Rattle.plan_by_value.specs.declared.Banks.the-variants.{Near, All}
 use Rattle.plan_by_value.specs.declared.Entry.{Entry}
@@ -36,13 +37,15 @@ packetOf (Col p) = colPacket p
 
 abbrev pub concerns : Settings → Before → Write → Bool
 concerns s (Prer x) = λ w. near (contextOf s) x (w .bank)
-concerns s (Rd bank column) = hits bank column
+concerns s (Rd bank column close) = λ w. hits bank column w || (close && near (contextOf s) bank (w .bank))
 concerns s Flush = λ w. true
+concerns s WriteEnd = λ w. w .close
 
 abbrev pub reads : Before → Bool
 reads (Prer x) = false
-reads (Rd bank column) = true
+reads (Rd bank column close) = true
 reads Flush = false
+reads WriteEnd = false
 
 -- the waiting writes ask for a NOCOP: two before an RD, or one that concerns what is sent next
 abbrev pub holdsUp : Settings → Before → List Write → Bool
@@ -73,9 +76,11 @@ unfoldable pub recordsOf : List Entry → ℕ → List Record
 recordsOf l zero = []
 recordsOf l (suc n) = recordsOf l n ++ (getD l n blank .made ∷ [])
 
--- late where an instant passes the last one; otherwise the same planner, and the same records while they are at most 32
-pub record Draws (s : Settings) (d : Drawn) (e : Draft) : Type 0 where
-  pub late : d .late ≡ not (timely (contextOf s) e)
+-- a draft of a request to this planner: late where an instant passes the last one; otherwise the same planner, and the same records
+-- while they are at most 32
+pub record Draws (s : Settings) (p : PlannerState) (d : Drawn) (e : Draft) : Type 0 where
+  pub walked : Walked (contextOf s) p e
+  pub late : d .late ≡ not (timely (contextOf s) p e)
   pub planner : d .late ≡ false → d .planner ≡ e .planner
   pub records : d .late ≡ false → length (e .records) ≤ 32 → recordsOf (d .list) (d .count) ≡ e .records
 

@@ -13,7 +13,7 @@ use Rattle.spec_rules.specs.History.{isClosed}
 use Rattle.spec_state.proofs.EachInstant.{All}
 use Rattle.spec_state.proofs.RoundTrip.{Back, SomeBack}
 use Rattle.spec_plan.specs.declared.PlannerState.{PlannerState}
-use Rattle.spec_plan.specs.Plan.{Draft, stateIn}
+use Rattle.spec_plan.specs.Plan.{Draft, waiting, stateIn, anyCloses}
 use Rattle.spec_plan.specs.Call.{listBytes}
 use Rattle.spec_plan.specs.PlannerBytes.{plannerBytes, plannerIn}
 use Rattle.spec_plan.proofs.Invariant.{Inv}
@@ -38,6 +38,14 @@ pub record Readies (s : Settings) (top : ℕ) (b : List ℕ) : Type 0 where
 -- the same, shut
 unfoldable pub Ready : Settings → ℕ → List ℕ → Type 0
 Ready s top b = Readies s top b
+
+-- the same between the steps of a request that has sent no WRA: no write that waits closes its bank
+pub record Rests (s : Settings) (top : ℕ) (b : List ℕ) : Type 0 where
+  pub ready : Ready s top b
+  pub plain : anyCloses (waiting (drafted b)) ≡ false
+
+unfoldable pub Rested : Settings → ℕ → List ℕ → Type 0
+Rested s top b = Rests s top b
 
 -- bank x is not closed; it is closed with its neighbours
 abbrev pub OpenAt : List ℕ → ℕ → Type 0

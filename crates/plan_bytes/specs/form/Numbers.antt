@@ -23,6 +23,10 @@ waitsIn b = not (eqb (getD b 728 0) 0)
 abbrev pub heldBank : List ℕ → ℕ
 heldBank b = getD b 736 0
 
+-- whether the older one closes its bank
+abbrev pub heldCloses : List ℕ → Bool
+heldCloses b = eqb (half b 738) 1
+
 -- whether two wait, and the bank of the newer
 abbrev pub twoIn : List ℕ → Bool
 twoIn b = ltb 1 (getD b 728 0)
@@ -38,6 +42,7 @@ pub record Tops (top : ℕ) (b : List ℕ) : Type 0 where
   pub col : word b 712 ≤ top
   pub pre : word b 716 ≤ top
   pub rd : word b 720 ≤ top
+  pub implied : word b 724 ≤ top
   pub wrote : waitsIn b ≡ true → word b 740 ≤ top
   pub second : twoIn b ≡ true → word b 748 ≤ top
   pub now : word b 752 ≤ top

@@ -11,7 +11,7 @@ use Rattle.plan_bytes.specs.form.Numbers.{word}
 unfoldable pub highestIn : List ℕ → ℕ
 highestIn b =
     max (maxUpTo (λ k. word b (4 * k)) 160)
-    (max (word b 704) (max (word b 708) (max (word b 712) (max (word b 716) (max (word b 720) (max (word b 740) (max (word b 748) (word b 752))))))))
+    (max (word b 704) (max (word b 708) (max (word b 712) (max (word b 716) (max (word b 720) (max (word b 724) (max (word b 740) (max (word b 748) (word b 752)))))))))
 
 -- none is so high that a packet of one request could be late
 unfoldable pub isCalm : List ℕ → Bool

@@ -6,7 +6,7 @@ use Rattle.plan_cols.proofs.put_nocop.Tie as tie
 
 returns : tie.Need-returns
 unfolding nocopStored
-returns c = rw (c .before .before .put-u16 .ensures, c .before .before .before .before .before .before .put-now .ensures, c .before .before .before .before .before .before .before .before .before .before .store-col .ensures, c .before .before .before .before .before .before .before .before .before .before .before .before .before .before .store-shift .ensures, c .before .before .before .before .before .before .before .before .before .before .before .before .before .before .before .before .before .before .store-retire .ensures, c .before .before .before .before .before .before .before .before .before .before .before .before .before .before .before .before .before .before .before .before .wide32 .ensures .0, c .before .before .before .before .before .before .before .before .before .before .before .before .before .before .before .before .before .before .before .before .before .u16-at .ensures .0, c .before .before .before .before .before .before .before .before .before .before .before .before .before .before .before .before .before .before .before .before .before .before .before .left-count .ensures, c .before .before .before .before .before .before .before .before .before .before .before .before .before .before .before .before .before .before .before .before .before .before .before .before .before .held-bank .ensures .0)
+returns c = rw (c .before .before .put-u16 .ensures, c .before .before .before .before .before .before .put-now .ensures, c .before .before .before .before .before .before .before .before .before .before .store-col .ensures, c .before .before .before .before .before .before .before .before .before .before .before .before .before .before .store-shift .ensures, c .before .before .before .before .before .before .before .before .before .before .before .before .before .before .before .before .before .before .store-retire .ensures, c .before .before .before .before .before .before .before .before .before .before .before .before .before .before .before .before .before .before .before .before .newer-mask .ensures, c .before .before .before .before .before .before .before .before .before .before .before .before .before .before .before .before .before .before .before .before .before .before .left-count .ensures, c .before .before .before .before .before .before .before .before .before .before .before .before .before .before .before .before .before .before .before .before .before .before .before .before .held-bank .ensures .0)
 
 pub put-nocop-spec : {M : Type 1} → statement M
 put-nocop-spec =
@@ -14,7 +14,6 @@ put-nocop-spec =
     (tie.spec
     (λ c κs. search needs)
     (λ c. search needs)
-    (λ c κs. search needs)
     (λ c κs. search needs)
     (λ c κs. search needs)
     (λ c κs. search needs)

@@ -10,7 +10,7 @@ use Rattle.plan_rows.proofs.refresh_bank.Statement.{statement}
 use Rattle.plan_rows.proofs.refresh_bank.Tie as tie
 
 refa-requires : tie.Need-refa-requires
-refa-requires c κs = (ready-more _ 1000008000 1000009000 _ (omega arith) (c .before .before .before .before .pre .0), (c .before .before .before .before .pre .1 .0, (c .before .before .before .before .pre .1 .1 .0, omega (arith, c .before .before .before .before .pre .1 .1 .1 .1))))
+refa-requires c κs = (ready-more _ 1000011000 1000012000 _ (omega arith) (c .before .before .before .before .pre .0), (c .before .before .before .before .pre .1 .0, (c .before .before .before .before .pre .1 .1 .0, omega (arith, c .before .before .before .before .pre .1 .1 .1 .1))))
 
 close-requires : tie.Need-close-requires
 close-requires c κs =

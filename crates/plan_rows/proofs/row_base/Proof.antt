@@ -6,12 +6,14 @@ use Rattle.plan_rows.proofs.row_base.Tie as tie
 
 returns : tie.Need-returns
 unfolding rowBase
-returns c = rw (c .later2 .ensures, c .before .after .ensures, c .before .before .later .ensures, c .before .before .before .stored2 .ensures, c .before .before .before .before .stored .ensures)
+returns c = rw (c .later3 .ensures, c .before .stored3 .ensures, c .before .before .later2 .ensures, c .before .before .before .after .ensures, c .before .before .before .before .later .ensures, c .before .before .before .before .before .stored2 .ensures, c .before .before .before .before .before .before .stored .ensures)
 
 pub row-base-spec : {M : Type 1} → statement M
 row-base-spec =
     tie.close
     (tie.spec
+    (λ c κs. search needs)
+    (λ c κs. search needs)
     (λ c κs. search needs)
     (λ c κs. search needs)
     (λ c κs. search needs)

@@ -1,5 +1,6 @@
 -- `plan_steps::close_bank` meets its contract.
 use native.Mathlib.Omega.{arith}
+use Rattle.plan_bytes.proofs.ReadyLaws.{ready}
 use Rattle.plan_steps.proofs.Stepwise.{close-first, saved-after, saved-open, close-room, close-drawn}
 use borrow.Author.Needs.{needs}
 use Rattle.plan_steps.proofs.close_bank.Statement.{statement}
@@ -8,7 +9,7 @@ use Rattle.plan_steps.proofs.close_bank.Tie as tie
 flush-losing-requires : tie.Need-flush-losing-requires
 flush-losing-requires c κs =
     let z = c .before .before .before .before in
-    (z .pre .0, (z .pre .1 .0, close-first _ _ _ (z .pre .0) (omega arith) (z .args .x) (z .pre .1 .1 .0) (z .args .room .now) (z .args .to) (z .pre .1 .1 .1 .1)))
+    (z .pre .0, (z .pre .1 .0, (z .pre .1 .1 .0, (z .pre .1 .1 .1 .0, close-first _ _ _ (z .pre .0) (omega arith) (z .args .x) (z .pre .1 .1 .0) (z .args .room .now) (z .args .to) (z .pre .1 .1 .1 .1)))))
 
 prer-requires : tie.Need-prer-requires
 prer-requires c κs =
@@ -16,7 +17,7 @@ prer-requires c κs =
     let l = z .pre .1 .1 .0 in
     let w = c .before .before .before .before .before .before .flush-losing .ensures in
     let a = saved-after _ _ _ (z .pre .0) (omega arith) (z .args .x) l _ (w .planner) in
-    (a .ready, (a .size, (l, (saved-open _ _ _ (z .pre .0) (omega arith) (z .args .x) l _ (a .back) (z .pre .1 .1 .1 .0), close-room _ _ _ (z .pre .0) (omega arith) (z .args .x) l _ _ (z .pre .1 .1 .1 .1) _ _ _ w))))
+    (ready _ _ _ (a .ready), (a .size, (l, (saved-open _ _ _ (z .pre .0) (omega arith) (z .args .x) l _ (a .back) (z .pre .1 .1 .1 .0), close-room _ _ _ (z .pre .0) (omega arith) (z .args .x) l _ _ (z .pre .1 .1 .1 .1) _ _ _ w))))
 
 returns : tie.Need-returns
 returns c =

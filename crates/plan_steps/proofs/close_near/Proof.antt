@@ -1,7 +1,7 @@
 -- `plan_steps::close_near` meets its contract.
 use native.Mathlib.Omega.{arith}
 use Rattle.plan_bytes.specs.form.Drawn.{drafted}
-use Rattle.plan_bytes.proofs.Again.{ready-more}
+use Rattle.plan_bytes.proofs.Again.{rested-more}
 use Rattle.plan_steps.proofs.Ranges.{first-last, near-range}
 use borrow.Author.Needs.{needs}
 use Rattle.plan_steps.proofs.close_near.Statement.{statement}
@@ -13,7 +13,7 @@ close-from-requires c κs =
     let first = c .before .before .before .first-near .ensures in
     let last = c .before .before .last-near .ensures in
     let e = near-range (z .args .s) (z .args .x) (z .pre .1 .1 .0) (drafted (z .args .b .now)) _ _ (first .0) (last .0) in
-    (ready-more _ 999999997 1000001000 _ (omega arith) (z .pre .0), (z .pre .1 .0, (omega (arith, first-last (z .args .s) (z .args .x), first .0, last .0), (omega (arith, last .1), rw e (z .pre .1 .1 .1)))))
+    (rested-more _ 999999997 1000001000 _ (omega arith) (z .pre .0), (z .pre .1 .0, (omega (arith, first-last (z .args .s) (z .args .x), first .0, last .0), (omega (arith, last .1), rw e (z .pre .1 .1 .1)))))
 
 returns : tie.Need-returns
 returns c =

@@ -4,8 +4,7 @@ use mathlib.Core.Path.{refl, sym, _∙_}
 use Rattle.spec_plan.specs.Plan.{anyWaits}
 use Rattle.plan_steps.proofs.Tested.{waits-is}
 use Rattle.plan_bytes.specs.form.Drawn.{drafted}
-use Rattle.plan_bytes.proofs.Again.{ready-more}
-use Rattle.plan_steps.proofs.Stepwise.{passes, none-drawn, first-waits, first-fits, again-after, again-fits, both-drawn}
+use Rattle.plan_steps.proofs.Stepwise.{passes, none-drawn, first-waits, first-plain, first-ready, first-fits, again-after, again-fits, both-drawn}
 use borrow.Author.Needs.{needs}
 use Rattle.plan_steps.proofs.flush_all.Statement.{statement}
 use Rattle.plan_steps.proofs.flush_all.Tie as tie
@@ -14,8 +13,8 @@ nocop-requires : tie.Need-nocop-requires
 nocop-requires c κs =
     let z = c .before .before .before .before .before .before .before in
     let e = sym (c .before .before .before .waits .ensures ∙ waits-is _) ∙ c .before .before .if1 .taken in (
-      ready-more _ 1000008000 1000009000 _ (omega arith) (z .pre .0),
-      (z .pre .1 .0, (first-waits _ _ _ (z .pre .0) (omega arith) anyWaits refl (z .args .room .now) (z .args .to) (z .pre .1 .1) e, first-fits _ _ _ (z .pre .0) (omega arith) anyWaits refl (z .args .room .now) (z .args .to) (z .pre .1 .1) e)),
+      first-ready _ _ _ (z .pre .0) (omega arith) anyWaits refl (z .args .room .now) (z .args .to) (z .pre .1 .1) e,
+      (z .pre .1 .0, (first-waits _ _ _ (z .pre .0) (omega arith) anyWaits refl (z .args .room .now) (z .args .to) (z .pre .1 .1) e, (first-plain _ _ _ (z .pre .0) (omega arith) anyWaits refl (z .args .room .now) (z .args .to) (z .pre .1 .1) e, first-fits _ _ _ (z .pre .0) (omega arith) anyWaits refl (z .args .room .now) (z .args .to) (z .pre .1 .1) e))),
     )
 
 flush-if-requires : tie.Need-flush-if-requires

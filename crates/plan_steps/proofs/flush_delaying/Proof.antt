@@ -1,10 +1,11 @@
 -- `plan_steps::flush_delaying` meets its contract.
 use native.Mathlib.Omega.{arith}
 use mathlib.Core.Path.{refl, sym, _∙_}
+use mathlib.Core.Bool.{false}
+use Rattle.spec_rules.specs.Neighbour.{contextOf}
 use Rattle.spec_plan.specs.Plan.{delays}
 use Rattle.plan_bytes.specs.form.Drawn.{drafted}
-use Rattle.plan_bytes.proofs.Again.{ready-more}
-use Rattle.plan_steps.proofs.Stepwise.{passes, none-drawn, first-waits, first-fits, again-after, again-fits, both-drawn}
+use Rattle.plan_steps.proofs.Stepwise.{passes, none-drawn, first-waits, first-plain, first-ready, first-fits, again-after, again-fits, both-drawn}
 use borrow.Author.Needs.{needs}
 use Rattle.plan_steps.proofs.flush_delaying.Statement.{statement}
 use Rattle.plan_steps.proofs.flush_delaying.Tie as tie
@@ -13,8 +14,8 @@ nocop-requires : tie.Need-nocop-requires
 nocop-requires c κs =
     let z = c .before .before .before .before .before .before .before in
     let e = sym (c .before .before .before .delayed .ensures) ∙ c .before .before .if1 .taken in (
-      ready-more _ 1000008000 1000009000 _ (omega arith) (z .pre .0),
-      (z .pre .1 .0, (first-waits _ _ _ (z .pre .0) (omega arith) (delays (z .args .at)) refl (z .args .room .now) (z .args .to) (z .pre .1 .1) e, first-fits _ _ _ (z .pre .0) (omega arith) (delays (z .args .at)) refl (z .args .room .now) (z .args .to) (z .pre .1 .1) e)),
+      first-ready _ _ _ (z .pre .0) (omega arith) (delays (contextOf (z .args .s)) false (z .args .at)) refl (z .args .room .now) (z .args .to) (z .pre .1 .1) e,
+      (z .pre .1 .0, (first-waits _ _ _ (z .pre .0) (omega arith) (delays (contextOf (z .args .s)) false (z .args .at)) refl (z .args .room .now) (z .args .to) (z .pre .1 .1) e, (first-plain _ _ _ (z .pre .0) (omega arith) (delays (contextOf (z .args .s)) false (z .args .at)) refl (z .args .room .now) (z .args .to) (z .pre .1 .1) e, first-fits _ _ _ (z .pre .0) (omega arith) (delays (contextOf (z .args .s)) false (z .args .at)) refl (z .args .room .now) (z .args .to) (z .pre .1 .1) e))),
     )
 
 flush-if-requires : tie.Need-flush-if-requires
@@ -23,19 +24,19 @@ flush-if-requires c κs =
     let e = sym (c .before .before .before .before .before .before .before .before .before .before .before .before .delayed .ensures) ∙ c .before .before .before .before .before .before .before .before .before .before .before .if1 .taken in
     let f = (c .before .before .delayed2 .ensures) in
     let w = c .before .before .before .before .before .before .before .before .nocop .ensures in
-    let a = again-after _ _ _ (z .pre .0) (omega arith) (delays (z .args .at)) refl (z .args .room .now) (z .args .to) (z .pre .1 .1) e _ _ _ w in
-    (a .ready, (a .size, (passes _ _ _ (z .pre .0) (omega arith) (delays (z .args .at)) refl (drafted _) _ f, again-fits _ _ _ (z .pre .0) (omega arith) (delays (z .args .at)) refl (z .args .room .now) (z .args .to) (z .pre .1 .1) e _ _ _ w _ f)))
+    let a = again-after _ _ _ (z .pre .0) (omega arith) (delays (contextOf (z .args .s)) false (z .args .at)) refl (z .args .room .now) (z .args .to) (z .pre .1 .1) e _ _ _ w in
+    (a .ready, (a .size, (passes _ _ _ (z .pre .0) (omega arith) (delays (contextOf (z .args .s)) false (z .args .at)) refl (drafted _) _ f, again-fits _ _ _ (z .pre .0) (omega arith) (delays (contextOf (z .args .s)) false (z .args .at)) refl (z .args .room .now) (z .args .to) (z .pre .1 .1) e _ _ _ w _ f)))
 
 flushed-first : tie.Need-returns
 flushed-first c =
     let z = c .before .before .before .before .before .before .before .before .before .before .before .before .before .before .before .before .before .before .before .before .before in
     let e = sym (c .before .before .before .before .before .before .before .before .before .before .before .before .before .before .before .before .before .delayed .ensures) ∙ c .before .before .before .before .before .before .before .before .before .before .before .before .before .before .before .before .if1 .taken in
-    both-drawn _ _ _ (z .pre .0) (omega arith) (delays (z .args .at)) refl (z .args .room .now) (z .args .to) (z .pre .1 .1) e _ _ _ (c .before .before .before .before .before .before .before .before .before .before .before .before .before .nocop .ensures) _ (c .before .before .before .before .before .before .before .delayed2 .ensures) _ _ _ (c .before .before .before .before .flush-if .ensures)
+    both-drawn _ _ _ (z .pre .0) (omega arith) (delays (contextOf (z .args .s)) false (z .args .at)) refl (z .args .room .now) (z .args .to) (z .pre .1 .1) e _ _ _ (c .before .before .before .before .before .before .before .before .before .before .before .before .before .nocop .ensures) _ (c .before .before .before .before .before .before .before .delayed2 .ensures) _ _ _ (c .before .before .before .before .flush-if .ensures)
 
 not-flushed : tie.Need-returns-2
 not-flushed c =
     let z = c .before .before .before .before .before in
-    none-drawn _ _ _ (z .pre .0) (omega arith) (delays (z .args .at)) refl (z .args .room .now) (z .args .to) (z .pre .1 .1) (sym (c .before .delayed .ensures) ∙ c .if1 .left)
+    none-drawn _ _ _ (z .pre .0) (omega arith) (delays (contextOf (z .args .s)) false (z .args .at)) refl (z .args .room .now) (z .args .to) (z .pre .1 .1) (sym (c .before .delayed .ensures) ∙ c .if1 .left)
 
 pub flush-delaying-spec : {M : Type 1} → statement M
 flush-delaying-spec =

@@ -4,6 +4,7 @@ use Rattle.packet.specs.declared.RowPacket.the-variants.{Act}
 use Rattle.spec_rules.specs.Neighbour.{contextOf}
 use Rattle.spec_plan.specs.Plan.{rowPacket, sent}
 use Rattle.spec_plan.specs.PlannerBytes.{plannerIn}
+use Rattle.plan_bytes.proofs.ReadyLaws.{ready}
 use Rattle.plan_bytes.proofs.Again.{ready-more}
 use Rattle.plan_bytes.proofs.Compose.{sent-blind}
 use Rattle.plan_bytes.proofs.Compose.{one-sent}
@@ -26,7 +27,7 @@ act-requires c κs =
     let w = c .before .before .before .before .before .before .close-near .ensures in
     let a = cleared-after _ _ _ (z .pre .0) (omega arith) (z .args .bank) _ (w .planner) in
     let f = cleared-fits _ _ _ (z .pre .0) (omega arith) (z .args .bank) (sent cx r) (sent-blind cx r) _ (z .pre .1 .1 .1 .1) _ _ _ w in
-    (ready-more _ 1000008000 1000009000 _ (omega arith) (a .ready), (a .size, (z .pre .1 .1 .0, omega (arith, f, one-sent cx r (plannerIn (c .before .before .before .before .before .before .close-near .last .1 .0))))))
+    (ready-more _ 1000011000 1000012000 _ (omega arith) (ready _ _ _ (a .ready)), (a .size, (z .pre .1 .1 .0, omega (arith, f, one-sent cx r (plannerIn (c .before .before .before .before .before .before .close-near .last .1 .0))))))
 
 returns : tie.Need-returns
 returns c =

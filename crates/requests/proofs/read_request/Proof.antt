@@ -1,7 +1,8 @@
 -- `read_request` meets its contract: length, kind and spare bytes are tested in the definition's order.
 use mathlib.Core.Path.{sym, _∙_}
+use native.Mathlib.Omega.{arith}
 use borrow.Author.Tests.{eq-eqb, ne-eqb, le-leb, lt-leb}
-use Rattle.record.specs.Request.{requestRead}
+use Rattle.record.specs.Request.{kindOf, requestRead}
 use borrow.Author.Needs.{needs}
 use Rattle.requests.proofs.read_request.Statement.{statement}
 use Rattle.requests.proofs.read_request.Tie as tie
@@ -15,7 +16,7 @@ shared-slice-read-if2 c = search needs
 
 returns-2 : tie.Need-returns-2
 unfolding requestRead
-returns-2 c = rw (eq-eqb _ 24 (c .before .before .if1 .left), lt-leb _ 5 (c .if2 .taken))
+returns-2 c = rw (eq-eqb _ 24 (c .before .before .if1 .left), lt-leb (kindOf (c .before .before .before .before .args .b .now)) 7 (omega arith))
 
 spare-right-requires : tie.Need-spare-right-requires
 spare-right-requires c κs = search needs
@@ -28,7 +29,7 @@ unfolding requestRead
 returns-3 c =
     rw (
       eq-eqb _ 24 (c .before .before .before .before .before .if1 .left),
-      le-leb _ 5 (c .before .before .before .if2 .left),
+      le-leb _ 7 (c .before .before .before .if2 .left),
       sym (c .before .before .spare-right .ensures) ∙ c .before .if3 .taken,
     ) (c .request-of .ensures)
 
@@ -37,7 +38,7 @@ unfolding requestRead
 returns-4 c =
     rw (
       eq-eqb _ 24 (c .before .before .before .before .if1 .left),
-      le-leb _ 5 (c .before .before .if2 .left),
+      le-leb _ 7 (c .before .before .if2 .left),
       sym (c .before .spare-right .ensures) ∙ c .if3 .left,
     )
 

@@ -1,6 +1,8 @@
--- `request_of` meets its contract: the tests of the kind are the definition's, and the fields are read at their places.
-use borrow.Author.Tests.{eq-eqb, ne-eqb}
-use Rattle.record.specs.Request.{requestOf}
+-- `request_of` meets its contract: the tests of the kind are the definition's, two kinds together where the fields are alike, and
+-- the fields are read at their places.
+use mathlib.Core.Path.{_∙_}
+use Rattle.record.specs.Request.{kindOf, requestOf}
+use Rattle.requests.proofs.KindLaws.{read-kinds, write-kinds, last-kind}
 use borrow.Author.Needs.{needs}
 use Rattle.requests.proofs.request_of.Statement.{statement}
 use Rattle.requests.proofs.request_of.Tie as tie
@@ -15,8 +17,9 @@ placed-requires : tie.Need-placed-requires
 placed-requires c κs = search needs
 
 returns : tie.Need-returns
-unfolding requestOf
-returns c = rw (eq-eqb _ 0 (c .before .if1 .taken)) (rw (c .before .before .place-of .ensures) at (c .placed .ensures))
+returns c =
+    let o = c .before .before .before .before .before .args in
+    c .placed .ensures ∙ rw (c .before .before .place-of .ensures) (read-kinds (o .s) (o .b .now) (c .before .if1 .taken))
 
 u64-at-requires : tie.Need-u64-at-requires
 u64-at-requires c κs = search needs
@@ -31,55 +34,34 @@ placed-requires-2 : tie.Need-placed-requires-2
 placed-requires-2 c κs = search needs
 
 returns-2 : tie.Need-returns-2
-unfolding requestOf
 returns-2 c =
-    rw (ne-eqb _ 0 (c .before .before .before .before .before .if1 .left), eq-eqb _ 1 (c .before .before .before .before .if2 .taken))
-    (rw (
-      c .before .before .before .before .before .before .place-of .ensures,
-      c .before .u16-at .ensures .0,
-      c .before .before .u64-at2 .ensures,
-      c .before .before .before .u64-at .ensures,
-    ) at (c .placed2 .ensures))
+    let t = c .before .before .before .before in
+    let o = t .before .before .before .before .before .args in
+    c .placed2 .ensures
+    ∙ rw (t .before .before .place-of .ensures, c .before .u16-at .ensures .0, c .before .before .u64-at2 .ensures, c .before .before .before .u64-at .ensures)
+    (write-kinds (o .s) (o .b .now) (t .if2 .taken))
 
 returns-3 : tie.Need-returns-3
 unfolding requestOf
-returns-3 c = rw (ne-eqb _ 0 (c .before .before .if1 .left), ne-eqb _ 1 (c .before .if2 .left), eq-eqb _ 2 (c .if3 .taken))
+returns-3 c = rw (c .if3 .taken)
 
 u32-at-requires : tie.Need-u32-at-requires
 u32-at-requires c κs = search needs
 
 returns-4 : tie.Need-returns-4
 unfolding requestOf
-returns-4 c =
-    rw (
-      ne-eqb _ 0 (c .before .before .before .before .if1 .left),
-      ne-eqb _ 1 (c .before .before .before .if2 .left),
-      ne-eqb _ 2 (c .before .before .if3 .left),
-      eq-eqb _ 3 (c .before .if4 .taken),
-      c .u32-at .ensures,
-    )
+returns-4 c = rw (c .before .if4 .taken, c .u32-at .ensures)
 
 returns-5 : tie.Need-returns-5
 unfolding requestOf
-returns-5 c =
-    rw (
-      ne-eqb _ 0 (c .before .before .before .before .if1 .left),
-      ne-eqb _ 1 (c .before .before .before .if2 .left),
-      ne-eqb _ 2 (c .before .before .if3 .left),
-      ne-eqb _ 3 (c .before .if4 .left),
-      eq-eqb _ 4 (c .if5 .taken),
-    )
+returns-5 c = rw (c .if5 .taken)
 
 returns-6 : tie.Need-returns-6
 unfolding requestOf
 returns-6 c =
-    rw (
-      ne-eqb _ 0 (c .before .before .before .before .if1 .left),
-      ne-eqb _ 1 (c .before .before .before .if2 .left),
-      ne-eqb _ 2 (c .before .before .if3 .left),
-      ne-eqb _ 3 (c .before .if4 .left),
-      ne-eqb _ 4 (c .if5 .left),
-    )
+    let x = c .before .before .before in
+    let o = x .before .before .before .before .before in
+    rw (last-kind (kindOf (o .args .b .now)) (o .pre .1) (x .before .if1 .left) (x .if2 .left) (c .before .before .if3 .left) (c .before .if4 .left) (c .if5 .left))
 
 pub request-of-spec : {M : Type 1} → statement M
 request-of-spec =

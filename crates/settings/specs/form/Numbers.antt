@@ -11,10 +11,10 @@ use Rattle.settings.specs.declared.Settings.{Settings}
 use Rattle.settings.specs.Settings.{timings, lows, highs, between}
 
 unfoldable pub leasts : List ℕ
-leasts = lows ++ (0 ∷ 1 ∷ 1 ∷ 0 ∷ [])
+leasts = lows ++ (1 ∷ 1 ∷ 0 ∷ [])
 
 unfoldable pub mosts : List ℕ
-mosts = highs ++ (0 ∷ 512 ∷ 128 ∷ 0xFFFF ∷ [])
+mosts = highs ++ (512 ∷ 128 ∷ 0xFFFF ∷ [])
 
 abbrev pub numberRight : ℕ → ℕ → Bool
 numberRight i x = between (getD leasts i 0) x (getD mosts i 0)
@@ -25,7 +25,7 @@ numbersRight f n = allUpTo (λ i. numberRight i (f i)) n
 
 -- the numbers before the last
 abbrev pub figures : Settings → List ℕ
-figures s = timings s ++ (0 ∷ s .rows ∷ s .columns ∷ [])
+figures s = timings s ++ (s .rows ∷ s .columns ∷ [])
 
 -- what is asked beside the ranges of these
 abbrev pub restRight : ℕ → ℕ → ℕ → ℕ → Bool

@@ -5,7 +5,7 @@ use Prim.Native.Nat.{ℕ, _+_, _*_, _-_}
 use mathlib.Core.Bool.{Bool, cond, _&&_}
 use mathlib.Core.List.{List, _++_}
 use lib.Dec.{eqb}
-use Rattle.num.specs.Bytes.{bytes, zeros}
+use Rattle.num.specs.Bytes.{bytes}
 use Rattle.spec_rules.specs.declared.BankTrack.{BankTrack}
 use Rattle.spec_rules.specs.declared.Write.{Write}
 use Rattle.spec_rules.specs.declared.Buffer.{Buffer}
@@ -21,11 +21,11 @@ body f0 f1 f2 f3 f4 g r =
     plane 4 f0 32 ++ (plane 4 f1 32 ++ (plane 4 f2 32 ++ (plane 4 f3 32 ++ (plane 4 f4 32 ++ (plane 2 g 32 ++ r)))))
 
 -- the last instants, how many writes wait and whether data are due, the older and the newer waiting write, then other bytes
-abbrev pub rest : ℕ → ℕ → ℕ → ℕ → ℕ → ℕ → ℕ → ℕ → List ℕ → List ℕ
-rest l w c n d count write second q =
-    bytes 4 l ++ (bytes 4 w ++ (bytes 4 c ++ (bytes 4 n ++ (bytes 4 d ++ (zeros 4 ++ (bytes 8 count ++ (bytes 8 write ++ (bytes 8 second ++ q))))))))
+abbrev pub rest : ℕ → ℕ → ℕ → ℕ → ℕ → ℕ → ℕ → ℕ → ℕ → List ℕ → List ℕ
+rest l w c n d p count write second q =
+    bytes 4 l ++ (bytes 4 w ++ (bytes 4 c ++ (bytes 4 n ++ (bytes 4 d ++ (bytes 4 p ++ (bytes 8 count ++ (bytes 8 write ++ (bytes 8 second ++ q))))))))
 
--- figure k x: the instant of bank x in plane k; tag x: its state; last: of any packet, ROW, COL, PRER or REFP, RD
+-- figure k x: the instant of bank x in plane k; tag x: its state; last: of any packet, ROW, COL, PRER or REFP, RD, implied PRER
 pub record Numbers : Type 0 where
   pub figure : ℕ → ℕ → ℕ
   pub tag : ℕ → ℕ
@@ -38,7 +38,7 @@ pub record Numbers : Type 0 where
 unfoldable pub layout : Numbers → List ℕ
 layout n =
     body (n .figure 0) (n .figure 1) (n .figure 2) (n .figure 3) (n .figure 4) (n .tag)
-    (rest (n .last 0) (n .last 1) (n .last 2) (n .last 3) (n .last 4) (n .count) (n .write) (n .second) (n .tail))
+    (rest (n .last 0) (n .last 1) (n .last 2) (n .last 3) (n .last 4) (n .last 5) (n .count) (n .write) (n .second) (n .tail))
 
 -- ---- with one number changed
 
@@ -77,7 +77,7 @@ figureOf t k =
 
 unfoldable pub lastOfChannel : LastInstants → ℕ → ℕ
 lastOfChannel l i =
-    cond (eqb i 0) (l .packet .0) (cond (eqb i 1) (l .row .0) (cond (eqb i 2) (l .col .0) (cond (eqb i 3) (l .pre .0) (l .rd .0))))
+    cond (eqb i 0) (l .packet .0) (cond (eqb i 1) (l .row .0) (cond (eqb i 2) (l .col .0) (cond (eqb i 3) (l .pre .0) (cond (eqb i 4) (l .rd .0) (l .implied .0)))))
 
 -- how many writes wait, and whether data are due, in eight bytes; each waiting write in eight bytes
 abbrev pub countWord : ℕ → Bool → ℕ
@@ -88,11 +88,11 @@ countNumber Empty due = countWord 0 due
 countNumber (One x) due = countWord 1 due
 countNumber (Two x y) due = countWord 2 due
 
-abbrev pub writeWord : ℕ → ℕ → ℕ → ℕ
-writeWord bank column stored = bank + 256 * column + 4294967296 * stored
+abbrev pub writeWord : ℕ → ℕ → Bool → ℕ → ℕ
+writeWord bank column close stored = bank + 256 * column + 65536 * cond close 1 0 + 4294967296 * stored
 
 abbrev pub wordOf : Write → ℕ
-wordOf w = writeWord (w .bank) (w .column) (w .at .0 - 3)
+wordOf w = writeWord (w .bank) (w .column) (w .close) (w .at .0 - 3)
 
 unfoldable pub writeNumber : Buffer → ℕ
 writeNumber Empty = 0

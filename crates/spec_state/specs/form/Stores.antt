@@ -2,7 +2,7 @@
 -- the state after the packet.
 -- Assumes nothing.
 use Prim.Native.Nat.{ℕ, _+_, _*_}
-use mathlib.Core.Bool.{not, _&&_, cond}
+use mathlib.Core.Bool.{Bool, not, _&&_, cond}
 use mathlib.Core.List.{List}
 use lib.Dec.{eqb, ltb}
 use Rattle.num.specs.Bytes.{bytes, number, part, splice}
@@ -40,6 +40,13 @@ sideStored b x t = cond (ltb x 32 && not (eqb (number (part b (640 + 2 * x) 2)) 
 unfoldable pub prerStored : List ℕ → ℕ → ℕ → ℕ → ℕ → List ℕ
 prerStored b x low high t = rowStored (put (sideStored (sideStored (shutStored b x t) low t) high t) 716 t) t
 
+-- an implied PRER to a bank whose neighbours are closed, and to any bank
+unfoldable pub impliedStored : List ℕ → ℕ → ℕ → List ℕ
+impliedStored b x t = put (put (shutStored b x t) 716 t) 724 t
+
+unfoldable pub impliedAllStored : List ℕ → ℕ → ℕ → ℕ → ℕ → List ℕ
+impliedAllStored b x low high t = put (put (sideStored (sideStored (shutStored b x t) low t) high t) 716 t) 724 t
+
 -- RD
 unfoldable pub rdStored : List ℕ → ℕ → ℕ → List ℕ
 rdStored b x t = colStored (put (put b (384 + 4 * x) t) 720 t) t
@@ -61,17 +68,17 @@ unfoldable pub shiftStored : List ℕ → ℕ → List ℕ
 shiftStored b count = splice (splice (splice b 728 (bytes 8 count)) 736 (bytes 8 (secondIn b))) 744 (bytes 8 0)
 
 -- one write waits: count is 1, or 257 where its data are due
-unfoldable pub writeStored : List ℕ → ℕ → ℕ → ℕ → ℕ → List ℕ
-writeStored b count x c t = splice (splice b 728 (bytes 8 count)) 736 (bytes 8 (writeWord x c t))
+unfoldable pub writeStored : List ℕ → ℕ → ℕ → ℕ → Bool → ℕ → List ℕ
+writeStored b count x c close t = splice (splice b 728 (bytes 8 count)) 736 (bytes 8 (writeWord x c close t))
 
 -- a write waits beside another: count is 2, or 258 where its data are due
-unfoldable pub besideStored : List ℕ → ℕ → ℕ → ℕ → ℕ → List ℕ
-besideStored b count x c t = splice (splice b 728 (bytes 8 count)) 744 (bytes 8 (writeWord x c t))
+unfoldable pub besideStored : List ℕ → ℕ → ℕ → ℕ → Bool → ℕ → List ℕ
+besideStored b count x c close t = splice (splice b 728 (bytes 8 count)) 744 (bytes 8 (writeWord x c close t))
 
 -- the second write becomes the first, and another waits beside it
-unfoldable pub behindStored : List ℕ → ℕ → ℕ → ℕ → ℕ → List ℕ
-behindStored b count x c t =
-    splice (splice (splice b 728 (bytes 8 count)) 736 (bytes 8 (secondIn b))) 744 (bytes 8 (writeWord x c t))
+unfoldable pub behindStored : List ℕ → ℕ → ℕ → ℕ → Bool → ℕ → List ℕ
+behindStored b count x c close t =
+    splice (splice (splice b 728 (bytes 8 count)) 736 (bytes 8 (secondIn b))) 744 (bytes 8 (writeWord x c close t))
 
 -- the data of the newest write have come: count is how many writes wait
 unfoldable pub dataStored : List ℕ → ℕ → List ℕ

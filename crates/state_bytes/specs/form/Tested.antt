@@ -34,29 +34,30 @@ tagsRight rows core also b = allUpTo (λ x. tagRight core (mostTag rows) also x 
 
 -- ---- the buffer
 
--- the waiting write whose bytes are at a place, and the tag of its bank
-unfoldable pub writeRight : ℕ → List ℕ → ℕ → Bool
-writeRight columns b p =
+-- the waiting write whose bytes are at a place, and the tag of its bank; no write of a planner closes its bank (close is 0), one of a
+-- model may (1)
+unfoldable pub writeRight : ℕ → ℕ → List ℕ → ℕ → Bool
+writeRight columns close b p =
     let tag : ℕ = number (part b (640 + 2 * (getD b p 0 % 32)) 2) in
     let at : ℕ = number (part b (p + 4) 4) in
-    (((((ltb (getD b p 0) 32 && ltb (getD b (p + 1) 0) columns) && zeroPart b (p + 2) 2) && not (eqb tag 0)) && not (eqb tag 0xFFFF)) && not (eqb at 0))
+    (((((ltb (getD b p 0) 32 && ltb (getD b (p + 1) 0) columns) && leb (number (part b (p + 2) 2)) close) && not (eqb tag 0)) && not (eqb tag 0xFFFF)) && not (eqb at 0))
     && leb at latest
 
 -- in eight bytes: no write waits, or one or two do, whose data are not due (1, 2) or may be due (as much more: 256 of a model, 0 of a
 -- planner)
-unfoldable pub bufferRight : ℕ → ℕ → List ℕ → Bool
-bufferRight columns due b =
+unfoldable pub bufferRight : ℕ → ℕ → ℕ → List ℕ → Bool
+bufferRight columns due close b =
     let count : ℕ = number (part b 728 8) in
     cond (eqb count 0)
-    ((zeroPart b 724 4 && zeroPart b 736 8) && zeroPart b 744 8)
+    (zeroPart b 736 8 && zeroPart b 744 8)
     (cond (eqb count 1 || eqb count (1 + due))
-    ((zeroPart b 724 4 && writeRight columns b 736) && zeroPart b 744 8)
-    (((zeroPart b 724 4 && writeRight columns b 736) && (eqb count 2 || eqb count (2 + due))) && writeRight columns b 744))
+    (writeRight columns close b 736 && zeroPart b 744 8)
+    ((writeRight columns close b 736 && (eqb count 2 || eqb count (2 + due))) && writeRight columns close b 744))
 
 -- ---- the channel
 
-unfoldable pub channelTested : Settings → ℕ → ℕ → List ℕ → Bool
-channelTested s also due b = ((allStored b 0 160 && allStored b 704 5) && tagsRight (s .rows) (s .core) also b) && bufferRight (s .columns) due b
+unfoldable pub channelTested : Settings → ℕ → ℕ → ℕ → List ℕ → Bool
+channelTested s also due close b = ((allStored b 0 160 && allStored b 704 6) && tagsRight (s .rows) (s .core) also b) && bufferRight (s .columns) due close b
 
 -- ---- the fields after the channel's
 

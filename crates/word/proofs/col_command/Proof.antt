@@ -10,11 +10,11 @@ returns c = rw (eq-eqb _ 4 (c .if1 .taken))
 
 returns-2 : tie.Need-returns-2
 unfolding colCommand
-returns-2 c = rw (ne-eqb _ 4 (c .before .if1 .left), eq-eqb _ 5 (c .if2 .taken))
+returns-2 c = rw (ne-eqb _ 4 (c .before .if1 .left), c .if2 .taken)
 
 returns-3 : tie.Need-returns-3
 unfolding colCommand
-returns-3 c = rw (ne-eqb _ 4 (c .before .if1 .left), ne-eqb _ 5 (c .if2 .left))
+returns-3 c = rw (ne-eqb _ 4 (c .before .if1 .left), c .if2 .left)
 
 pub col-command-spec : {M : Type 1} → statement M
 col-command-spec = tie.close (tie.spec returns returns-2 returns-3)

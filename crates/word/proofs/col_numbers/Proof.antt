@@ -10,8 +10,14 @@ enum-known-p c = search needs
 enum-known-p-2 : tie.Need-enum-known-p-2
 enum-known-p-2 c = search needs
 
+access-command-requires : tie.Need-access-command-requires
+access-command-requires c κs = search needs
+
 enum-known-p-3 : tie.Need-enum-known-p-3
 enum-known-p-3 c = search needs
+
+access-command-requires-2 : tie.Need-access-command-requires-2
+access-command-requires-2 c κs = search needs
 
 returns : tie.Need-returns
 unfolding colNumbers
@@ -19,12 +25,21 @@ returns c = rw (c .before .p .given .1)
 
 returns-2 : tie.Need-returns-2
 unfolding colNumbers
-returns-2 c = rw (c .before .p2 .given .1)
+returns-2 c = rw (c .before .before .p2 .given .1, c .access-command .ensures)
 
 returns-3 : tie.Need-returns-3
 unfolding colNumbers
-returns-3 c = rw (c .before .p3 .given .1)
+returns-3 c = rw (c .before .before .p3 .given .1, c .access-command2 .ensures)
 
 pub col-numbers-spec : {M : Type 1} → statement M
 col-numbers-spec =
-    tie.close (tie.spec enum-known-p enum-known-p-2 enum-known-p-3 returns returns-2 returns-3)
+    tie.close
+    (tie.spec
+    enum-known-p
+    enum-known-p-2
+    access-command-requires
+    enum-known-p-3
+    access-command-requires-2
+    returns
+    returns-2
+    returns-3)

@@ -14,7 +14,7 @@ returns : tie.Need-returns
 returns c =
     let z = c .before .before .before .before .before .before .before .before .before .before .before .before .before in
     let k = c .before .before .before .before .before .plan .ensures in
-    in-time (z .args .s) (z .args .planner .now) (z .args .q) (z .args .room .now) (z .pre .1 .0) (z .pre .1 .1 .1 .0 .1) (enough (z .args .s) (z .args .planner .now) (z .args .q) (z .args .room .now) (z .pre .1 .0) (z .pre .1 .1 .1 .0 .1) (z .args .room .now) (z .pre .1 .1 .1 .1)) (sym (c .before .before .before .before .before .before .before .before .before .in-time .ensures) ∙ c .before .before .before .before .before .before .before .before .if1 .taken) _ (k .1 .1 .0) _ (k .1 .1 .1) _ (c .answer .ensures) _ _ (k .0) (k .1 .0)
+    in-time (z .args .s) (z .args .planner .now) (z .args .q) (z .args .room .now) (z .pre .1 .0) (z .pre .1 .1 .1 .0 .1) (enough (z .args .s) (z .args .planner .now) (z .args .q) (z .args .room .now) (z .pre .1 .0) (z .pre .1 .1 .1 .0 .1) (z .args .room .now) (z .pre .1 .1 .1 .1)) (sym (c .before .before .before .before .before .before .before .before .before .in-time .ensures) ∙ c .before .before .before .before .before .before .before .before .if1 .taken) _ (k .1 .1 .0) _ (k .1 .1 .1 .0) _ (c .answer .ensures) _ _ (k .0) (k .1 .0)
 
 returns-2 : tie.Need-returns-2
 returns-2 c =

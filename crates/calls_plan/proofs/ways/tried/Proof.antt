@@ -4,7 +4,7 @@ use native.Mathlib.Omega.{arith}
 use borrow.Author.Tests.{not-true, not-false}
 use Rattle.spec_rules.specs.Neighbour.{contextOf}
 use Rattle.spec_calls.proofs.OneCall.{right-length}
-use Rattle.calls_plan.proofs.CallLaws.{late, copy-right, copy-granted, next-is, next-room, made-room, tried-full, tried-made}
+use Rattle.calls_plan.proofs.CallLaws.{late, copy-right, copy-granted, copy-due, next-is, next-room, made-room, tried-full, tried-made}
 use borrow.Author.Needs.{needs}
 use Rattle.calls_plan.proofs.ways.tried.Statement.{statement}
 use Rattle.calls_plan.proofs.ways.tried.Tie as tie
@@ -20,7 +20,7 @@ plan-requires c κs =
 left-in-time-requires : tie.Need-left-in-time-requires
 left-in-time-requires c κs =
     let z = c .before .before .before .before .before .before .before .before .before .before .before .before .before .before .before .before .before .before in
-    (z .pre .0, (z .pre .1 .0, (z .pre .1 .1 .0 .0, next-is (z .args .s) (z .args .planner .now) (z .args .q) (z .args .room .now) (z .pre .1 .0) (z .pre .1 .1 .0 .1) (z .args .state .now) (z .args .list .now) (z .pre .1 .1 .1 .0) (z .pre .1 .1 .1 .1) _ (c .before .before .before .before .before .before .before .before .before .before .before .put-bytes .ensures) _ _ _ (c .before .before .before .before .before .before .plan .ensures .0) (c .before .before .before .before .before .before .plan .ensures .1 .0) (c .before .before .before .before .before .before .plan .ensures .1 .1 .0))))
+    (z .pre .0, (z .pre .1 .0, (z .pre .1 .1 .0 .0, (next-is (z .args .s) (z .args .planner .now) (z .args .q) (z .args .room .now) (z .pre .1 .0) (z .pre .1 .1 .0 .1) (z .args .state .now) (z .args .list .now) (z .pre .1 .1 .1 .0) (z .pre .1 .1 .1 .1) _ (c .before .before .before .before .before .before .before .before .before .before .before .put-bytes .ensures) _ _ _ (c .before .before .before .before .before .before .plan .ensures .0) (c .before .before .before .before .before .before .plan .ensures .1 .0) (c .before .before .before .before .before .before .plan .ensures .1 .1 .0), copy-due (z .args .s) (z .args .planner .now) (z .args .q) (z .args .room .now) (z .pre .1 .0) (z .pre .1 .1 .0 .1) (z .args .state .now) (z .args .list .now) (z .pre .1 .1 .1 .0) (z .pre .1 .1 .1 .1) _ (c .before .before .before .before .before .before .before .before .before .before .before .put-bytes .ensures) _ (c .before .before .before .before .before .before .plan .ensures .1 .1 .1 .1)))))
 
 returns : tie.Need-returns
 returns c =
@@ -45,7 +45,7 @@ put-first-requires c κs =
 returns-3 : tie.Need-returns-3
 returns-3 c =
     let z = c .before .before .before .before .before .before .before .before .before .before .before .before .before .before .before .before .before .before .before .before .before .before .before .before .before .before .before .before .before .before .before .before in
-    tried-made (z .args .s) (z .args .planner .now) (z .args .q) (z .args .room .now) (z .pre .1 .0) (z .pre .1 .1 .0 .1) (z .args .state .now) (z .args .list .now) (z .pre .1 .1 .1 .0) (z .pre .1 .1 .1 .1) _ (c .before .before .before .before .before .before .before .before .before .before .before .before .before .before .before .before .before .before .before .before .before .before .before .before .before .put-bytes .ensures) _ _ _ (c .before .before .before .before .before .before .before .before .before .before .before .before .before .before .before .before .before .before .before .before .plan .ensures .0) (c .before .before .before .before .before .before .before .before .before .before .before .before .before .before .before .before .before .before .before .before .plan .ensures .1 .0) (c .before .before .before .before .before .before .before .before .before .before .before .before .before .before .before .before .before .before .before .before .plan .ensures .1 .1 .0) (sym (c .before .before .before .before .before .before .before .before .before .before .before .before .before .left-in-time .ensures) ∙ not-false _ (c .before .before .before .before .before .before .before .before .before .before .before .before .if1 .left)) (c .before .before .before .before .before .before .before .before .before .before .before .if2 .left) _ (c .before .before .before .before .before .before .before .before .before .before .before .before .before .before .before .before .before .before .before .before .plan .ensures .1 .1 .1) _ (c .answer3 .ensures) _ _ (c .before .before .before .before .before .before .before .before .put-bytes2 .ensures) (c .before .before .before .put-first .ensures)
+    tried-made (z .args .s) (z .args .planner .now) (z .args .q) (z .args .room .now) (z .pre .1 .0) (z .pre .1 .1 .0 .1) (z .args .state .now) (z .args .list .now) (z .pre .1 .1 .1 .0) (z .pre .1 .1 .1 .1) _ (c .before .before .before .before .before .before .before .before .before .before .before .before .before .before .before .before .before .before .before .before .before .before .before .before .before .put-bytes .ensures) _ _ _ (c .before .before .before .before .before .before .before .before .before .before .before .before .before .before .before .before .before .before .before .before .plan .ensures .0) (c .before .before .before .before .before .before .before .before .before .before .before .before .before .before .before .before .before .before .before .before .plan .ensures .1 .0) (c .before .before .before .before .before .before .before .before .before .before .before .before .before .before .before .before .before .before .before .before .plan .ensures .1 .1 .0) (sym (c .before .before .before .before .before .before .before .before .before .before .before .before .before .left-in-time .ensures) ∙ not-false _ (c .before .before .before .before .before .before .before .before .before .before .before .before .if1 .left)) (c .before .before .before .before .before .before .before .before .before .before .before .if2 .left) _ (c .before .before .before .before .before .before .before .before .before .before .before .before .before .before .before .before .before .before .before .before .plan .ensures .1 .1 .1 .0) _ (c .answer3 .ensures) _ _ (c .before .before .before .before .before .before .before .before .put-bytes2 .ensures) (c .before .before .before .put-first .ensures)
 
 pub tried-spec : {M : Type 1} → statement M
 tried-spec =

@@ -7,8 +7,9 @@ returns : tie.Need-returns
 returns c =
     rw (
       c .is-open2 .ensures,
-      c .before .before .before .is-open .ensures,
+      c .before .before .before .closes-named .ensures,
+      c .before .before .before .before .is-open .ensures,
     )
 
 pub finds-open-spec : {M : Type 1} → statement M
-finds-open-spec = tie.close (tie.spec (λ c κs. search needs) (λ c κs. search needs) returns)
+finds-open-spec = tie.close (tie.spec (λ c κs. search needs) (λ c κs. search needs) (λ c κs. search needs) returns)

@@ -1,4 +1,4 @@
--- `chan_judge::tests::in_order` meets its contract: the three tests.
+-- `chan_judge::tests::in_order` meets its contract: the four tests.
 use borrow.Author.Needs.{needs}
 use Rattle.chan_judge.proofs.tests.in_order.Statement.{statement}
 use Rattle.chan_judge.proofs.tests.in_order.Tie as tie

@@ -6,17 +6,7 @@ use Rattle.chan_least.proofs.bounds.close_bound.Tie as tie
 
 returns : tie.Need-returns
 unfolding closeBound
-returns c =
-    rw (
-      c .on-row .ensures,
-      c .before .later3 .ensures,
-      c .before .before .later2 .ensures,
-      c .before .before .before .after-gap4 .ensures,
-      c .before .before .before .before .after-gap3 .ensures,
-      c .before .before .before .before .before .later .ensures,
-      c .before .before .before .before .before .before .after-gap2 .ensures,
-      c .before .before .before .before .before .before .before .after-gap .ensures,
-    )
+returns c = rw (c .on-row .ensures, c .before .prer-bound .ensures)
 
 pub close-bound-spec : {M : Type 1} → statement M
-close-bound-spec = tie.close (tie.spec (λ c κs. search needs) (λ c κs. search needs) (λ c κs. search needs) (λ c κs. search needs) (λ c κs. search needs) (λ c κs. search needs) (λ c κs. search needs) (λ c κs. search needs) returns)
+close-bound-spec = tie.close (tie.spec (λ c κs. search needs) (λ c κs. search needs) returns)

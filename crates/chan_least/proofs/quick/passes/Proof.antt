@@ -6,11 +6,11 @@ use Rattle.chan_least.proofs.quick.passes.Tie as tie
 
 returns : tie.Need-returns
 unfolding recordWell
-returns c = rw (c .row-well .ensures, c .before .before .in-range .ensures, c .before .before .before .before .r .given .1)
+returns c = rw (c .row-well .ensures, c .before .comes-well .ensures, c .before .before .before .r .given .1)
 
 returns-2 : tie.Need-returns-2
 unfolding recordWell
-returns-2 c = rw (c .col-well .ensures, c .before .retires .ensures, c .before .before .before .in-range2 .ensures, c .before .before .before .before .before .r2 .given .1)
+returns-2 c = rw (c .col-well .ensures, c .before .retires .ensures, c .before .before .comes-well2 .ensures, c .before .before .before .before .r2 .given .1)
 
 returns-3 : tie.Need-returns-3
 unfolding recordWell

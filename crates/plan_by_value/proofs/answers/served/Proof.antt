@@ -11,7 +11,7 @@ use Rattle.plan_by_value.proofs.answers.served.Statement.{statement}
 use Rattle.plan_by_value.proofs.answers.served.Tie as tie
 
 planned-requires : tie.Need-planned-requires
-planned-requires c κs = now-in-time (c .before .args .s) (c .before .args .p) (c .before .pre .1)
+planned-requires c κs = (bounds (c .before .args .s) (c .before .pre .0) .offp-most, now-in-time (c .before .args .s) (c .before .args .p) (c .before .pre .1))
 
 put-list-requires : tie.Need-put-list-requires
 put-list-requires c κs =

@@ -14,7 +14,7 @@ returns-2 c = rw (c .enum-told2 .given .1)
 
 returns-3 : tie.Need-returns-3
 unfolding contextOf
-returns-3 c = rw (c .enum-told3 .given .1)
+returns-3 c = rw (c .before .before .p .given .1, c .read-delay .ensures)
 
 pub col-delay-spec : {M : Type 1} → statement M
-col-delay-spec = tie.close (tie.spec (λ c. search needs) (λ c. search needs) (λ c. search needs) returns returns-2 returns-3)
+col-delay-spec = tie.close (tie.spec (λ c. search needs) (λ c. search needs) (λ c. search needs) (λ c κs. search needs) returns returns-2 returns-3)

@@ -8,12 +8,13 @@ returns : tie.Need-returns
 unfolding lastsValid
 returns c =
     rw (
-      c .is-stamp5 .ensures,
-      c .before .is-stamp4 .ensures,
-      c .before .before .is-stamp3 .ensures,
-      c .before .before .before .is-stamp2 .ensures,
-      c .before .before .before .before .is-stamp .ensures,
+      c .is-stamp6 .ensures,
+      c .before .is-stamp5 .ensures,
+      c .before .before .is-stamp4 .ensures,
+      c .before .before .before .is-stamp3 .ensures,
+      c .before .before .before .before .is-stamp2 .ensures,
+      c .before .before .before .before .before .is-stamp .ensures,
     )
 
 pub lasts-valid-spec : {M : Type 1} → statement M
-lasts-valid-spec = tie.close (tie.spec (λ c κs. search needs) (λ c κs. search needs) (λ c κs. search needs) (λ c κs. search needs) (λ c κs. search needs) returns)
+lasts-valid-spec = tie.close (tie.spec (λ c κs. search needs) (λ c κs. search needs) (λ c κs. search needs) (λ c κs. search needs) (λ c κs. search needs) (λ c κs. search needs) returns)

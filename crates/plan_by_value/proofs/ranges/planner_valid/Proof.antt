@@ -10,9 +10,10 @@ unfolding plannerValid bankCount
 returns c =
     rw (
       c .channel-valid .ensures,
-      c .before .before .none-refreshed .ensures,
-      c .before .before .before .before .before .before .is-instant .ensures,
+      c .before .before .closing .ensures,
+      c .before .before .before .none-refreshed .ensures,
+      c .before .before .before .before .before .before .before .is-instant .ensures,
     )
 
 pub planner-valid-spec : {M : Type 1} → statement M
-planner-valid-spec = tie.close (tie.spec (λ c κs. search needs) (λ c κs. search needs) (λ c κs. search needs) returns)
+planner-valid-spec = tie.close (tie.spec (λ c κs. search needs) (λ c κs. search needs) (λ c κs. search needs) (λ c κs. search needs) returns)

@@ -6,7 +6,7 @@ use Rattle.plan_by_value.proofs.steps.flushed.Tie as tie
 
 returns : tie.Need-returns
 unfolding flushed
-returns c e k = c .sent .ensures e k
+returns c p e k = c .sent .ensures p e k
 
 pub flushed-spec : {M : Type 1} → statement M
 flushed-spec = tie.close (tie.spec (λ c κs. search needs) returns)

@@ -6,7 +6,7 @@ use Rattle.plan_by_value.proofs.steps.flushed_while.Tie as tie
 
 returns : tie.Need-returns
 unfolding flushedWhile
-returns c e k = c .flushed-if2 .ensures _ (c .before .flushed-if .ensures e k)
+returns c p e k = c .flushed-if2 .ensures p _ (c .before .flushed-if .ensures p e k)
 
 pub flushed-while-spec : {M : Type 1} → statement M
 flushed-while-spec = tie.close (tie.spec (λ c κs. search needs) (λ c κs. search needs) returns)

@@ -6,7 +6,7 @@ use Rattle.plan_by_value.proofs.steps.planned_close.Tie as tie
 
 returns : tie.Need-returns
 unfolding plannedClose
-returns c e k = c .closed-up-to .ensures e k
+returns c p e k = c .closed-up-to .ensures p e k
 
 pub planned-close-spec : {M : Type 1} → statement M
 planned-close-spec = tie.close (tie.spec (λ c κs. search needs) returns)

@@ -6,7 +6,7 @@ use Rattle.plan_by_value.proofs.steps.planned_flush.Tie as tie
 
 returns : tie.Need-returns
 unfolding plannedFlush
-returns c e k = c .flushed-while .ensures e k
+returns c p e k = c .flushed-while .ensures p e k
 
 pub planned-flush-spec : {M : Type 1} → statement M
 planned-flush-spec = tie.close (tie.spec (λ c κs. search needs) returns)

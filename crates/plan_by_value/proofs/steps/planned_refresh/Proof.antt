@@ -9,9 +9,9 @@ use Rattle.plan_by_value.proofs.steps.planned_refresh.Tie as tie
 
 returns : tie.Need-returns
 unfolding plannedRefresh
-returns c e k = let z = c .before .before .before .before in
-    let y = c .turned .ensures (z .args .s) _ (c .before .sent2 .ensures _ (c .before .before .sent .ensures _ (c .before .before .before .closed-up-to .ensures e k))) in
-    draws-by (z .args .s) (z .args .d) _ e (λ (p : PlannerState). p .refresh) (refreshed (z .args .s) e) (refreshed-grows (z .args .s) e) k y
+returns c p e k = let z = c .before .before .before .before in
+    let y = c .turned .ensures (z .args .s) p _ (c .before .sent2 .ensures p _ (c .before .before .sent .ensures p _ (c .before .before .before .closed-up-to .ensures p e k))) in
+    draws-by (z .args .s) p (z .args .d) _ e (λ (p : PlannerState). p .refresh) (refreshed (z .args .s) p e) (refreshed-grows (z .args .s) p e) k y
 
 pub planned-refresh-spec : {M : Type 1} → statement M
 planned-refresh-spec = tie.close (tie.spec (λ c κs. search needs) (λ c κs. search needs) (λ c κs. search needs) (λ c κs. search needs) returns)

@@ -6,7 +6,7 @@ use Rattle.plan_by_value.proofs.steps.planned_write.Tie as tie
 
 returns : tie.Need-returns
 unfolding plannedWrite
-returns c e k = c .written .ensures _ (c .before .reached .ensures e k)
+returns c p e k = c .flushed-while .ensures p _ (c .before .written .ensures p _ (c .before .before .reached .ensures p e k))
 
 pub planned-write-spec : {M : Type 1} → statement M
-planned-write-spec = tie.close (tie.spec (λ c κs. search needs) (λ c κs. search needs) returns)
+planned-write-spec = tie.close (tie.spec (λ c κs. search needs) (λ c κs. search needs) (λ c κs. search needs) returns)

@@ -4,7 +4,8 @@ use lib.ListN.{length}
 use Rattle.chan_view.proofs.PlaceLaws.{length-of-map}
 use Rattle.spec_plan.specs.Plan.{slot}
 use Rattle.plan_by_value.specs.form.Drawn.{packetOf}
-use Rattle.plan_by_value.proofs.StepLaws.{unplaced, draws-sent}
+use Rattle.plan_by_value.proofs.StepLaws.{placed-in-range, unplaced, draws-sent}
+use native.Mathlib.Omega.{arith}
 use borrow.Author.Needs.{needs}
 use Rattle.plan_by_value.proofs.steps.sent.Statement.{statement}
 use Rattle.plan_by_value.proofs.steps.sent.Tie as tie
@@ -12,23 +13,83 @@ use Rattle.plan_by_value.proofs.steps.sent.Tie as tie
 long : (c : tie.Start) → length (c .args .d .list) ≡ 32
 long c = search (length-of-map, c .good .1 .1 .0)
 
+record-at-requires : tie.Need-record-at-requires
+record-at-requires c κs = search needs
+
+least-from-requires : tie.Need-least-from-requires
+least-from-requires c κs = search needs
+
+clipped-requires : tie.Need-clipped-requires
+clipped-requires c κs = search needs
+
+placed-in-requires : tie.Need-placed-in-requires
+placed-in-requires c κs = search needs
+
+after-requires : tie.Need-after-requires
+after-requires c κs =
+    let z = c .before .before .before .before .before .before in
+    rw (c .placed-in .ensures, c .before .clipped .ensures) (omega (arith, placed-in-range (z .args .s) (z .args .d .planner) (c .before .before .least-from .result) (z .args .c), z .pre))
+
+record-at-requires-2 : tie.Need-record-at-requires-2
+record-at-requires-2 c κs = search needs
+
+shifted-requires : tie.Need-shifted-requires
+shifted-requires c κs = search needs
+
+data-delay-requires : tie.Need-data-delay-requires
+data-delay-requires c κs = search needs
+
+record-at-requires-3 : tie.Need-record-at-requires-3
+record-at-requires-3 c κs = search needs
+
+implied-delay-requires : tie.Need-implied-delay-requires
+implied-delay-requires c κs = search needs
+
+longer-requires : tie.Need-longer-requires
+longer-requires c κs = search needs
+
+is-late-requires : tie.Need-is-late-requires
+is-late-requires c κs = search needs
+
+added-requires : tie.Need-added-requires
+added-requires c κs = search needs
+
 returns : tie.Need-returns
 unfolding slot
-returns c e k =
+returns c p e k =
     rw (
       c .added .ensures,
       c .before .is-late .ensures,
-      c .before .before .data-delay .ensures,
-      c .before .before .before .shifted .ensures,
-      c .before .before .before .before .record-at2 .ensures,
-      c .before .before .before .before .before .after .ensures,
-      c .before .before .before .before .before .before .placed-in .ensures,
-      c .before .before .before .before .before .before .before .clipped .ensures,
-      c .before .before .before .before .before .before .before .before .least-from .ensures,
-      c .before .before .before .before .before .before .before .before .before .record-at .ensures,
-      unplaced (c .before .before .before .before .before .before .before .before .before .before .before .before .args .c),
+      c .before .before .longer .ensures,
+      c .before .before .before .implied-delay .ensures,
+      c .before .before .before .before .record-at3 .ensures,
+      c .before .before .before .before .before .data-delay .ensures,
+      c .before .before .before .before .before .before .shifted .ensures,
+      c .before .before .before .before .before .before .before .record-at2 .ensures,
+      c .before .before .before .before .before .before .before .before .after .ensures,
+      c .before .before .before .before .before .before .before .before .before .placed-in .ensures,
+      c .before .before .before .before .before .before .before .before .before .before .clipped .ensures,
+      c .before .before .before .before .before .before .before .before .before .before .before .least-from .ensures,
+      c .before .before .before .before .before .before .before .before .before .before .before .before .record-at .ensures,
+      unplaced (c .before .before .before .before .before .before .before .before .before .before .before .before .before .before .before .args .c),
     )
-    (let z = c .before .before .before .before .before .before .before .before .before .before .before .before in draws-sent (z .args .s) (z .args .d) e (packetOf (z .args .c)) (long z) k)
+    (let z = c .before .before .before .before .before .before .before .before .before .before .before .before .before .before .before in draws-sent (z .args .s) p (z .args .d) e (packetOf (z .args .c)) (long z) k)
 
 pub sent-spec : {M : Type 1} → statement M
-sent-spec = tie.close (tie.spec (λ c κs. search needs) (λ c κs. search needs) (λ c κs. search needs) (λ c κs. search needs) (λ c κs. search needs) (λ c κs. search needs) (λ c κs. search needs) (λ c κs. search needs) (λ c κs. search needs) (λ c κs. search needs) returns)
+sent-spec =
+    tie.close
+    (tie.spec
+    record-at-requires
+    least-from-requires
+    clipped-requires
+    placed-in-requires
+    after-requires
+    record-at-requires-2
+    shifted-requires
+    data-delay-requires
+    record-at-requires-3
+    implied-delay-requires
+    longer-requires
+    is-late-requires
+    added-requires
+    returns)

@@ -6,7 +6,7 @@ use Rattle.plan_by_value.proofs.steps.written.Tie as tie
 
 returns : tie.Need-returns
 unfolding written
-returns c e k = c .loaded .ensures _ (c .before .sent .ensures e k)
+returns c p e k = c .loaded .ensures p _ (c .before .sent .ensures p e k)
 
 pub written-spec : {M : Type 1} → statement M
 written-spec = tie.close (tie.spec (λ c κs. search needs) (λ c κs. search needs) returns)

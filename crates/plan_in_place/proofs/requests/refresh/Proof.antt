@@ -1,5 +1,6 @@
 -- `plan_in_place::requests::refresh` meets its contract.
 use native.Mathlib.Omega.{arith}
+use Rattle.plan_bytes.proofs.ReadyLaws.{ready}
 use Rattle.plan_steps.proofs.Stepwise.{cleared-after, cleared-shut}
 use Rattle.plan_in_place.proofs.Planned.{bank-in, refresh-first, refresh-room, refresh-drawn}
 use borrow.Author.Needs.{needs}
@@ -18,7 +19,7 @@ refresh-bank-requires c κs =
     let e = c .before .before .before .before .before .before .before .before .before .u16-at .ensures .0 in
     let w = rw e at (c .before .before .before .before .before .before .close-near .ensures) in
     let a = cleared-after _ _ _ (z .pre .0) (omega arith) _ _ (w .planner) in
-    (a .ready, (a .size, (rw e (bank-in _ _ (z .pre .0) (z .args .room .now) (z .pre .1 .1)), (rw e (cleared-shut _ _ _ (z .pre .0) (omega arith) _ _ (a .back)), refresh-room _ _ (z .pre .0) _ (z .pre .1 .1) _ _ _ w))))
+    (ready _ _ _ (a .ready), (a .size, (rw e (bank-in _ _ (z .pre .0) (z .args .room .now) (z .pre .1 .1)), (rw e (cleared-shut _ _ _ (z .pre .0) (omega arith) _ _ (a .back)), refresh-room _ _ (z .pre .0) _ (z .pre .1 .1) _ _ _ w))))
 
 returns : tie.Need-returns
 returns c =

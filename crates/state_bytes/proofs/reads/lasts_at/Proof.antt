@@ -30,16 +30,22 @@ instant-at-requires-5 c κs =
     let z = c .before .before .before .before .before in
     omega (arith, lasts-in-range (z .args .b .now) (z .pre .1))
 
+instant-at-requires-6 : tie.Need-instant-at-requires-6
+instant-at-requires-6 c κs =
+    let z = c .before .before .before .before .before .before in
+    omega (arith, lasts-in-range (z .args .b .now) (z .pre .1))
+
 returns : tie.Need-returns
 unfolding lastsIn
 returns c =
     rw (
-      c .instant-at5 .ensures,
-      c .before .instant-at4 .ensures,
-      c .before .before .instant-at3 .ensures,
-      c .before .before .before .instant-at2 .ensures,
-      c .before .before .before .before .instant-at .ensures,
+      c .instant-at6 .ensures,
+      c .before .instant-at5 .ensures,
+      c .before .before .instant-at4 .ensures,
+      c .before .before .before .instant-at3 .ensures,
+      c .before .before .before .before .instant-at2 .ensures,
+      c .before .before .before .before .before .instant-at .ensures,
     )
 
 pub lasts-at-spec : {M : Type 1} → statement M
-lasts-at-spec = tie.close (tie.spec instant-at-requires instant-at-requires-2 instant-at-requires-3 instant-at-requires-4 instant-at-requires-5 returns)
+lasts-at-spec = tie.close (tie.spec instant-at-requires instant-at-requires-2 instant-at-requires-3 instant-at-requires-4 instant-at-requires-5 instant-at-requires-6 returns)

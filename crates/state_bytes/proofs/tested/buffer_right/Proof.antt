@@ -11,8 +11,7 @@ none c =
     rw (
       c .u64-at3 .ensures,
       c .before .u64-at2 .ensures,
-      c .before .before .before .u32-at .ensures,
-      ← c .before .before .before .before .u64-at .ensures,
+      ← c .before .before .before .u64-at .ensures,
       c .before .before .if1 .taken,
     )
 
@@ -22,8 +21,7 @@ one c =
     rw (
       c .u64-at4 .ensures,
       c .before .before .write-right .ensures,
-      c .before .before .before .before .u32-at .ensures,
-      ← c .before .before .before .before .before .u64-at .ensures,
+      ← c .before .before .before .before .u64-at .ensures,
       ne-eqb _ 0 (c .before .before .before .if1 .left),
       c .before .if2 .taken,
     )
@@ -34,8 +32,7 @@ two c =
     rw (
       c .write-right2 .ensures,
       c .before .before .write-right .ensures,
-      c .before .before .before .before .u32-at .ensures,
-      ← c .before .before .before .before .before .u64-at .ensures,
+      ← c .before .before .before .before .u64-at .ensures,
       ne-eqb _ 0 (c .before .before .before .if1 .left),
       c .before .if2 .left,
     )
@@ -44,7 +41,6 @@ pub buffer-right-spec : {M : Type 1} → statement M
 buffer-right-spec =
     tie.close
     (tie.spec
-    (λ c κs. search needs)
     (λ c κs. search needs)
     (λ c κs. search needs)
     (λ c κs. search needs)

@@ -23,7 +23,7 @@ returns c =
     let b = c .before .before .before .before .args .b .now in
     let x = c .before .before .tops .result in
     let y = c .before .tops2 .result in
-    sym (rw (all-below b 0 160 x (c .before .before .tops .ensures) (omega (arith, or-left x y)), all-below b 704 5 y (c .before .tops2 .ensures) (omega (arith, or-right x y))))
+    sym (rw (all-below b 0 160 x (c .before .before .tops .ensures) (omega (arith, or-left x y)), all-below b 704 6 y (c .before .tops2 .ensures) (omega (arith, or-right x y))))
 
 returns-2 : tie.Need-returns-2
 returns-2 c = rw (c .all-stored2 .ensures, c .before .all-stored .ensures)

@@ -1,0 +1,33 @@
+-- `model_next::cols::put_implied` meets its contract: by whether there is one.
+use borrow.Author.Needs.{needs}
+use Rattle.model_next.proofs.cols.put_implied.Statement.{statement}
+use Rattle.model_next.proofs.cols.put_implied.Tie as tie
+
+wide32-requires : tie.Need-wide32-requires
+wide32-requires c κs = search needs
+
+add-store-implied : tie.Need-add-store-implied
+add-store-implied c = search needs
+
+store-implied-requires : tie.Need-store-implied-requires
+store-implied-requires c κs = search needs
+
+same-length : tie.Need-same-length
+same-length c = search needs
+
+returns : tie.Need-returns
+returns c = rw (c .before .before .before .before .before .if1 .taken, c .before .before .store-implied .ensures, c .before .before .before .wide32 .ensures .0)
+
+returns-2 : tie.Need-returns-2
+returns-2 c = rw (c .if1 .left)
+
+pub put-implied-spec : {M : Type 1} → statement M
+put-implied-spec =
+    tie.close
+    (tie.spec
+    wide32-requires
+    add-store-implied
+    store-implied-requires
+    same-length
+    returns
+    returns-2)
