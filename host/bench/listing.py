@@ -1,5 +1,5 @@
 #!/usr/bin/env python3
-"""The listing of document 01 ("Bench runs") a second time, written from documents 01 and 02 (a, d) alone, so that what the runs are
+"""The listing of document 01 ("Bench runs") a second time, written from documents 01 and 02 (a, d, f) alone, so that what the runs are
 held to does not come from the program that they test. Nothing of it is proved, and no build needs it.
 
   listing.py            the listing of standard input
@@ -10,7 +10,7 @@ import glob
 import os
 import sys
 
-RC, RAS, RP, PP, RR, RCD, CC, CAC, CWD, RTR, RDP, RTP = 28, 20, 8, 8, 8, 9, 4, 8, 6, 8, 4, 4
+RC, RAS, RP, PP, RR, RCD, CC, CAC, CWD, RTR, RDP, RTP, OFFP = 28, 20, 8, 8, 8, 9, 4, 8, 6, 8, 4, 4, 4
 ROWS, COLUMNS, HORIZON = 2, 4, 1_000_000_000
 
 
@@ -25,10 +25,10 @@ def near(a, b):
 class Planner:
     def __init__(self):
         self.open = {}  # bank: row
-        self.writes = []  # bank, column, mask, instant of each waiting write, oldest first; two at most
+        self.writes = []  # bank, column, mask, instant of each waiting write, and whether it is a WRA, oldest first; two at most
         self.turn = 0  # the bank of the next refresh
         self.now = 4
-        self.past = []  # events (kind, bank, instant, banks closed) of the last 64 cycles: no gap is longer
+        self.past = []  # events (kind, bank, instant, banks closed) of the last 64 cycles and later: no gap is longer
 
     def copy(self):
         p = Planner()
@@ -37,10 +37,13 @@ class Planner:
         return p
 
     def gap(self, event, kind, bank):
-        """The distance that the rules ask from an earlier event to a packet, or 0."""
+        """The distance that the rules ask from an earlier event to a packet, a retire or an implied PRER, or None."""
         old, other, _, closed = event
-        row, act, pre = ('ACT', 'PRER', 'REFA', 'REFP'), ('ACT', 'REFA'), ('PRER', 'REFP')
-        gaps = [0]
+        row, act, pre = ('ACT', 'PRER', 'REFA', 'REFP'), ('ACT', 'REFA'), ('PRER', 'REFP', 'implied')
+        gaps = []
+        # the order of packets, in which implied PRERs do not count, but that no ROW packet comes before one
+        if kind != 'implied' and (old != 'implied' or kind in row):
+            gaps.append(0)
         if old in row and kind in row:
             gaps.append(4)
         if old in ('RD', 'WR', 'NOCOP') and kind in ('RD', 'WR', 'NOCOP'):
@@ -63,19 +66,35 @@ class Planner:
             gaps.append(RDP if old == 'RD' else RTP)
         if old == 'ACT' and kind == 'retire' and other == bank:
             gaps.append(RCD)
-        return max(gaps)
+        return max(gaps, default=None)
 
     def least(self, start, kind, bank):
-        return max([start] + [e[2] + self.gap(e, kind, bank) for e in self.past])
+        asked = [(e[2], self.gap(e, kind, bank)) for e in self.past]
+        return max([start] + [at + gap for at, gap in asked if gap is not None])
 
-    def send(self, kind, bank, place, lines):
+    def closing(self, at, bank):
+        """The least instant from one on at which a packet may imply a PRER of a bank."""
+        return max(at, self.least(0, 'implied', bank) - OFFP)
+
+    def imply(self, at, bank):
+        self.past.append(('implied', bank, at + OFFP, {bank}))
+        del self.open[bank]  # its neighbours are closed
+
+    def send(self, name, bank, place, lines):
+        kind = {'RDA': 'RD', 'WRA': 'WR'}.get(name, name)
         at, retired = self.least(self.now, kind, bank), None
+        if name == 'RDA':
+            at = self.closing(at, bank)
         if kind in ('WR', 'NOCOP') and self.writes:
             older = self.writes[0]
             # a WR beside one write may come before that one is due, and then retires nothing
             if kind == 'NOCOP' or len(self.writes) == 2 or at >= older[3] + RTR:
                 at, retired = self.least(max(at, older[3] + RTR), 'retire', older[0]), older
-        if at > HORIZON or (kind == 'RD' and at + CAC > HORIZON) or (kind == 'WR' and at + CWD > HORIZON):
+        closes = name == 'RDA' or bool(retired and retired[4])
+        if retired and closes:
+            at = self.closing(at, retired[0])
+        delay = max({'RD': CAC, 'WR': CWD}.get(kind, 0), OFFP if closes else 0)
+        if at + delay > HORIZON:
             raise Late
         mask = '-'
         if retired:
@@ -91,7 +110,9 @@ class Planner:
             self.open[bank] = place
         self.now = at
         self.past = [e for e in self.past if e[2] + 64 >= at] + [(kind, bank, at, closed)]
-        lines.append('%d %s %d %d %s' % (at, kind, 0 if kind == 'NOCOP' else bank, place, mask))
+        if closes:
+            self.imply(at, retired[0] if retired else bank)
+        lines.append('%d %s %d %d %s' % (at, name, 0 if kind == 'NOCOP' else bank, place, mask))
         return at
 
     def retire_while(self, concerned, lines):
@@ -112,11 +133,13 @@ class Planner:
     def request(self, r):
         kind, bank, row, column, mask = r[0], r[1], r[2] + 256 * r[3], r[4], r[6] + 256 * r[7]
         used = {0: {0, 1, 2, 3, 4}, 1: set(range(24)) - {5}, 2: {0}, 3: {0, 8, 9, 10, 11}, 4: {0}, 5: {0}}
-        if kind > 5:
+        used[6], used[7] = used[0], used[1]
+        if kind > 7:
             return 2
         if any(r[i] for i in range(24) if i not in used[kind]):
             return 3
-        if kind < 2:
+        placed, closes = kind in (0, 1, 6, 7), kind in (6, 7)
+        if placed:
             if bank > 31:
                 return 4
             if row >= ROWS:
@@ -126,16 +149,17 @@ class Planner:
         if kind == 5 and self.writes:
             return 15
         lines = []
-        if kind < 2:
+        if placed:
             self.reach(bank, row, lines)
-        if kind == 0:
-            own = (bank, column)
-            self.retire_while(lambda writes: len(writes) == 2 or any(w[:2] == own for w in writes), lines)
-            self.send('RD', bank, column, lines)
-        elif kind == 1:
-            at = self.send('WR', bank, column, lines)
+        if kind in (0, 6):
+            own = lambda w: w[0] == bank and (closes or w[1] == column)
+            self.retire_while(lambda writes: len(writes) == 2 or any(own(w) for w in writes), lines)
+            self.send('RDA' if closes else 'RD', bank, column, lines)
+        elif kind in (1, 7):
+            at = self.send('WRA' if closes else 'WR', bank, column, lines)
             lines.append('%d D %d %d -' % (at + CWD, bank, column))
-            self.writes = self.writes + [(bank, column, mask, at)]
+            self.writes = self.writes + [(bank, column, mask, at, closes)]
+            self.retire_while(lambda writes: any(w[4] for w in writes), lines)
         elif kind == 2:
             self.close([b for b in range(32) if near(b, self.turn)], lines)
             self.send('REFA', self.turn, 0, lines)
@@ -190,8 +214,8 @@ def largest():
         elif pick == 31:
             r[0] = 4 + below(2)
         elif pick < 28:
-            r[0], r[1], r[2], r[4] = pick % 2, below(33), below(32) // 15, below(33) // 8
-            if r[0]:
+            r[0], r[1], r[2], r[4] = (0, 1, 0, 1, 6, 7)[pick % 6], below(33), below(32) // 15, below(33) // 8
+            if r[0] % 2:
                 r[6:8] = b'\xff\xff' if below(4) == 0 else bytes((below(256), below(256)))
                 r[8:24] = bytes(below(256) for _ in range(16))
         elif pick == 28:
@@ -199,7 +223,7 @@ def largest():
         elif pick == 29:
             r[0] = 2
         else:
-            r[below(24)] = 6
+            r[below(24)] = 8
         out += bytes(r)
     return out
 

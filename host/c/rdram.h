@@ -1,7 +1,7 @@
 /*
  * rdram.h: Direct RDRAM packet words, block logs and their index (rdram_index.h), timing rules, plans
- * of one request and of many (rdram_plan_all.h), a device model, a meter of the data pins
- * (rdram_meter.h), all under settings (rdram_settings.h).
+ * of one request and of many (rdram_plan_all.h), a device model (rdram_model.h), a meter of the data
+ * pins (rdram_meter.h), all under settings (rdram_settings.h).
  * Link with librdram.a. Common to all calls:
  * - A buffer is a pointer and its length in bytes. A null pointer is allowed with length 0. No
  *   alignment is needed. Numbers in buffers have their low byte first.
@@ -17,6 +17,7 @@
 
 #include "rdram_index.h"
 #include "rdram_meter.h"
+#include "rdram_model.h"
 #include "rdram_plan_all.h"
 #include "rdram_settings.h"
 #include <stddef.h>
@@ -44,8 +45,9 @@ extern "C" {
 
 /*
  * Request, 24 bytes: kind 1 (enum rdram_request), bank 1, row 2, column 1, zero 1, mask 2, data 16.
- * Mask bit i governs data byte i. A read uses bank, row and column, a write all of them; a wait has
- * its cycles in bytes 8 to 11, any 32-bit number. Every byte that the kind does not use is 0.
+ * Mask bit i governs data byte i. A read, with close or without, uses bank, row and column, a write
+ * all of them; a wait has its cycles in bytes 8 to 11, any 32-bit number. Every byte that the kind
+ * does not use is 0.
  */
 #define RDRAM_REQUEST_BYTES 24
 
@@ -60,13 +62,15 @@ extern "C" {
  * it may keep a copy and go on from that.
  *    0  32 x 4  instant of each bank's last ACT or REFA
  *  128  32 x 4  of its last ACT
- *  256  32 x 4  of the last PRER or REFP to it or that closed it
- *  384  32 x 4  of its last RD
+ *  256  32 x 4  of the last PRER, implied ones too, or REFP to it or that closed it
+ *  384  32 x 4  of its last RD or RDA
  *  512  32 x 4  of the last retire to it
  *  640  32 x 2  each bank: 0 closed, 1 + row open
- *  704  5 x 4   instants of the last packet, ROW packet, COL packet, PRER or REFP, and RD
+ *  704  6 x 4   instants of the last packet, ROW packet, COL packet, PRER (implied ones too) or
+ *               REFP, RD or RDA, and implied PRER
  *  728  1       how many writes wait, 0 to 2
- *  736  8       the older: bank 1, column 1, zero 2, instant of its WR 4; 0 where none waits
+ *  736  8       the older: bank 1, column 1, whether its retire closes the bank (WRA) 2, instant of
+ *               its WR or WRA 4; 0 where none waits
  *  744  8       the newer of two likewise, 0 where no second waits
  *  752  4       now
  *  756  2       bank of the next refresh, 0 to 31
@@ -74,37 +78,18 @@ extern "C" {
  *  762  2       mask of the last write that came while another waited
  * All other bytes are 0. An instant is stored less 3, and 0 stands for never: 4 is stored as 1, and
  * 1,000,000,000 as 999,999,997. Now and the instant of a waiting write are not 0. A bank under
- * refresh (65535) and a write whose data are due (1 at byte 729) do not occur between requests.
+ * refresh (65535), a write whose data are due (1 at byte 729) and one whose retire closes its bank
+ * (1 at byte 738 or 746) do not occur between requests.
  */
 #define RDRAM_PLANNER_BYTES 768
-
-/*
- * Store, rows x columns x 512 bytes: bank, then row, then column, then byte. A dualoct is the 16
- * bytes from 16 * ((bank * rows + row) * columns + column). Its bytes 0 to 7 travel on DQA,
- * earliest first, 8 to 15 on DQB. Mask bit i governs byte i.
- */
-#define RDRAM_STORE_BYTES(rows, columns) ((size_t)512 * (rows) * (columns))
-#define RDRAM_DUALOCT_BYTES 16
-
-/*
- * Model, 792 bytes: the state of a device model between two records. A program need not look
- * inside; it may keep a copy, with one of the store, and go on from that.
- *    0  752     as in a planner, but that a bank may be under refresh (65535) and the data of the
- *               newest waiting write may be due (1 at byte 729)
- *  752  2       REFR, the row that a refresh is due for, below rows
- *  760  16      data of the older waiting write; where they are due, or none waits, as at 776
- *  776  16      data of the last D that came while two writes waited
- * All other bytes are 0. The instants are those of the records that the model has taken.
- */
-#define RDRAM_MODEL_BYTES 792
 
 /* The mask of a COL packet that is sent without one (M = 0). */
 #define RDRAM_MASK_FULL 0xFFFFu
 
-/* Commands. ACT to REFP are ROW packets, NOCOP to RD are COL packets. */
+/* Commands. ACT to REFP are ROW packets, NOCOP to RDA are COL packets. */
 enum rdram_command {
     RDRAM_ACT = 0, RDRAM_PRER = 1, RDRAM_REFA = 2, RDRAM_REFP = 3,
-    RDRAM_NOCOP = 4, RDRAM_WR = 5, RDRAM_RD = 6
+    RDRAM_NOCOP = 4, RDRAM_WR = 5, RDRAM_RD = 6, RDRAM_WRA = 7, RDRAM_RDA = 8
 };
 
 /* Kinds of record. Words are of kind ROW or COL. */
@@ -113,14 +98,8 @@ enum rdram_kind { RDRAM_KIND_ROW = 0, RDRAM_KIND_COL = 1, RDRAM_KIND_D = 2 };
 /* Kinds of request. */
 enum rdram_request {
     RDRAM_REQUEST_READ = 0, RDRAM_REQUEST_WRITE = 1, RDRAM_REQUEST_REFRESH = 2,
-    RDRAM_REQUEST_WAIT = 3, RDRAM_REQUEST_FLUSH = 4, RDRAM_REQUEST_CLOSE = 5
-};
-
-/* What a record that a model took did. */
-enum rdram_event {
-    RDRAM_EVENT_NONE = 0,   /* it neither read nor retired a write */
-    RDRAM_EVENT_READ = 1,   /* an RD: its dualoct is in the answer buffer */
-    RDRAM_EVENT_RETIRED = 2 /* it retired the older waiting write to the store */
+    RDRAM_REQUEST_WAIT = 3, RDRAM_REQUEST_FLUSH = 4, RDRAM_REQUEST_CLOSE = 5,
+    RDRAM_REQUEST_READ_CLOSE = 6, RDRAM_REQUEST_WRITE_CLOSE = 7
 };
 
 /* Answer numbers. */
@@ -136,7 +115,7 @@ enum rdram_refusal {
     RDRAM_REFUSED_FULL = 8,       /* too little room in the buffer for the answer */
     RDRAM_REFUSED_STORE = 9,      /* wrong store length */
     RDRAM_REFUSED_WORD = 10,      /* a packet, word or record that has no coding */
-    RDRAM_REFUSED_RULE = 11,      /* a record breaks one of the sixteen rules */
+    RDRAM_REFUSED_RULE = 11,      /* a record breaks one of the seventeen rules */
     RDRAM_REFUSED_BLOCK = 12,     /* a damaged or misplaced block */
     RDRAM_REFUSED_LENGTH = 13,    /* not whole requests, records or blocks */
     RDRAM_REFUSED_INDEX = 14,     /* an index that differs from its log */
@@ -147,7 +126,7 @@ enum rdram_refusal {
 typedef struct { uint32_t number; uint64_t word; } rdram_word;
 
 /*
- * place: the row of ACT, the column of WR and RD, else 0.
+ * place: the row of ACT, the column of WR, RD, WRA and RDA, else 0.
  * bank:  0 for NOCOP.
  * mask:  0 for a ROW packet; else the mask that the packet carries, and RDRAM_MASK_FULL where it
  *        carries none (M = 0).
@@ -173,14 +152,6 @@ typedef struct {
 } rdram_planned;
 
 /*
- * event: enum rdram_event.
- * bytes: the bytes that a retire wrote, 0 to 16; 0 for the other events.
- */
-typedef struct {
-    uint32_t number, rule, event, bytes;
-} rdram_stepped;
-
-/*
  * The word of a packet: 24 bits for a ROW packet, 40 for a COL packet. The device number is that of
  * the settings. The fields are those of rdram_packet.
  *
@@ -188,7 +159,7 @@ typedef struct {
  *    1  settings: correct the settings bytes.
  *    4  bank above 31: correct the bank.
  *    5  the row of ACT is not below rows: correct the row.
- *    6  the column of WR or RD is not below columns: correct the column.
+ *    6  the column of WR, RD, WRA or RDA is not below columns: correct the column.
  *   10  the packet has no word: unknown command, mask above FFFF, or a field that the command does
  *       not use is not 0. Correct the fields.
  */
@@ -244,7 +215,7 @@ rdram_copied rdram_log_decode(const uint8_t *settings, size_t settings_len,
                               uint8_t *list, size_t list_len);
 
 /*
- * Tests whether a list of records keeps the sixteen rules. list_len is a multiple of 32. The list
+ * Tests whether a list of records keeps the seventeen rules. list_len is a multiple of 32. The list
  * starts with every bank closed, the write buffer empty and no earlier record. Number 0: it passes;
  * an empty list passes. No buffer is written.
  *
@@ -254,7 +225,13 @@ rdram_copied rdram_log_decode(const uint8_t *settings, size_t settings_len,
  * passed since its WR. In 4 to 8, 13 and 14 ACT stands for ACT and REFA, and PRER for PRER and REFP.
  * "Near" is the same bank or a neighbour. A distance is the least one.
  *
- *    1  ROW and COL instants never fall; all, data's too, 4 to 1,000,000,000
+ * RD stands for RD and RDA, and WR for WR and WRA. An RDA implies a PRER of its bank tOFFP after
+ * itself, and a WRA one tOFFP after its retire. The order of what one packet does: retire, the PRER
+ * that this implies, its own RD or WR, the PRER that an RDA implies. So from there on the bank is
+ * closed, and what the implied PRER breaks that packet breaks. It keeps the range in 1, and 6, 7, 8,
+ * 13 and 14, but not the order in 1, nor 2, nor the distance in 13 from its own read or retire.
+ *
+ *    1  ROW and COL instants never fall; all, data's and implied PRERs' too, 4 to 1,000,000,000
  *    2  ROW to ROW: 4
  *    3  COL to COL: tCC
  *    4  ACT: its bank and the neighbours are closed
@@ -270,6 +247,7 @@ rdram_copied rdram_log_decode(const uint8_t *settings, size_t settings_len,
  *   14  PRER does not close the bank of a waiting write
  *   15  D directly after each WR, at WR + tCWD (or the list ends), no other D
  *   16  a mask (M = 1) only on a packet that retires a write
+ *   17  from a WRA to its retire only its D, NOCOP and RD; no ROW packet before an implied PRER
  *
  * Refusals, in this order:
  *    1  settings: correct the settings bytes.
@@ -277,7 +255,7 @@ rdram_copied rdram_log_decode(const uint8_t *settings, size_t settings_len,
  *   10  place is the first record of the whole list that has no coding: correct that record, or
  *       pass the settings under which it was written. No rule has been tested.
  *   11  place is the first record that breaks a rule, given the records before it, and rule the
- *       lowest that it breaks (1 to 16). The records before it pass; those after it have not been
+ *       lowest that it breaks (1 to 17). The records before it pass; those after it have not been
  *       judged. A D that is missing is named at the record in its place. Move or correct that
  *       record and check again.
  */
@@ -285,7 +263,7 @@ rdram_judged rdram_check(const uint8_t *settings, size_t settings_len,
                          const uint8_t *list, size_t list_len);
 
 /*
- * Tests whether the list that a log keeps keeps the sixteen rules of rdram_check. log_len is a
+ * Tests whether the list that a log keeps keeps the seventeen rules of rdram_check. log_len is a
  * multiple of 512. Number 0: it passes; an empty log passes. No buffer is written.
  *
  * Refusals, in this order:
@@ -322,25 +300,29 @@ uint32_t rdram_planner_fresh(uint8_t *planner, size_t planner_len);
  *   flush    NOCOP while a write waits. Rows stay open.
  *   close    PRER to each open bank, in rising order. No write may wait. It looks at no bank after
  *            the last open one, and `banks` is the number of those that it looked at.
+ *   read and close   As read, but that NOCOPs come while any write waits in the bank, and RDA in
+ *                    place of RD.
+ *   write and close  As write, with WRA in place of WR; then NOCOPs until it has retired.
  *
  * NOCOPs stand before a PRER while it would close the bank of a waiting write. Now is the instant
- * of the latest packet, and what waits add to it. Data bytes alter no instant and no word.
+ * of the latest packet, and what waits add to it; an implied PRER does not move it. Data bytes alter
+ * no instant and no word.
  *
  * Refusals, in this order:
  *    1  settings: correct the settings bytes. Or planner is not 768 bytes, or not a state between
  *       requests under these settings: a field is out of its range, another byte is not 0, two
  *       neighbours are both open, the bank of a waiting write is not open, a bank is under
- *       refresh, or data are due. Pass the bytes that the last call left, with the same settings,
- *       or a fresh planner.
+ *       refresh, data are due, or a WRA waits. Pass the bytes that the last call left, with the
+ *       same settings, or a fresh planner.
  *   13  request_len is not 24: pass one whole request.
- *    2  the kind is above 5: correct the kind.
+ *    2  the kind is above 7: correct the kind.
  *    3  a byte that the kind does not use is not 0: clear it.
  *    4  bank above 31: correct the bank.
  *    5  the row is not below rows: correct the row.
  *    6  the column is not below columns: correct the column.
  *   15  a close while a write waits: send a flush first.
- *    7  a packet, its data or now would pass 1,000,000,000: the run is at its end. Go on with a
- *       fresh planner, or wait for fewer cycles.
+ *    7  a packet, its data, an implied PRER or now would pass 1,000,000,000: the run is at its end.
+ *       Go on with a fresh planner, or wait for fewer cycles.
  *    8  room has fewer whole records than needed: pass a longer room. A request that makes no
  *       record needs none.
  */
@@ -348,49 +330,6 @@ rdram_planned rdram_plan(const uint8_t *settings, size_t settings_len,
                          uint8_t *planner, size_t planner_len,
                          const uint8_t *request, size_t request_len,
                          uint8_t *room, size_t room_len);
-
-/*
- * Writes a fresh model: banks closed, write buffer empty, no earlier record, REFR 0. Answers 0, or
- * refusal 1 where model_len is not 792: pass RDRAM_MODEL_BYTES bytes.
- */
-uint32_t rdram_model_fresh(uint8_t *model, size_t model_len);
-
-/*
- * Takes one record, as the device would: tests it by the rules of rdram_check, given the records
- * that the model has taken, and does what it says. model becomes the state after the record: pass
- * it to the next call, with the same settings and store. A fresh model takes a store of any bytes.
- *
- *   RD       The 16 bytes of its dualoct, in the row open in its bank, are written to the start of
- *            answer; the bytes of answer after them are unchanged. Event RDRAM_EVENT_READ. A
- *            waiting write is not seen: it is not in the store yet.
- *   NOCOP,   The write that it retires, if any, goes to the row open in its bank: byte i of its
- *   WR       dualoct in store is written where bit i of the mask that this packet carries is 1, and
- *            all 16 where it carries none (M = 0). Event RDRAM_EVENT_RETIRED, and `bytes` is the
- *            number of bytes written. A WR then waits itself, for its D and to be retired.
- *   D        brings the data of the WR before it.
- *   others   ACT, PRER, REFA and REFP open and close banks. REFR rises, modulo rows, after REFA to
- *            bank 31. The store is not read or written.
- *
- * Fed with the records of all accepted calls of rdram_plan, a model reads what an array of the
- * store's size would that each write sets at once, and after a flush the store is that array.
- *
- * Refusals, in this order:
- *    1  settings: correct the settings bytes. Or model is not 792 bytes, or no state under these
- *       settings: a field is out of its range, another byte is not 0, two neighbours are both not
- *       closed, or the bank of a waiting write is not open by ACT. Pass the bytes that the last
- *       call left, with the same settings, or a fresh model.
- *    9  store_len is not rows x columns x 512: pass the whole store.
- *   13  record_len is not 32: pass one whole record.
- *   10  the record has no coding: correct it, or pass the settings under which it was written.
- *   11  the record breaks a rule, and rule is the lowest that it breaks (1 to 16), given the
- *       records that the model has taken. Correct the list, or leave this record out and go on.
- *    8  answer has fewer than 16 bytes for an RD: pass the same record again with a longer answer.
- *       Other records need none.
- */
-rdram_stepped rdram_model_step(const uint8_t *settings, size_t settings_len,
-                               uint8_t *model, size_t model_len,
-                               uint8_t *store, size_t store_len, const uint8_t *record,
-                               size_t record_len, uint8_t *answer, size_t answer_len);
 
 #ifdef __cplusplus
 }

@@ -13,8 +13,8 @@ extern "C" {
 
 /*
  * Index: one 32-bit word for each block of a log, low byte first, in the order of the blocks. Bit b
- * is 1 where a ROW packet, RD or WR of the block names bank b; NOCOP and D set nothing. The index of
- * an empty log is empty.
+ * is 1 where a ROW packet, RD, WR, RDA or WRA of the block names bank b; NOCOP and D set nothing. The
+ * index of an empty log is empty.
  */
 #define RDRAM_INDEX_WORD_BYTES 4
 

@@ -10,7 +10,7 @@
  *    9       tCC, 4 to 16
  *   10       tCAC, 7 to 12
  *   11       tCWD, 1 to tCAC - 1
- *   12       0
+ *   12       tOFFP, 4 to 32
  *   13       rows, 1 to 512
  *   14       columns, 1 to 128
  *   15       device, 0 to 31, in the low byte, and core form (enum rdram_core) in the high byte
@@ -33,6 +33,6 @@ enum rdram_core {
 #define RDRAM_SETTINGS_CORE 31
 
 /* Set H, with a split core, for a first try: static const uint8_t settings[RDRAM_SETTINGS_BYTES] = RDRAM_SET_H; */
-#define RDRAM_SET_H {28, 0, 20, 0, 8, 0, 8, 0, 8, 0, 9, 0, 8, 0, 4, 0, 4, 0, 4, 0, 8, 0, 6, 0, 0, 0, 2, 0, 4, 0, 0, 0}
+#define RDRAM_SET_H {28, 0, 20, 0, 8, 0, 8, 0, 8, 0, 9, 0, 8, 0, 4, 0, 4, 0, 4, 0, 8, 0, 6, 0, 4, 0, 2, 0, 4, 0, 0, 0}
 
 #endif

@@ -1,7 +1,7 @@
 /*
  * Plans a stream of requests under set H, feeds a meter with the data instants of the packets, and
  * draws how busy the data pins were after each request. Data go at a D record's instant and come
- * tCAC after an RD; in a planned list these instants rise.
+ * tCAC after an RD or RDA; in a planned list these instants rise.
  *
  * cc -std=c11 -O2 -Ihost/c host/c/examples/busy_bar.c target/staticlib/librdram.a -o busy_bar
  */
@@ -26,7 +26,7 @@ static uint32_t data_instant(const uint8_t *record)
     if (record[4] == RDRAM_KIND_D)
         return at;
     rdram_packet p = rdram_word_decode(SET_H, sizeof SET_H, record[4], get(record + 8, 8));
-    return p.number == RDRAM_OK && p.command == RDRAM_RD ? at + T_CAC : 0;
+    return p.number == RDRAM_OK && (p.command == RDRAM_RD || p.command == RDRAM_RDA) ? at + T_CAC : 0;
 }
 
 static void draw(uint32_t at, const rdram_meter *meter)

@@ -43,8 +43,8 @@ static void make_list(uint8_t *list, uint64_t word)
 
 int main(void)
 {
-    /* tRC tRAS tRP tPP tRR tRCD tRTR tRDP tRTP tCC tCAC tCWD, 0, rows, columns, device */
-    static const uint16_t figures[16] = {28, 20, 8, 8, 8, 9, 8, 4, 4, 4, 8, 6, 0, 512, 128, 0};
+    /* tRC tRAS tRP tPP tRR tRCD tRTR tRDP tRTP tCC tCAC tCWD tOFFP, rows, columns, device */
+    static const uint16_t figures[16] = {28, 20, 8, 8, 8, 9, 8, 4, 4, 4, 8, 6, 4, 512, 128, 0};
     static uint8_t list[RECORDS * RDRAM_RECORD_BYTES], log[BLOCKS * RDRAM_BLOCK_BYTES], back[sizeof list];
     uint8_t settings[RDRAM_SETTINGS_BYTES];
     for (int i = 0; i < 16; i++)

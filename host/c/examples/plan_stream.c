@@ -1,7 +1,7 @@
 /*
  * Plans a stream of requests under set H and prints the packets: instant, name,
  * bank, row or column; and how many banks the close looked at. The stream is
- * run 1 of document 01.
+ * run 1 of document 01, and a read that closes its bank: RDA has a PRER in it.
  *
  * cc -std=c11 -O2 -Ihost/c host/c/examples/plan_stream.c target/staticlib/librdram.a -o plan_stream
  */
@@ -18,7 +18,7 @@ static uint64_t get(const uint8_t *from, int bytes)
 
 static void print(const uint8_t *record)
 {
-    static const char *const NAMES[] = {"ACT", "PRER", "REFA", "REFP", "NOCOP", "WR", "RD"};
+    static const char *const NAMES[] = {"ACT", "PRER", "REFA", "REFP", "NOCOP", "WR", "RD", "WRA", "RDA"};
     rdram_packet p = rdram_word_decode(SET_H, sizeof SET_H, record[4], get(record + 8, 8));
     if (record[4] == RDRAM_KIND_D)
         printf("%" PRIu64 " D\n", get(record, 4));
@@ -31,7 +31,8 @@ int main(void)
     /* kind, bank, row 2, column, 0, mask 2, data 16 */
     static const uint8_t requests[][RDRAM_REQUEST_BYTES] = {
         {RDRAM_REQUEST_READ, 0, 0, 0, 1}, {RDRAM_REQUEST_WRITE, 0, 0, 0, 1, 0, 3, 0, 0xAA, 0xBB},
-        {RDRAM_REQUEST_READ, 0, 0, 0, 1}, {RDRAM_REQUEST_READ, 1}, {RDRAM_REQUEST_FLUSH}, {RDRAM_REQUEST_CLOSE}};
+        {RDRAM_REQUEST_READ, 0, 0, 0, 1}, {RDRAM_REQUEST_READ, 1}, {RDRAM_REQUEST_FLUSH}, {RDRAM_REQUEST_CLOSE},
+        {RDRAM_REQUEST_READ_CLOSE, 5, 1, 0, 2}};
     uint8_t planner[RDRAM_PLANNER_BYTES], room[RDRAM_REQUEST_RECORDS * RDRAM_RECORD_BYTES];
     uint64_t records = 0;
     rdram_planner_fresh(planner, sizeof planner);
@@ -47,5 +48,5 @@ int main(void)
         records += made.records;
     }
     printf("records %" PRIu64 "\n", records);
-    return records == 10 ? 0 : 1;
+    return records == 12 ? 0 : 1;
 }

@@ -24,23 +24,35 @@ static uint8_t *place(uint8_t *of, const uint8_t *request)
     return of + RDRAM_DUALOCT_BYTES * ((request[1] * ROWS + request[2]) * COLUMNS + request[4]);
 }
 
-/* A read, a write with any mask and data, now and then a refresh; the last one is a flush. */
+static int writes(const uint8_t *request)
+{
+    return request[0] == RDRAM_REQUEST_WRITE || request[0] == RDRAM_REQUEST_WRITE_CLOSE;
+}
+
+/*
+ * A read, a write with any mask and data, one of them with close, now and then a refresh; the last one is a
+ * flush.
+ */
 static void make(uint8_t *request, int i)
 {
+    static const uint8_t KINDS[] = {RDRAM_REQUEST_READ, RDRAM_REQUEST_WRITE, RDRAM_REQUEST_READ_CLOSE,
+                                    RDRAM_REQUEST_WRITE_CLOSE};
     memset(request, 0, RDRAM_REQUEST_BYTES);
-    request[0] = i == REQUESTS - 1 ? RDRAM_REQUEST_FLUSH : i % 16 == 0 ? RDRAM_REQUEST_REFRESH : (uint8_t)(rand() % 2);
-    if (request[0] > RDRAM_REQUEST_WRITE)
+    if (i == REQUESTS - 1 || i % 16 == 0) {
+        request[0] = i % 16 == 0 ? RDRAM_REQUEST_REFRESH : RDRAM_REQUEST_FLUSH;
         return;
+    }
+    request[0] = KINDS[rand() % 4];
     request[1] = (uint8_t)(rand() % 32);
     request[2] = (uint8_t)(rand() % ROWS);
     request[4] = (uint8_t)(rand() % COLUMNS);
-    for (int byte = 6; request[0] == RDRAM_REQUEST_WRITE && byte < RDRAM_REQUEST_BYTES; byte++)
+    for (int byte = 6; writes(request) && byte < RDRAM_REQUEST_BYTES; byte++)
         request[byte] = (uint8_t)rand();
 }
 
 static void set_array(const uint8_t *request)
 {
-    for (int i = 0; request[0] == RDRAM_REQUEST_WRITE && i < RDRAM_DUALOCT_BYTES; i++)
+    for (int i = 0; writes(request) && i < RDRAM_DUALOCT_BYTES; i++)
         if (request[6 + i / 8] >> i % 8 & 1)
             place(array, request)[i] = request[8 + i];
 }

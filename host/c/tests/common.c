@@ -51,7 +51,7 @@ void fill(uint8_t *bytes, size_t length)
 
 /* ---- Settings ---- */
 
-const uint16_t SET_H[16] = {28, 20, 8, 8, 8, 9, 8, 4, 4, 4, 8, 6, 0, 2, 4, 0};
+const uint16_t SET_H[16] = {28, 20, 8, 8, 8, 9, 8, 4, 4, 4, 8, 6, 4, 2, 4, 0};
 
 uint8_t settings[RDRAM_SETTINGS_BYTES], settings_before[RDRAM_SETTINGS_BYTES];
 
@@ -104,10 +104,10 @@ uint64_t row_word(unsigned device, unsigned bank, unsigned command, unsigned row
 /* The fields of a COL word above M. */
 static uint64_t col_front(unsigned device, unsigned bank, unsigned command, unsigned column)
 {
-    uint64_t cop = command == RDRAM_NOCOP ? 0 : command == RDRAM_WR ? 1 : 3;
+    static const uint64_t COP[] = {0, 1, 3, 5, 7}; /* NOCOP, WR, RD, WRA, RDA */
     uint64_t word = with(1, 5, device);
     word = with(with(word, 5, bank), 1, 0);
-    return with(with(word, 7, column), 4, cop);
+    return with(with(word, 7, column), 4, COP[command - RDRAM_NOCOP]);
 }
 
 /* With M = 1, also where the mask is full, which no packet has. */
@@ -135,7 +135,7 @@ void put_packet(uint8_t *record, uint32_t instant, int kind, uint64_t word)
 
 static unsigned command_of(const char *name)
 {
-    static const char *const NAMES[] = {"ACT", "PRER", "REFA", "REFP", "NOCOP", "WR", "RD", "D"};
+    static const char *const NAMES[] = {"ACT", "PRER", "REFA", "REFP", "NOCOP", "WR", "RD", "WRA", "RDA", "D"};
     unsigned command = 0;
     while (strcmp(NAMES[command], name) != 0)
         command++;
@@ -148,7 +148,7 @@ int put_line(uint8_t *record, const char *line)
     char name[8] = "";
     int masked = sscanf(line, "%u %7[A-Z] %u %u %x", &instant, name, &bank, &place, &mask) == 5;
     unsigned command = command_of(name);
-    if (command > RDRAM_RD)
+    if (command > RDRAM_RDA)
         put_packet(record, instant, RDRAM_KIND_D, 0);
     else if (command <= RDRAM_REFP)
         put_packet(record, instant, RDRAM_KIND_ROW, row_word(0, bank, command, place));
@@ -156,7 +156,7 @@ int put_line(uint8_t *record, const char *line)
         put_packet(record, instant, RDRAM_KIND_COL, masked_word(0, bank, command, place, mask));
     else
         put_packet(record, instant, RDRAM_KIND_COL, col_word(0, bank, command, place, FULL));
-    return command > RDRAM_RD;
+    return command > RDRAM_RDA;
 }
 
 const char *after_comma(const char *text)

@@ -38,13 +38,14 @@ void fill(uint8_t *bytes, size_t length);
 
 /* ---- Settings ---- */
 
-/* tRC tRAS tRP tPP tRR tRCD tRTR tRDP tRTP tCC tCAC tCWD 0 rows columns, device + 256 x core form */
+/* tRC tRAS tRP tPP tRR tRCD tRTR tRDP tRTP tCC tCAC tCWD tOFFP rows columns, device + 256 x core form */
 extern const uint16_t SET_H[16];
 extern uint8_t settings[RDRAM_SETTINGS_BYTES], settings_before[RDRAM_SETTINGS_BYTES];
 
 void use_figures(const uint16_t *figures);
 void use_figure(int figure, unsigned value);
 void use_set_h(void);
+#define T_OFFP 12 /* the place of tOFFP */
 
 /* The core form, in the place of that of the settings. */
 void use_core(unsigned core);
@@ -96,11 +97,11 @@ typedef struct {
 extern const uint32_t IN_RANGE[6], OUT_OF_RANGE[10];
 
 /* The offsets of the last instants that planner and model have in common, of banks and then of the channel. */
-#define LAST_INSTANTS 165
+#define LAST_INSTANTS 166
 int instant_offset(int n);
 
 /* Offsets and numbers of the bytes that they have in common and no field uses. */
-#define UNUSED {724, 4}, {730, 6}, {738, 2}, {746, 2}
+#define UNUSED {730, 6}
 
 /* The state has these fields, and 0 in all others. */
 int state_is(const uint8_t *state, size_t length, const field *fields, size_t count);

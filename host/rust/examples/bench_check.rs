@@ -1,5 +1,6 @@
-//! Times `check` on a legal list of 1,000,000 records, and on a short one, by the library and by
-//! plain Rust that makes the same tests: `bench_check [RECORDS [RUNS]]`.
+//! Times `check` on a legal list of 1,000,000 records, and on short ones, by the library and by
+//! plain Rust that makes the same tests: `bench_check [RECORDS [RUNS [STREAM]]]`. The stream
+//! "close pages" has RDA and WRA for RD and WR, the stream "" has none.
 
 mod common;
 mod rivals;
@@ -12,7 +13,7 @@ use std::hint::black_box;
 /// Records that are checked in so short a time that mostly no other program runs meanwhile.
 const SHORT: usize = 15_000;
 
-fn random_packet(x: &mut u64) -> (Kind, Packet) {
+fn random_packet(x: &mut u64, close: bool) -> (Kind, Packet) {
     let (bank, row, column) = (
         below(x, 32) as u8,
         below(x, 512) as u16,
@@ -24,8 +25,10 @@ fn random_packet(x: &mut u64) -> (Kind, Packet) {
         8..14 => (Kind::Row, Packet::Prer { bank }),
         14 => (Kind::Row, Packet::Refa { bank }),
         15 => (Kind::Row, Packet::Refp { bank }),
+        16..40 if close => (Kind::Col, Packet::Rda { bank, column, mask }),
+        40..52 if close => (Kind::Col, Packet::Wra { bank, column, mask }),
         16..40 => (Kind::Col, Packet::Rd { bank, column, mask }),
-        40..60 => (Kind::Col, Packet::Wr { bank, column, mask }),
+        40..60 if !close => (Kind::Col, Packet::Wr { bank, column, mask }),
         _ => {
             let mask = below(x, 0xFFFF) as u16;
             (Kind::Col, Packet::Nocop { mask })
@@ -34,11 +37,11 @@ fn random_packet(x: &mut u64) -> (Kind, Packet) {
 }
 
 /// A legal list: each packet at the least instant that the rules allow, banks interleaved.
-fn make_list(records: usize) -> Vec<u8> {
+fn make_list(records: usize, close: bool) -> Vec<u8> {
     let mut checker = Checker::new(&SETTINGS.to_bytes()).unwrap();
     let (mut list, mut now, mut x) = (Vec::new(), 4, 0x9E37_79B9_7F4A_7C15);
     while list.len() < 32 * records {
-        let (kind, packet) = random_packet(&mut x);
+        let (kind, packet) = random_packet(&mut x, close);
         let word = word_encode(&SETTINGS, packet).unwrap();
         for at in now.. {
             let record = packet_record(at, kind, word);
@@ -48,12 +51,12 @@ fn make_list(records: usize) -> Vec<u8> {
                     now = at;
                     break;
                 }
-                4 | 9 | 14 | 16 => break, // not for any instant
-                12 if matches!(packet, Packet::Rd { .. }) => break, // two writes wait
+                4 | 9 | 14 | 16 | 17 => break, // not for any instant, or not before a retire
+                12 if matches!(packet, Packet::Rd { .. } | Packet::Rda { .. }) => break, // two writes wait
                 _ => {}
             }
         }
-        if let Packet::Wr { .. } = packet {
+        if let Packet::Wr { .. } | Packet::Wra { .. } = packet {
             let data = data_record(now + 6, &[below(&mut x, 256) as u8; 16]);
             if checker.take(&data) == Some(0) {
                 list.extend(data);
@@ -92,9 +95,9 @@ fn plain_check(settings: &[u8], list: &[u8]) -> bool {
     plain::check(settings, list).is_ok()
 }
 
-fn measure(records: usize, runs: usize) {
+fn measure(records: usize, runs: usize, close: bool) {
     let settings = SETTINGS.to_bytes();
-    let list = make_list(records);
+    let list = make_list(records, close);
     compare_answers(&list);
     let [library, plain] = best(
         records,
@@ -104,15 +107,21 @@ fn measure(records: usize, runs: usize) {
             &mut || vec![timed(|| plain_check(&settings, black_box(&list)))],
         ],
     );
-    let stream = format!("{records} records");
+    let kind = if close { ", close pages" } else { "" };
+    let stream = format!("{records} records{kind}");
     print_row("`rdram_check`", &stream, library, plain, None);
 }
 
 fn main() {
     let size = Size::from_arguments(1_000_000, 21);
     print_head();
-    measure(size.count, size.runs);
-    if size.count > SHORT {
-        measure(SHORT, 50 * size.runs);
+    for (stream, close) in [("", false), ("close pages", true)] {
+        if !size.has(stream) {
+            continue;
+        }
+        measure(size.count, size.runs, close);
+        if size.count > SHORT {
+            measure(SHORT, 50 * size.runs, close);
+        }
     }
 }

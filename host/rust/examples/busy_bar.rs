@@ -1,6 +1,6 @@
 //! Plans a stream of requests under set H, feeds a meter with the data instants of the packets, and
-//! draws how busy the data pins were. Data go at a D record's instant and come tCAC after an RD; in
-//! a planned list these instants rise. Run with
+//! draws how busy the data pins were. Data go at a D record's instant and come tCAC after an RD or
+//! RDA; in a planned list these instants rise. Run with
 //! `cargo run --release --offline --manifest-path host/rust/Cargo.toml --example busy_bar`.
 
 use rdram::{word_decode, Kind, Meter, Packet, Planner, Refusal, Request, Settings, RECORD_BYTES};
@@ -15,7 +15,7 @@ fn data_instant(record: &[u8]) -> Result<Option<u32>, Refusal> {
     Ok(match record[4] {
         0 => None,
         1 => match word_decode(&SET_H, Kind::Col, word)? {
-            Packet::Rd { .. } => Some(at + u32::from(SET_H.t_cac)),
+            Packet::Rd { .. } | Packet::Rda { .. } => Some(at + u32::from(SET_H.t_cac)),
             _ => None,
         },
         _ => Some(at),

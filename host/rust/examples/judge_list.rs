@@ -1,4 +1,4 @@
-//! Says in words whether a list of records keeps the sixteen rules under set H, and what to do
+//! Says in words whether a list of records keeps the seventeen rules under set H, and what to do
 //! where it does not: `judge_list FILE`, of records of 32 bytes. Without a file: ACT at 4 with RD at
 //! 13, and with RD at 12, which is too soon. Run with
 //! `cargo run --release --offline --manifest-path host/rust/Cargo.toml --example judge_list`.

@@ -1,5 +1,6 @@
 //! Plans a stream of requests under set H and prints the packets: instant, then the packet; and how
-//! many banks the close looked at. The stream is run 1 of document 01. Run with
+//! many banks the close looked at. The stream is run 1 of document 01, and a read that closes its bank:
+//! RDA has a PRER in it. Run with
 //! `cargo run --release --offline --manifest-path host/rust/Cargo.toml --example plan_stream`.
 
 use rdram::{word_decode, Kind, Planner, Refusal, Request, Settings, RECORD_BYTES};
@@ -38,6 +39,11 @@ fn main() -> Result<(), Refusal> {
         read(1, 0),
         Request::Flush,
         Request::Close,
+        Request::ReadClose {
+            bank: 5,
+            row: 1,
+            column: 2,
+        },
     ];
     let (mut planner, mut records) = (Planner::fresh(), 0);
     for request in &stream {
@@ -52,6 +58,6 @@ fn main() -> Result<(), Refusal> {
         records += made.records;
     }
     println!("records {records}");
-    assert_eq!(records, 10, "run 1 has ten records");
+    assert_eq!(records, 12, "run 1 has ten records, the closing read two");
     Ok(())
 }

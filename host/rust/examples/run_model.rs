@@ -20,7 +20,8 @@ impl Numbers {
     }
 }
 
-/// A read, a write with any mask and data, now and then a refresh; the last one is a flush.
+/// A read, a write with any mask and data, one of them with close, now and then a refresh; the last one
+/// is a flush.
 fn request(i: u32, numbers: &mut Numbers) -> Request {
     if i == REQUESTS - 1 {
         return Request::Flush;
@@ -30,15 +31,25 @@ fn request(i: u32, numbers: &mut Numbers) -> Request {
     }
     let (bank, row) = (numbers.below(32) as u8, numbers.below(2) as u16);
     let column = numbers.below(4) as u8;
-    if numbers.below(2) == 0 {
-        return Request::Read { bank, row, column };
-    }
-    Request::Write {
-        bank,
-        row,
-        column,
-        mask: numbers.below(65_536) as u16,
-        data: std::array::from_fn(|_| numbers.below(256) as u8),
+    let mask = numbers.below(65_536) as u16;
+    let data = std::array::from_fn(|_| numbers.below(256) as u8);
+    match numbers.below(4) {
+        0 => Request::Read { bank, row, column },
+        1 => Request::ReadClose { bank, row, column },
+        2 => Request::Write {
+            bank,
+            row,
+            column,
+            mask,
+            data,
+        },
+        _ => Request::WriteClose {
+            bank,
+            row,
+            column,
+            mask,
+            data,
+        },
     }
 }
 
@@ -56,6 +67,13 @@ fn flat(array: &mut [u8], request: &Request) -> Vec<u8> {
             column,
             mask,
             data,
+        }
+        | Request::WriteClose {
+            bank,
+            row,
+            column,
+            mask,
+            data,
         } => {
             let at = start(bank, row, column);
             for (i, byte) in data.iter().enumerate().filter(|(i, _)| mask >> i & 1 == 1) {
@@ -63,7 +81,9 @@ fn flat(array: &mut [u8], request: &Request) -> Vec<u8> {
             }
             Vec::new()
         }
-        Request::Read { bank, row, column } => array[start(bank, row, column)..][..16].to_vec(),
+        Request::Read { bank, row, column } | Request::ReadClose { bank, row, column } => {
+            array[start(bank, row, column)..][..16].to_vec()
+        }
         _ => Vec::new(),
     }
 }

@@ -10,7 +10,7 @@ fn indexed(answer: raw::Indexed) -> Result<usize, Refusal> {
 }
 
 /// Makes the index of a log at the start of a buffer: one word of four bytes, low byte first, for each
-/// block, with bit b set where a ROW packet, RD or WR of the block names bank b. Answers the number of
+/// block, with bit b set where a ROW packet, RD, WR, RDA or WRA of the block names bank b. Answers the number of
 /// words; every other byte stays.
 ///
 /// # Errors

@@ -65,7 +65,8 @@ pub enum Kind {
     Col,
 }
 
-/// A ROW packet (`Act` to `Refp`) or a COL packet (`Nocop` to `Rd`).
+/// A ROW packet (`Act` to `Refp`) or a COL packet (`Nocop` to `Rda`). `Wra` and `Rda` are `Wr` and
+/// `Rd` that close their bank: tOFFP after the retire, or after themselves, they have a PRER in them.
 ///
 /// `mask` is the mask that a COL packet carries; [`MASK_FULL`] is sent as M = 0. It governs the
 /// write that the packet retires, not the packet's own.
@@ -78,6 +79,8 @@ pub enum Packet {
     Nocop { mask: u16 },
     Wr { bank: u8, column: u8, mask: u16 },
     Rd { bank: u8, column: u8, mask: u16 },
+    Wra { bank: u8, column: u8, mask: u16 },
+    Rda { bank: u8, column: u8, mask: u16 },
 }
 
 impl Packet {
@@ -91,6 +94,8 @@ impl Packet {
             Packet::Nocop { mask } => (4, 0, 0, mask),
             Packet::Wr { bank, column, mask } => (5, bank, column.into(), mask),
             Packet::Rd { bank, column, mask } => (6, bank, column.into(), mask),
+            Packet::Wra { bank, column, mask } => (7, bank, column.into(), mask),
+            Packet::Rda { bank, column, mask } => (8, bank, column.into(), mask),
         }
     }
 
@@ -106,7 +111,9 @@ impl Packet {
             3 => Packet::Refp { bank },
             4 => Packet::Nocop { mask },
             5 => Packet::Wr { bank, column, mask },
-            _ => Packet::Rd { bank, column, mask },
+            6 => Packet::Rd { bank, column, mask },
+            7 => Packet::Wra { bank, column, mask },
+            _ => Packet::Rda { bank, column, mask },
         }
     }
 }
@@ -240,8 +247,8 @@ pub fn log_decode(settings: &Settings, log: &[u8], list: &mut [u8]) -> Result<us
     copied(answer)
 }
 
-/// Tests whether `list`, whole records of 32 bytes, keeps the sixteen rules of document 01, from
-/// closed banks, an empty write buffer and no earlier record. An empty list passes.
+/// Tests whether `list`, whole records of 32 bytes, keeps the seventeen rules of documents 01 and 02,
+/// from closed banks, an empty write buffer and no earlier record. An empty list passes.
 ///
 /// Refused, in this order: [`Refusal::Settings`]; [`Refusal::Length`] for a list that is not whole
 /// records; [`Refusal::Word`] with the first record that is not well formed; [`Refusal::Rule`] with
@@ -256,6 +263,11 @@ pub fn log_decode(settings: &Settings, log: &[u8], list: &mut [u8]) -> Result<us
 /// // tRCD is 9, so 12 is too soon after the ACT at 4.
 /// let refused = check(&settings, [act, rd(12)].as_flattened());
 /// assert_eq!(refused, Err(Refusal::Rule { rule: 10, place: 1 }));
+/// // An RDA at 13 has a PRER at 17 in it, and tRAS is 20.
+/// let rda = |instant| packet_record(instant, Kind::Col, 0x80_002E_0000);
+/// let refused = check(&settings, [act, rda(13)].as_flattened());
+/// assert_eq!(refused, Err(Refusal::Rule { rule: 6, place: 1 }));
+/// assert_eq!(check(&settings, [act, rda(20)].as_flattened()), Ok(()));
 /// ```
 pub fn check(settings: &Settings, list: &[u8]) -> Result<(), Refusal> {
     let s = settings.to_bytes();
@@ -314,7 +326,7 @@ pub fn packet_record(instant: u32, kind: Kind, word: u64) -> [u8; RECORD_BYTES] 
     record
 }
 
-/// The record of a D: the data of the WR before it.
+/// The record of a D: the data of the WR or WRA before it.
 ///
 /// ```
 /// let record = rdram::data_record(25, &[7; 16]);

@@ -5,9 +5,9 @@ use crate::{raw, Refusal, Settings, MODEL_BYTES};
 /// What a record that a model took did.
 #[derive(Clone, Copy, Debug, PartialEq, Eq)]
 pub enum Event {
-    /// An RD: the 16 bytes of its dualoct are at the start of the answer.
+    /// An RD or RDA: the 16 bytes of its dualoct are at the start of the answer.
     Read,
-    /// A NOCOP or WR that retired the older waiting write and wrote so many bytes: the ones of the
+    /// A NOCOP, WR or WRA that retired the older waiting write and wrote so many bytes: the ones of the
     /// mask that it carries, 16 where it carries none. May be 0.
     Retired(u32),
     /// Neither of the two.
@@ -68,7 +68,7 @@ impl Model {
         Model { bytes }
     }
 
-    /// The model of bytes that [`Model::to_bytes`] gave; `rdram.h` has their layout. Any bytes are
+    /// The model of bytes that [`Model::to_bytes`] gave; `rdram_model.h` has their layout. Any bytes are
     /// taken: [`Model::step`] tests them and answers [`Refusal::Settings`] for bad ones.
     pub fn from_bytes(bytes: [u8; MODEL_BYTES]) -> Model {
         Model { bytes }
@@ -93,16 +93,17 @@ impl Model {
     /// Takes `record`, of 32 bytes, as the device would: tests it by the rules of
     /// [`check`](crate::check), given the records that the model has taken, and does what it says.
     ///
-    /// RD writes the 16 bytes of its dualoct to the start of `answer`, whose bytes after them are
-    /// unchanged; a waiting write is not in the store yet. NOCOP and WR retire the older waiting
-    /// write to `store`, under the mask that they carry, if tRTR has passed since its WR.
+    /// RD and RDA write the 16 bytes of their dualoct to the start of `answer`, whose bytes after them
+    /// are unchanged; a waiting write is not in the store yet. NOCOP, WR and WRA retire the older waiting
+    /// write to `store`, under the mask that they carry, if tRTR has passed since its WR. An RDA, and
+    /// the retire of a WRA, close their bank.
     /// [`Settings::store_bytes`] is the length of `store`; a fresh model takes any bytes.
     ///
     /// Refused, in this order, with model, store and answer unchanged: [`Refusal::Settings`], also
     /// for a model of bytes that are no state; [`Refusal::Store`] for a store of another length;
     /// [`Refusal::Length`] for a record that is not 32 bytes; [`Refusal::Word`] for one that is not
     /// well formed; [`Refusal::Broken`] with the lowest rule that it breaks; [`Refusal::Full`] for
-    /// an RD with fewer than 16 answer bytes: the same record may come again.
+    /// an RD or RDA with fewer than 16 answer bytes: the same record may come again.
     ///
     /// ```
     /// # let settings = rdram::Settings::SET_H;

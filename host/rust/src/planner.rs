@@ -30,6 +30,20 @@ pub enum Request {
     Flush,
     /// Every open bank is closed. No write may wait: send a flush first.
     Close,
+    /// A read after which its bank is closed, without a ROW packet: an RDA.
+    ReadClose {
+        bank: u8,
+        row: u16,
+        column: u8,
+    },
+    /// A write that is retired at once and after which its bank is closed, without a ROW packet: a WRA.
+    WriteClose {
+        bank: u8,
+        row: u16,
+        column: u8,
+        mask: u16,
+        data: [u8; 16],
+    },
 }
 
 impl Request {
@@ -44,34 +58,52 @@ impl Request {
     /// ```
     pub fn to_bytes(&self) -> [u8; REQUEST_BYTES] {
         let mut bytes = [0; REQUEST_BYTES];
+        bytes[0] = self.kind();
         match *self {
-            Request::Read { bank, row, column } => place(&mut bytes, 0, bank, row, column),
+            Request::Read { bank, row, column } | Request::ReadClose { bank, row, column } => {
+                place(&mut bytes, bank, row, column);
+            }
             Request::Write {
                 bank,
                 row,
                 column,
                 mask,
                 data,
+            }
+            | Request::WriteClose {
+                bank,
+                row,
+                column,
+                mask,
+                data,
             } => {
-                place(&mut bytes, 1, bank, row, column);
+                place(&mut bytes, bank, row, column);
                 bytes[6..8].copy_from_slice(&mask.to_le_bytes());
                 bytes[8..].copy_from_slice(&data);
             }
-            Request::Refresh => bytes[0] = 2,
-            Request::Wait { cycles } => {
-                bytes[0] = 3;
-                bytes[8..12].copy_from_slice(&cycles.to_le_bytes());
-            }
-            Request::Flush => bytes[0] = 4,
-            Request::Close => bytes[0] = 5,
+            Request::Wait { cycles } => bytes[8..12].copy_from_slice(&cycles.to_le_bytes()),
+            Request::Refresh | Request::Flush | Request::Close => {}
         }
         bytes
     }
+
+    fn kind(&self) -> u8 {
+        match self {
+            Request::Read { .. } => 0,
+            Request::Write { .. } => 1,
+            Request::Refresh => 2,
+            Request::Wait { .. } => 3,
+            Request::Flush => 4,
+            Request::Close => 5,
+            Request::ReadClose { .. } => 6,
+            Request::WriteClose { .. } => 7,
+        }
+    }
 }
 
-/// Kind, bank, row and column.
-fn place(bytes: &mut [u8; REQUEST_BYTES], kind: u8, bank: u8, row: u16, column: u8) {
-    (bytes[0], bytes[1], bytes[4]) = (kind, bank, column);
+/// Bank, row and column.
+fn place(bytes: &mut [u8; REQUEST_BYTES], bank: u8, row: u16, column: u8) {
+    (bytes[1], bytes[4]) = (bank, column);
     bytes[2..4].copy_from_slice(&row.to_le_bytes());
 }
 
@@ -172,13 +204,14 @@ impl Planner {
     ///
     /// The records of all accepted calls from a fresh planner on, under the same settings, are a
     /// list that passes [`check`](crate::check). A write waits, alone or beside an older one, until
-    /// a NOCOP or WR of a later request retires it.
+    /// a NOCOP, WR or WRA of a later request retires it; one that closes its bank is retired by NOCOPs of
+    /// its own request.
     ///
     /// Refused, in this order, with planner and room unchanged: [`Refusal::Settings`], also for a
     /// planner of bytes that are no state; [`Refusal::Bank`], [`Refusal::Row`] and
     /// [`Refusal::Column`] for a read or write; [`Refusal::Unretired`] for a close while a write
-    /// waits; [`Refusal::Horizon`] where an instant would pass 1,000,000,000; [`Refusal::Full`] for a
-    /// room of fewer whole records than needed.
+    /// waits; [`Refusal::Horizon`] where an instant, that of an implied PRER too, would pass
+    /// 1,000,000,000; [`Refusal::Full`] for a room of fewer whole records than needed.
     ///
     /// [`REQUEST_RECORDS`]: crate::REQUEST_RECORDS
     ///
@@ -208,6 +241,10 @@ impl Planner {
     /// assert_eq!(planner.plan(&settings, &Request::Flush, &mut room)?.records, 1);
     /// let closed = planner.plan(&settings, &Request::Close, &mut room)?;
     /// assert_eq!((closed.records, closed.banks), (1, 1));
+    /// // A read that closes its bank: ACT, RDA. No bank is open then.
+    /// let read = Request::ReadClose { bank: 0, row: 0, column: 1 };
+    /// assert_eq!(planner.plan(&settings, &read, &mut room)?.records, 2);
+    /// assert_eq!(planner.plan(&settings, &Request::Close, &mut [])?.banks, 0);
     /// # Ok::<(), Refusal>(())
     /// ```
     pub fn plan(
@@ -222,7 +259,7 @@ impl Planner {
     /// [`Planner::plan`] for a request of bytes, as [`Request::to_bytes`] writes them.
     ///
     /// Refused as there, and after the settings: [`Refusal::Length`] for a request that is not 24
-    /// bytes, [`Refusal::Kind`] for a kind above 5, [`Refusal::Spare`] for a byte that the kind
+    /// bytes, [`Refusal::Kind`] for a kind above 7, [`Refusal::Spare`] for a byte that the kind
     /// does not use and that is not 0.
     ///
     /// ```

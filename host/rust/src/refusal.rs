@@ -9,7 +9,7 @@ pub enum Refusal {
     /// 1: a figure of the settings is outside its range, or the bytes of a planner or a model are
     /// no state under these settings, or those of a meter are no meter.
     Settings,
-    /// 2: a request kind above 5.
+    /// 2: a request kind above 7.
     Kind,
     /// 3: a byte of a request that its kind does not use is not 0.
     Spare,
@@ -19,8 +19,8 @@ pub enum Refusal {
     Row,
     /// 6: a column that is not below the settings' columns.
     Column,
-    /// 7: a packet, its data or now would pass instant 1,000,000,000, or an instant that is fed to
-    /// a meter is outside 4 to that.
+    /// 7: a packet, its data, a PRER that it implies or now would pass instant 1,000,000,000, or an
+    /// instant that is fed to a meter is outside 4 to that.
     Horizon,
     /// 8: the buffer for the answer is too short.
     Full,
@@ -30,10 +30,10 @@ pub enum Refusal {
     /// record of a list, from 0; a single packet, word or record has none.
     Word { place: Option<u64> },
     /// 11: a record breaks a rule, given the records before it. `place` is the first such record,
-    /// from 0, and `rule` the lowest rule that it breaks, 1 to 16.
+    /// from 0, and `rule` the lowest rule that it breaks, 1 to 17.
     Rule { rule: u32, place: u64 },
     /// 11: the record that a model was given breaks a rule, given the records that it has taken.
-    /// `rule` is the lowest that it breaks, 1 to 16.
+    /// `rule` is the lowest that it breaks, 1 to 17.
     Broken { rule: u32 },
     /// 12: a block is damaged or out of order. `place` is the first such block, from 0.
     Block { place: u64 },
@@ -83,7 +83,7 @@ impl Refusal {
         }
     }
 
-    /// The broken rule, 1 to 16, where the refusal names one.
+    /// The broken rule, 1 to 17, where the refusal names one.
     pub fn rule(&self) -> Option<u32> {
         match *self {
             Refusal::Rule { rule, .. } | Refusal::Broken { rule } => Some(rule),
@@ -175,10 +175,11 @@ impl Refusal {
 
 const LATER: &str = "send it later";
 
-/// What a record does that breaks rule 1, 2, .. 16, and what to do.
+/// What a record does that breaks rule 1, 2, .. 17, and what to do. An implied PRER, of an RDA or of the
+/// retire of a WRA, is a PRER here.
 #[rustfmt::skip]
-const RULES: [(&str, &str); 16] = [
-    ("its instant is below that of an earlier packet, or it or its data are outside 4 to 1,000,000,000",
+const RULES: [(&str, &str); 17] = [
+    ("its instant is below that of an earlier packet, or it, its data or its implied PRER are outside 4 to 1,000,000,000",
      "put packets in the order of their instants, within the range"),
     ("a ROW packet less than 4 after a ROW packet", LATER),
     ("a COL packet less than tCC after a COL packet", LATER),
@@ -196,6 +197,8 @@ const RULES: [(&str, &str); 16] = [
     ("PRER or REFP closes the bank of a write that is not retired", "send NOCOP first"),
     ("a WR without its D directly after it, at WR + tCWD, or a D elsewhere", "put one D after each WR, at that instant"),
     ("a mask (M = 1) on a packet that retires no write", "send it with M = 0"),
+    ("a ROW packet before an implied PRER, or a ROW packet or WR before a WRA has retired",
+     "send it later, and NOCOP after a WRA"),
 ];
 
 /// What breaks a rule, and what to do; also for a number that is no rule.
@@ -215,7 +218,7 @@ impl fmt::Display for Refusal {
                 "a figure of the settings or of the planner, model or meter is outside its range; \
                  correct the settings, or go on from a state that the library made under them",
             ),
-            Refusal::Kind => f.write_str("a request's kind is above 5; correct the kind"),
+            Refusal::Kind => f.write_str("a request's kind is above 7; correct the kind"),
             Refusal::Spare => f.write_str(
                 "a byte of a request that its kind does not use is not 0; clear that byte",
             ),

@@ -32,7 +32,7 @@ pub enum Core {
 /// Timings in cycles, the size of the device, its number and its core form.
 ///
 /// The nine timings from `t_rc` to `t_rtp` are 4 to 64, `t_cc` 4 to 16, `t_cac` 7 to 12, `t_cwd`
-/// 1 to `t_cac` − 1, `rows` 1 to 512, `columns` 1 to 128 and `device` 0 to 31. Every call tests
+/// 1 to `t_cac` − 1, `t_offp` 4 to 32, `rows` 1 to 512, `columns` 1 to 128 and `device` 0 to 31. Every call tests
 /// this and answers [`Refusal::Settings`] otherwise: correct the figure that is out of its range.
 ///
 /// A planner, a model and a list go on under the settings that they were made with, the core form
@@ -53,6 +53,8 @@ pub struct Settings {
     pub t_cc: u16,
     pub t_cac: u16,
     pub t_cwd: u16,
+    /// From an RDA, or the retire of a WRA, to the PRER that it implies.
+    pub t_offp: u16,
     pub rows: u16,
     pub columns: u16,
     pub device: u8,
@@ -74,6 +76,7 @@ impl Settings {
         t_cc: 4,
         t_cac: 8,
         t_cwd: 6,
+        t_offp: 4,
         rows: 2,
         columns: 4,
         device: 0,
@@ -87,13 +90,14 @@ impl Settings {
     /// let settings = Settings { rows: 512, device: 7, core: Core::OneRun, ..Settings::SET_H };
     /// let bytes = settings.to_bytes();
     /// assert_eq!(bytes[..4], [28, 0, 20, 0]);
-    /// assert_eq!(bytes[24..], [0, 0, 0, 2, 4, 0, 7, 1]); // 0, rows, columns, device, core form
+    /// assert_eq!(bytes[24..], [4, 0, 0, 2, 4, 0, 7, 1]); // tOFFP, rows, columns, device, core form
     /// ```
     pub fn to_bytes(&self) -> [u8; SETTINGS_BYTES] {
         #[rustfmt::skip]
         let figures = [
             self.t_rc, self.t_ras, self.t_rp, self.t_pp, self.t_rr, self.t_rcd, self.t_rtr,
-            self.t_rdp, self.t_rtp, self.t_cc, self.t_cac, self.t_cwd, 0, self.rows, self.columns,
+            self.t_rdp, self.t_rtp, self.t_cc, self.t_cac, self.t_cwd, self.t_offp, self.rows,
+            self.columns,
             u16::from_le_bytes([self.device, self.core as u8]),
         ];
         let mut bytes = [0; SETTINGS_BYTES];

@@ -33,7 +33,7 @@ void make_list(size_t records)
         else if (i % 4 == 1)
             put_packet(record, instant, 1, col_word(5, 0, RDRAM_NOCOP, 0, n % 8 == 1 ? FULL : n));
         else
-            put_packet(record, instant, 1, col_word(5, bank, n % 8 == 2 ? RDRAM_WR : RDRAM_RD, n * 3, FULL));
+            put_packet(record, instant, 1, col_word(5, bank, RDRAM_WR + n / 4 % 4, n * 3, FULL));
     }
 }
 

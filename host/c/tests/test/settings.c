@@ -2,8 +2,8 @@
 #include "test.h"
 
 /* In the order of SET_H, the device without the core form. */
-static const uint16_t LOW[16] = {4, 4, 4, 4, 4, 4, 4, 4, 4, 4, 7, 1, 0, 1, 1, 0};
-static const uint16_t HIGH[16] = {64, 64, 64, 64, 64, 64, 64, 64, 64, 16, 12, 11, 0, 512, 128, 31};
+static const uint16_t LOW[16] = {4, 4, 4, 4, 4, 4, 4, 4, 4, 4, 7, 1, 4, 1, 1, 0};
+static const uint16_t HIGH[16] = {64, 64, 64, 64, 64, 64, 64, 64, 64, 16, 12, 11, 32, 512, 128, 31};
 
 /* Whether all four calls refuse the settings; otherwise whether none does. */
 static int all_refuse(const uint8_t *bytes, size_t length, int refuse)

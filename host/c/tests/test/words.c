@@ -46,6 +46,10 @@ void test_worked_words(void)
         {0, RDRAM_RD, 0, 1, FULL, 0x8000260000},
         {0, RDRAM_RD, 0, 1, 0x0003, 0x8000270003},
         {0, RDRAM_RD, 0, 1, 0x0000, 0x8000270000},
+        {0, RDRAM_WRA, 0, 1, FULL, 0x80002A0000},
+        {0, RDRAM_WRA, 0, 1, 0x0003, 0x80002B0003},
+        {0, RDRAM_RDA, 0, 1, FULL, 0x80002E0000},
+        {0, RDRAM_RDA, 0, 1, 0x0003, 0x80002F0003},
         {15, RDRAM_ACT, 0, 0, 0, 0x7C1000},
         {16, RDRAM_ACT, 0, 0, 0, 0x801000},
         {16, RDRAM_RD, 0, 1, FULL, 0xC000268000},
@@ -79,7 +83,7 @@ static int all_col_words(unsigned device, unsigned columns, unsigned mask)
     int ok = both_ways(RDRAM_NOCOP, 0, 0, mask, col_word(device, 0, RDRAM_NOCOP, 0, mask));
     for (unsigned bank = 0; bank < 32; bank++)
         for (unsigned column = 0; column < columns; column++)
-            for (unsigned command = RDRAM_WR; command <= RDRAM_RD; command++)
+            for (unsigned command = RDRAM_WR; command <= RDRAM_RDA; command++)
                 ok &= both_ways(command, bank, column, mask, col_word(device, bank, command, column, mask));
     return ok;
 }
@@ -105,18 +109,23 @@ void test_all_words(void)
 void test_word_refusals(void)
 {
     static const struct { const char *why; uint32_t number, command, bank, place, mask; } CASES[] = {
-        {"command 7", RDRAM_REFUSED_WORD, 7, 0, 0, 0},
-        {"command 7 with a full mask", RDRAM_REFUSED_WORD, 7, 0, 0, FULL},
+        {"command 9", RDRAM_REFUSED_WORD, 9, 0, 0, 0},
+        {"command 9 with a full mask", RDRAM_REFUSED_WORD, 9, 0, 0, FULL},
         {"command 2^32 - 1", RDRAM_REFUSED_WORD, UINT32_MAX, 0, 0, 0},
         {"ACT bank 32", RDRAM_REFUSED_BANK, RDRAM_ACT, 32, 0, 0},
         {"PRER bank 32", RDRAM_REFUSED_BANK, RDRAM_PRER, 32, 0, 0},
         {"WR bank 32", RDRAM_REFUSED_BANK, RDRAM_WR, 32, 0, FULL},
         {"RD bank 2^31", RDRAM_REFUSED_BANK, RDRAM_RD, 0x80000000u, 0, FULL},
+        {"WRA bank 32", RDRAM_REFUSED_BANK, RDRAM_WRA, 32, 0, FULL},
+        {"RDA bank 32", RDRAM_REFUSED_BANK, RDRAM_RDA, 32, 0, FULL},
         {"ACT row 300 of 300", RDRAM_REFUSED_ROW, RDRAM_ACT, 0, 300, 0},
         {"ACT row 512", RDRAM_REFUSED_ROW, RDRAM_ACT, 0, 512, 0},
         {"WR column 100 of 100", RDRAM_REFUSED_COLUMN, RDRAM_WR, 0, 100, FULL},
         {"RD column 128", RDRAM_REFUSED_COLUMN, RDRAM_RD, 0, 128, FULL},
+        {"WRA column 100 of 100", RDRAM_REFUSED_COLUMN, RDRAM_WRA, 0, 100, FULL},
+        {"RDA column 100 of 100", RDRAM_REFUSED_COLUMN, RDRAM_RDA, 0, 100, FULL},
         {"RD mask 10000", RDRAM_REFUSED_WORD, RDRAM_RD, 0, 0, 0x10000},
+        {"RDA mask 10000", RDRAM_REFUSED_WORD, RDRAM_RDA, 0, 0, 0x10000},
         {"NOCOP mask 2^32 - 1", RDRAM_REFUSED_WORD, RDRAM_NOCOP, 0, 0, UINT32_MAX},
         {"ACT with a mask", RDRAM_REFUSED_WORD, RDRAM_ACT, 0, 0, 1},
         {"ACT with a full mask", RDRAM_REFUSED_WORD, RDRAM_ACT, 0, 0, FULL},
@@ -125,7 +134,7 @@ void test_word_refusals(void)
         {"REFA with a row", RDRAM_REFUSED_WORD, RDRAM_REFA, 0, 1, 0},
         {"REFP with a row", RDRAM_REFUSED_WORD, RDRAM_REFP, 0, 1, 0},
         {"NOCOP bank 32", RDRAM_REFUSED_BANK, RDRAM_NOCOP, 32, 0, FULL},
-        {"command 7 bank 32", RDRAM_REFUSED_BANK, 7, 32, 0, 0},
+        {"command 9 bank 32", RDRAM_REFUSED_BANK, 9, 32, 0, 0},
         {"bank 32 before row 300", RDRAM_REFUSED_BANK, RDRAM_ACT, 32, 300, 0},
         {"row 300 before a mask", RDRAM_REFUSED_ROW, RDRAM_ACT, 0, 300, 1},
         {"column 100 before mask 10000", RDRAM_REFUSED_COLUMN, RDRAM_WR, 0, 100, 0x10000},
@@ -171,7 +180,9 @@ void test_packet_refusals(void)
         {"the zero under the bank", RDRAM_KIND_COL, rd | (uint64_t)1 << 28},
         {"column 100 of 100", RDRAM_KIND_COL, col_word(5, 3, RDRAM_RD, 100, FULL)},
         {"COP 2", RDRAM_KIND_COL, rd ^ 0x20000},
-        {"COP 7", RDRAM_KIND_COL, rd | 0x80000},
+        {"COP 4", RDRAM_KIND_COL, rd ^ 0xE0000},
+        {"COP 6", RDRAM_KIND_COL, rd ^ 0xA0000},
+        {"COP 15", RDRAM_KIND_COL, rd | 0x180000},
         {"M = 1 with a full mask", RDRAM_KIND_COL, rd | 0x1FFFF},
         {"XOP 1", RDRAM_KIND_COL, rd | 1},
         {"the six zeros", RDRAM_KIND_COL, rd | 0x20},

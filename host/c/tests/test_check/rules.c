@@ -57,6 +57,22 @@ void test_passing_lists(void)
          "25 NOCOP 0 0 8000, 29 RD 0 3"),
         "4 ACT 0, 5 WR 0, 11 D, 9 WR 0, 15 D, 13 NOCOP, 17 RD 0",
         "4 ACT 0, 12 ACT 20, 14 WR 0, 20 D, 18 WR 20, 24 D, 22 NOCOP, 26 PRER 0",
+        /* implied PRERs: by an RDA, by the retire of a WRA, and by both in turn */
+        "4 ACT 0, 20 RDA 0",
+        "4 ACT 0, 5 WRA 0, 11 D, 20 NOCOP",
+        "4 ACT 0, 12 ACT 5, 14 WRA 0, 20 D, 28 RDA 5, 36 NOCOP",
+        "999999900 ACT 0, 999999992 RDA 0",
+        "999999900 ACT 0, 999999985 WRA 0, 999999991 D, 999999996 NOCOP",
+        /* a ROW packet at the implied instant; ACT and PRER near; COL packets before it */
+        "4 ACT 0, 20 RDA 0, 24 ACT 20",
+        "4 ACT 0, 20 RDA 0, 32 ACT 0",
+        "4 ACT 0, 20 RDA 0, 32 PRER 1",
+        "4 ACT 0, 12 ACT 5, 28 RDA 5, 32 RD 0, 36 RDA 0",
+        "4 PRER 20, 9 ACT 0, 25 RDA 0, 29 NOCOP",
+        /* a WR that retires a WRA of another bank; writes beside and after others */
+        "4 ACT 0, 12 ACT 20, 16 WRA 0, 22 D, 24 WR 20 1 0003, 30 D",
+        "4 ACT 0, 5 WR 0, 11 D, 9 WRA 0, 15 D, 13 NOCOP 0 0 0003, 20 NOCOP",
+        "4 ACT 0, 5 WR 0, 11 D, 13 WRA 0 0 0003, 19 D, 17 RD 0, 21 NOCOP",
     };
     for (size_t i = 0; i < COUNT(LISTS); i++) {
         use_list(LISTS[i]);
@@ -144,6 +160,39 @@ void test_single_rules(void)
         {16, "4 ACT 0, 5 WR 0, 11 D, 12 WR 0 0 0003"},
         {16, "4 ACT 0, 13 RD 0 0 0000"},
         {16, "4 ACT 0, 5 WR 0, 11 D, 13 RD 0 0 0003"},
+        /* implied PRERs, and rule 17 */
+        {1, "999999900 ACT 0, 999999993 RDA 0"},
+        {1, "999999900 ACT 0, 999999995 WRA 0"},
+        {1, "999999900 ACT 0, 999999985 WRA 0, 999999991 D, 999999997 NOCOP"},
+        {6, "4 ACT 0, 19 RDA 0"},
+        {6, "4 ACT 0, 5 WRA 0, 11 D, 19 NOCOP"},
+        {7, "4 ACT 0, 30 RDA 0, 41 ACT 1"},
+        {7, "4 ACT 0, 30 RDA 0, 41 REFA 0"},
+        {8, "4 ACT 0, 20 PRER 20, 23 RDA 0"},
+        {8, "4 ACT 0, 20 RDA 0, 31 PRER 20"},
+        {8, "4 ACT 0, 12 ACT 5, 28 RDA 5, 35 RDA 0"},
+        {8, "4 ACT 0, 12 ACT 5, 14 WRA 0, 20 D, 28 RDA 5, 35 NOCOP"},
+        {9, "4 ACT 0, 20 RDA 0, 24 RD 0"},
+        {9, "4 ACT 0, 20 RDA 0, 26 WR 0"},
+        {9, "4 ACT 0, 5 WRA 0, 11 D, 20 NOCOP, 24 RD 0"},
+        {9, "4 ACT 0, 13 WRA 0, 19 D, 21 WR 0"},
+        {9, "4 ACT 0, 13 WRA 0, 19 D, 21 WRA 0"},
+        {10, "4 ACT 0, 4 WRA 0"},
+        {12, "4 ACT 0, 5 WRA 0, 11 D, 12 NOCOP"},
+        {12, "4 ACT 0, 5 WR 0, 11 D, 9 WRA 0, 15 D, 13 RD 0"},
+        {14, "4 ACT 0, 13 WR 0, 19 D, 20 RDA 0"},
+        {14, "4 ACT 0, 13 WRA 0, 19 D, 20 RDA 0"},
+        {15, "4 ACT 0, 5 WRA 0, 12 D"},
+        {15, "4 ACT 0, 5 WRA 0, 20 NOCOP"},
+        {16, "4 ACT 0, 20 RDA 0 0 0003"},
+        {16, "4 ACT 0, 5 WRA 0 0 0003"},
+        {17, "4 ACT 0, 5 WRA 0, 11 D, 12 ACT 20"},
+        {17, "4 ACT 0, 5 WRA 0, 11 D, 8 PRER 20"},
+        {17, "4 ACT 0, 12 ACT 20, 16 WRA 0, 22 D, 20 WR 20"},
+        {17, "4 ACT 0, 5 WR 0, 11 D, 9 WRA 0 1, 15 D, 13 WR 0 2"},
+        {17, "4 ACT 0, 5 WR 0, 11 D, 9 WRA 0 1, 15 D, 13 NOCOP, 16 REFP 20"},
+        {17, "4 ACT 0, 20 RDA 0, 23 ACT 20"},
+        {17, "4 ACT 0, 5 WRA 0, 11 D, 20 NOCOP, 23 REFA 20"},
     };
     for (size_t i = 0; i < COUNT(LISTS); i++)
         test_broken_list(&LISTS[i]);
@@ -173,6 +222,13 @@ void test_several_rules(void)
         {12, "4 ACT 0, 5 WR 0, 11 D, 9 WR 0, 13 RD 0"},           /* 15 */
         {13, "4 ACT 0, 19 WR 0, 25 D, 27 WR 0, 33 D, 30 PRER 0"}, /* 14 */
         {15, "4 ACT 0, 5 WR 0, 13 RD 0 0 0003"},                  /* 16 */
+        {1, "999999900 ACT 0, 999999985 WRA 0, 1000000000 NOCOP"}, /* 15 */
+        {6, "4 ACT 0, 13 RDA 0 0 0003"},                          /* 16 */
+        {6, "4 ACT 0, 13 WRA 0, 19 D, 19 RDA 0"},                 /* 14 */
+        {7, "4 ACT 0, 30 RDA 0, 33 ACT 1"},                       /* 17 */
+        {8, "4 PRER 20, 5 RDA 0"},                                /* 9 */
+        {8, "4 ACT 0, 20 RDA 0, 23 PRER 20"},                     /* 17 */
+        {15, "4 ACT 0, 5 WRA 0, 12 ACT 20"},                      /* 17 */
     };
     for (size_t i = 0; i < COUNT(LISTS); i++)
         test_broken_list(&LISTS[i]);
@@ -203,6 +259,33 @@ void test_timings(void)
     check(both_are(RDRAM_REFUSED_RULE, 12, 5), "a third write 63 after the first, under tRTR 64");
     use_figure(6, 63);
     check(both_are(0, 0, 0), "a third write 63 after the first, under tRTR 63");
+    /* an implied PRER: tRDP and tRTP, but from its own read or retire, and tOFFP */
+    static const struct {
+        int figure, value;
+        uint32_t rule;
+        const char *text;
+    } IMPLIED[] = {
+        {7, 30, 13, "4 ACT 0, 13 RD 0, 38 RDA 0"},
+        {7, 30, 0, "4 ACT 0, 13 RD 0, 39 RDA 0"},
+        {7, 64, 0, "4 ACT 0, 20 RDA 0"},
+        {8, 30, 13, "4 ACT 0, 5 WR 0, 11 D, 13 NOCOP, 38 RDA 0"},
+        {8, 30, 0, "4 ACT 0, 5 WR 0, 11 D, 13 NOCOP, 39 RDA 0"},
+        {8, 30, 13, "4 ACT 0, 5 WR 0, 11 D, 13 WRA 0, 19 D, 38 NOCOP"},
+        {8, 64, 0, "4 ACT 0, 5 WRA 0, 11 D, 20 NOCOP"},
+        {8, 30, 8, "4 ACT 0, 5 WRA 0, 11 D, 20 NOCOP, 31 PRER 0"},
+        {8, 30, 13, "4 ACT 0, 5 WRA 0, 11 D, 20 NOCOP, 49 PRER 0"},
+        {T_OFFP, 32, 0, "4 ACT 0, 13 RDA 0, 45 ACT 20"},
+        {T_OFFP, 32, 17, "4 ACT 0, 13 RDA 0, 44 ACT 20"},
+        {T_OFFP, 32, 1, "999999900 ACT 0, 999999969 RDA 0"},
+        {T_OFFP, 32, 0, "999999900 ACT 0, 999999968 RDA 0"},
+    };
+    for (size_t i = 0; i < COUNT(IMPLIED); i++) {
+        uint32_t rule = IMPLIED[i].rule;
+        use_list(IMPLIED[i].text);
+        use_figure(IMPLIED[i].figure, (unsigned)IMPLIED[i].value);
+        check(rule ? both_are(RDRAM_REFUSED_RULE, rule, records - 1) : both_are(0, 0, 0), "rule %" PRIu32 ": %s", rule,
+              IMPLIED[i].text);
+    }
     use_list("4 ACT 0, 13 RD 0");
     use_figure(15, 1); /* device */
     check(both_are(RDRAM_REFUSED_WORD, 0, 0), "a list of another device");
@@ -225,6 +308,7 @@ void test_cores(void)
         {{0, 9, 0}, "4 ACT 15, 24 PRER 16, 40 RD 15"},
         {{0, 13, 0}, "4 ACT 15, 21 RD 15, 24 PRER 16"},
         {{0, 14, 0}, "4 ACT 15, 13 WR 15, 19 D, 24 REFP 16"},
+        {{0, 7, 0}, "4 ACT 15, 30 RDA 15, 41 ACT 16"},
         /* other banks that follow each other are such in both */
         {{4, 4, 0}, "4 ACT 0, 12 ACT 1"},
         {{4, 4, 0}, "4 ACT 1, 12 REFA 0"},

@@ -33,7 +33,7 @@ static void draw_log(size_t count, unsigned device) {
             put_packet(record, draw(1000000), 0, row_word(device, bank, commands[command], command ? 0 : draw(2)));
             word |= 1u << bank;
         } else if (kind < 4) {
-            put_packet(record, draw(1000000), 1, col_word(device, bank, kind == 2 ? RDRAM_WR : RDRAM_RD, draw(4), draw(2) ? FULL : draw(0xFFFF)));
+            put_packet(record, draw(1000000), 1, col_word(device, bank, RDRAM_WR + draw(4), draw(4), draw(2) ? FULL : draw(0xFFFF)));
             word |= 1u << bank;
         } else if (kind == 4) {
             put_packet(record, draw(1000000), 1, col_word(device, 0, RDRAM_NOCOP, 0, draw(2) ? FULL : draw(0xFFFF)));

@@ -16,6 +16,7 @@ _Static_assert(offsetof(rdram_stepped, bytes) == 12, "layout of rdram_stepped");
 int main(void)
 {
     test_runs();
+    test_closing_runs();
     test_rules();
     test_cores();
     test_places();
@@ -23,9 +24,11 @@ int main(void)
     test_refresh_rows();
     test_fresh();
     test_state();
+    test_closing_states();
     test_refused_states();
     test_no_write();
     test_second_write();
+    test_closing_flags();
     test_stored_instants();
     test_unused_bytes();
     test_states_by_core();

@@ -56,6 +56,31 @@ void test_runs(void)
     check(store_right(), "store after a write of mask 0");
 }
 
+/* RDA and WRA: the bank is closed after the read, or after the retire. */
+void test_closing_runs(void)
+{
+    run("4 ACT 0 1, 19 RDA 0 2: rule 6, 20 RDA 0 2: reads, 24 RD 0: rule 9, 23 ACT 20: rule 17, 24 ACT 20, "
+        "31 PRER 0: rule 8, 32 ACT 0, 41 RD 0: reads");
+    run("4 ACT 0 1, 5 WRA 0 2, 11 D, 12 ACT 20: rule 17, 13 RD 0 2: reads, 17 RDA 0: rule 6, 19 NOCOP: rule 6, "
+        "20 RDA 0: rule 14, 20 NOCOP 0 0 0F0F: wrote 8, 26 WR 0: rule 9, 32 ACT 0 1, 41 RD 0 2: reads");
+    want_write(0, 1, 2, 0x0F0F, 11);
+    check(store_right(), "store after a WRA");
+    /* beside a plain write, which retires first */
+    run("4 ACT 0, 5 WR 0, 11 D, 9 WRA 0, 15 D, 13 WR 0: rule 17, 13 NOCOP 0 0 0003: wrote 2, 19 NOCOP: rule 6, "
+        "20 NOCOP 0 0 0006: wrote 2, 24 RD 0: rule 9, 32 ACT 0, 41 RD 0: reads");
+    want_write(0, 0, 0, 0x0003, 11);
+    want_write(0, 0, 0, 0x0006, 15);
+    check(store_right(), "store after a WRA beside a WR");
+    /* a WR of another bank retires it, one of its own finds the bank closed */
+    run("4 ACT 0, 12 ACT 20, 16 WRA 0, 22 D, 23 WR 20: rule 17, 24 WR 0: rule 9, 24 WRA 20 1 8000: wrote 1, 30 D, "
+        "28 RD 0: rule 9, 28 RD 20 1: reads, 32 RDA 20: rule 14, 32 NOCOP: wrote 16, 35 ACT 4: rule 17, 36 ACT 4");
+    want_write(0, 0, 0, 0x8000, 22);
+    want_write(20, 0, 1, 0xFFFF, 30);
+    check(store_right(), "store after two WRA");
+    run("999999900 ACT 0, 999999993 RDA 0: rule 1, 999999985 WRA 0, 999999991 D, 999999997 NOCOP: rule 1, "
+        "999999996 NOCOP: wrote 16");
+}
+
 void test_rules(void)
 {
     static const char *const RUNS[] = {

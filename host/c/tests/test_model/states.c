@@ -51,6 +51,32 @@ void test_state(void)
     check(state_is(model, MODEL, LATEST, COUNT(LATEST)), "state at the last instants");
 }
 
+void test_closing_states(void)
+{
+    static const field WAITING[] = {AT(8, 4), AT(136, 4), {644, 2, 2}, AT(704, 5), AT(708, 4), AT(712, 5),
+                                    {728, 1, 1}, {736, 1, 2}, {737, 1, 3}, {738, 2, 1}, AT(740, 5), DATA_11};
+    run("4 ACT 2 1, 5 WRA 2 3, 11 D");
+    check(state_is(model, MODEL, WAITING, COUNT(WAITING)), "state with a waiting WRA");
+    static const field RETIRED[] = {AT(8, 4), AT(136, 4), AT(264, 24), AT(520, 20), AT(704, 20), AT(708, 4),
+                                    AT(712, 20), AT(716, 24), AT(724, 24)};
+    run_more("20 NOCOP: wrote 16");
+    check(state_is(model, MODEL, RETIRED, COUNT(RETIRED)), "state once the WRA has retired");
+    static const field TWO_WAIT[] = {AT(8, 4), AT(136, 4), {644, 2, 2}, AT(704, 9), AT(708, 4), AT(712, 9),
+                                     {728, 1, 2}, {736, 1, 2}, {737, 1, 3}, AT(740, 5), {744, 1, 2}, {745, 1, 1},
+                                     {746, 2, 1}, AT(748, 9), DATA_11, DATA_15(776)};
+    run("4 ACT 2 1, 5 WR 2 3, 11 D, 9 WRA 2 1, 15 D");
+    check(state_is(model, MODEL, TWO_WAIT, COUNT(TWO_WAIT)), "state with a WRA beside a waiting WR");
+    static const field ONE_LEFT[] = {AT(8, 4), AT(136, 4), AT(520, 13), {644, 2, 2}, AT(704, 13), AT(708, 4),
+                                     AT(712, 13), {728, 1, 1}, {736, 1, 2}, {737, 1, 1}, {738, 2, 1}, AT(740, 9),
+                                     DATA_15(760), DATA_15(776)};
+    run_more("13 NOCOP: wrote 16");
+    check(state_is(model, MODEL, ONE_LEFT, COUNT(ONE_LEFT)), "state with the WRA left");
+    static const field READ[] = {AT(8, 4), AT(136, 4), AT(264, 24), AT(392, 20), AT(704, 20), AT(708, 4), AT(712, 20),
+                                 AT(716, 24), AT(720, 20), AT(724, 24)};
+    run("4 ACT 2 1, 20 RDA 2: reads");
+    check(state_is(model, MODEL, READ, COUNT(READ)), "state after an RDA");
+}
+
 /* States with bank 2 open on row 1: no write, one with data due, one that waits, two with data due, two that wait. */
 static uint8_t none_waits[MODEL], is_due[MODEL], waits[MODEL], second_due[MODEL], two_wait[MODEL];
 
@@ -158,6 +184,31 @@ void test_second_write(void)
     check(model[729] == 0, "the data of the newer write are due again, and come");
 }
 
+/* Whether a waiting write is a WRA: 0 or 1, and 0 where none waits. */
+void test_closing_flags(void)
+{
+    static const uint64_t BAD[] = {2, 3, 255, 256, 257, 65535};
+    make_states();
+    for (size_t i = 0; i < COUNT(BAD); i++) {
+        field older = {738, 2, BAD[i]}, newer = {746, 2, BAD[i]};
+        check(refused_with(waits, older) && refused_with(two_wait, older) && refused_with(two_wait, newer)
+                  && refused_with(none_waits, older) && refused_with(none_waits, newer),
+              "%" PRIu64 " in the place of a WRA's flag", BAD[i]);
+    }
+    check(refused_with(none_waits, (field){738, 2, 1}) && refused_with(waits, (field){746, 2, 1}),
+          "a WRA where none waits");
+    /* a waiting write that is made a WRA: no ROW packet before its retire, which closes the bank */
+    use_state(waits, (field){738, 2, 1});
+    run_more("12 PRER 20: rule 17, 20 NOCOP: wrote 16, 24 RD 2: rule 9, 23 PRER 20: rule 8, 32 PRER 20");
+    use_state(two_wait, (field){746, 2, 1});
+    run_more("12 PRER 20: rule 17, 13 NOCOP: wrote 16, 20 NOCOP: wrote 16, 24 RD 2: rule 9");
+    /* no run makes these: a write waits behind a WRA, in its bank */
+    use_state(two_wait, (field){738, 2, 1});
+    run_more("12 PRER 20: rule 17, 20 NOCOP: rule 14, 20 WR 2: rule 9");
+    put(model + 746, 1, 2);
+    run_more("12 PRER 20: rule 17, 20 NOCOP: rule 14, 20 WR 2: rule 9");
+}
+
 /* Every last instant and those of the waiting writes at and beyond the ends of their range. */
 void test_stored_instants(void)
 {
@@ -180,6 +231,7 @@ void test_stored_instants(void)
     check(comes_back_with(waits, (field){0, 4, 0}) && comes_back_with(waits, (field){0, 4, 1}), "the first instants");
     check(comes_back_with(waits, (field){636, 4, LAST - 3}), "the last instant of a bank");
     check(comes_back_with(waits, (field){720, 4, LAST - 3}), "the last instant of an RD");
+    check(comes_back_with(waits, (field){724, 4, LAST - 3}), "the last instant of an implied PRER");
     check(comes_back_with(waits, (field){740, 4, 1}), "the first instant of a WR");
     check(comes_back_with(waits, (field){740, 4, LAST - 3}), "the last instant of a WR");
 }
@@ -187,7 +239,7 @@ void test_stored_instants(void)
 /* Each bit of the bytes that no field uses. */
 void test_unused_bytes(void)
 {
-    static const int PARTS[][2] = {UNUSED, {754, 6}};
+    static const int PARTS[][2] = {UNUSED, {739, 1}, {747, 1}, {754, 6}};
     make_states();
     for (size_t i = 0; i < COUNT(PARTS); i++)
         for (int byte = PARTS[i][0]; byte < PARTS[i][0] + PARTS[i][1]; byte++) {

@@ -55,6 +55,7 @@ void run(const char *text);
 
 /* runs.c */
 void test_runs(void);
+void test_closing_runs(void);
 void test_rules(void);
 void test_cores(void);
 void test_places(void);
@@ -64,9 +65,11 @@ void test_refresh_rows(void);
 /* states.c */
 void test_fresh(void);
 void test_state(void);
+void test_closing_states(void);
 void test_refused_states(void);
 void test_no_write(void);
 void test_second_write(void);
+void test_closing_flags(void);
 void test_stored_instants(void);
 void test_unused_bytes(void);
 void test_states_by_core(void);

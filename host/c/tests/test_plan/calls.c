@@ -17,7 +17,7 @@ void put_data(uint8_t *to, unsigned n)
 
 void use_request(const char *text)
 {
-    static const char *const NAMES[] = {"read", "write", "refresh", "wait", "flush", "close"};
+    static const char *const NAMES[] = {"read", "write", "refresh", "wait", "flush", "close", "reada", "writea"};
     unsigned bank = 0, row = 0, column = 0, mask = 0;
     char name[8] = "";
     sscanf(text, " %7[a-z] %u %u %u %x", name, &bank, &row, &column, &mask);
@@ -32,7 +32,7 @@ void use_request(const char *text)
     put(request + 2, row, 2);
     put(request + 4, column, 1);
     put(request + 6, mask, 2);
-    if (request[0] == RDRAM_REQUEST_WRITE)
+    if (request[0] == RDRAM_REQUEST_WRITE || request[0] == RDRAM_REQUEST_WRITE_CLOSE)
         put_data(request + 8, writes++);
 }
 

@@ -1,9 +1,10 @@
 /*
  * Tests of rdram_planner_fresh, rdram_plan and rdram_plan_all through rdram.h. Prints one line
  * for each failed check and last the line 'N passed, M failed'. Requests are
- * written as kind, bank, row, column and mask, or a wait's cycles; lists as in
- * the listings of document 01: instant, name, bank, row or column, mask where
- * M = 1. Numbers at the end may be left out where they are 0.
+ * written as kind, bank, row, column and mask, or a wait's cycles, where reada
+ * and writea are read and close, write and close; lists as in the listings of
+ * document 01: instant, name, bank, row or column, mask where M = 1. Numbers at
+ * the end may be left out where they are 0.
  */
 #include "test_plan.h"
 
@@ -17,10 +18,12 @@ _Static_assert(offsetof(rdram_planned_all, records) == 16, "layout of rdram_plan
 int main(void)
 {
     test_runs();
+    test_closing_runs();
     test_timings();
     test_refresh_banks();
     test_fresh();
     test_state();
+    test_closing_states();
     test_refused_states();
     test_no_write();
     test_second_write();

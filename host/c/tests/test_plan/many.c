@@ -88,15 +88,17 @@ static int refuses_all(uint32_t number, size_t planner_len, size_t requests_len,
 /* Requests of every kind. After the second one a write waits, until the flush. */
 static const char STREAM[] =
     "read 0 0 1, write 0 0 1 0003, write 4 1 2 FFFF, read 4 1 3, wait 7, write 9 0 0 8001, refresh, write 31 1 3 0, "
-    "read 31 1 2, write 2 0 0 0F0F, flush, close";
+    "reada 20 1 2, read 31 1 2, write 2 0 0 0F0F, flush, reada 2 0 1, writea 31 0 1 00FF, writea 2 1 0 FFFF, close";
+#define STREAM_REQUESTS 16
 #define WAITS_AFTER 1
+#define FLUSH_AT 11
 
 /* The stream again and again, with every room up to the one that it needs. */
 void test_many(void)
 {
     begin();
     size_t count = use_requests(STREAM);
-    check(like_singles(count, LONG, 0, count), "the stream");
+    check(count == STREAM_REQUESTS && like_singles(count, LONG, 0, count), "the stream");
     size_t needed = RECORD * in_turn(count, LONG).records;
     check(like_singles(count, LONG, 0, count) && like_singles(count, LONG, 0, count), "the stream twice more");
     begin();
@@ -121,13 +123,13 @@ void test_many_stops(void)
     } BAD[] = {
         {3, "refresh 1"}, {4, "read 32 0 0"}, {5, "write 0 2 0 1"}, {6, "read 0 0 4"}, {7, "wait 4294967295"}, {15, "close"}};
     for (size_t i = 0; i < COUNT(BAD); i++)
-        for (size_t at = BAD[i].number == 15 ? WAITS_AFTER + 1 : 0; at <= 9; at++) {
+        for (size_t at = BAD[i].number == 15 ? WAITS_AFTER + 1 : 0; at <= FLUSH_AT; at++) {
             begin();
             size_t count = use_requests(STREAM);
             insert(count, at, BAD[i].text);
             check(like_singles(count + 1, LONG, BAD[i].number, at), "stop %" PRIu32 " at %zu", BAD[i].number, at);
         }
-    for (size_t at = 0; at < 12; at++) {
+    for (size_t at = 0; at < STREAM_REQUESTS; at++) {
         begin();
         size_t count = use_requests(STREAM);
         requests[REQUEST * at] = 200;
@@ -198,8 +200,8 @@ void test_many_refused(void)
 void test_many_late(void)
 {
     for (unsigned cycles = 999999900; cycles <= 999999996; cycles += 8) {
-        char text[80];
-        snprintf(text, sizeof text, "wait %u, read 0, write 4 1 1 0003, read 9, flush, close", cycles);
+        char text[100];
+        snprintf(text, sizeof text, "wait %u, reada 0, write 4 1 1 0003, writea 9 0 0 FFFF, read 9, flush, close", cycles);
         begin();
         size_t count = use_requests(text);
         rdram_planned_all wanted = in_turn(count, LONG);

@@ -13,6 +13,8 @@ void test_requests(void)
         /* several faults: the first of 3, 4, 5, 6 */
         {3, "read 32 2 4 1"}, {4, "read 32 2 4"}, {5, "read 31 2 4"},
         {3, "refresh 1"}, {3, "refresh 32"}, {3, "flush 0 0 1"}, {3, "close 32"},
+        {4, "reada 32 0 0"}, {4, "writea 255 0 0 FFFF"}, {5, "reada 0 2 0"}, {5, "writea 0 65535 0 1"},
+        {6, "reada 0 0 4"}, {6, "writea 31 1 255 0"}, {3, "reada 32 2 4 1"}, {4, "reada 32 2 4"}, {5, "writea 31 2 4"},
         /* the write waits: after 2 to 6, before the horizon and the room */
         {15, "close"}};
     for (size_t i = 0; i < COUNT(PLACES); i++) {
@@ -20,7 +22,7 @@ void test_requests(void)
         check(refuses(PLACES[i].number, PLANNER, REQUEST, ROOM), "refusal %" PRIu32 ": %s", PLACES[i].number,
               PLACES[i].text);
     }
-    for (int kind = 6; kind < 256; kind++) {
+    for (int kind = 8; kind < 256; kind++) {
         use_request("read 0 0 0");
         request[0] = (uint8_t)kind;
         request[23] = (uint8_t)kind; /* the kind before the spare bytes */
@@ -30,18 +32,20 @@ void test_requests(void)
 
 static int uses(int kind, int byte)
 {
+    int writes = kind == RDRAM_REQUEST_WRITE || kind == RDRAM_REQUEST_WRITE_CLOSE;
     if (byte >= 1 && byte <= 4)
-        return kind <= RDRAM_REQUEST_WRITE;
+        return writes || kind == RDRAM_REQUEST_READ || kind == RDRAM_REQUEST_READ_CLOSE;
     if (byte >= 8 && byte <= 11)
-        return kind == RDRAM_REQUEST_WRITE || kind == RDRAM_REQUEST_WAIT;
-    return byte == 0 || (byte != 5 && kind == RDRAM_REQUEST_WRITE);
+        return writes || kind == RDRAM_REQUEST_WAIT;
+    return byte == 0 || (byte != 5 && writes);
 }
 
 void test_spare_bytes(void)
 {
-    static const char *const KINDS[] = {"read 0 0 0", "write 0 0 0 1", "refresh", "wait 1", "flush", "close"};
+    static const char *const KINDS[] = {"read 0 0 0", "write 0 0 0 1", "refresh",    "wait 1",
+                                        "flush",      "close",         "reada 0 0 0", "writea 0 0 0 1"};
     begin();
-    for (int kind = 0; kind <= RDRAM_REQUEST_CLOSE; kind++)
+    for (int kind = 0; kind <= RDRAM_REQUEST_WRITE_CLOSE; kind++)
         for (int byte = 0; byte < REQUEST; byte++)
             if (!uses(kind, byte)) {
                 use_request(KINDS[kind]);
@@ -65,7 +69,7 @@ void test_lengths(void)
             ok &= refuses(RDRAM_REFUSED_SETTINGS, length, REQUEST, ROOM);
     check(ok, "planners of another length");
     check(refuses(RDRAM_REFUSED_SETTINGS, PLANNER - 1, REQUEST - 1, 0), "the planner before the request");
-    request[0] = 6;
+    request[0] = 8;
     check(refuses(RDRAM_REFUSED_LENGTH, PLANNER, REQUEST - 1, 0), "the length before the kind");
 }
 
@@ -121,20 +125,24 @@ void test_unretired(void)
     check(refuses(RDRAM_REFUSED_HORIZON, PLANNER, REQUEST, ROOM), "a flush past the last instant");
 }
 
-/* After a wait of so many cycles the request is accepted, and after one more refused. */
+/* Under this tOFFP the request is accepted after a wait of so many cycles, and refused after one more. */
 void test_horizon(void)
 {
     static const struct {
-        unsigned cycles;
+        unsigned cycles, offp;
         const char *text;
     } LATEST[] = {
-        {999999996, "wait 0"}, {999999995, "wait 1"}, {999999979, "read 0 0 0"}, {999999989, "write 0 0 0 0"},
-        {999999976, "refresh"}};
+        {999999996, 4, "wait 0"}, {999999995, 4, "wait 1"}, {999999979, 4, "read 0 0 0"},
+        {999999989, 4, "write 0 0 0 0"}, {999999976, 4, "refresh"},
+        /* its data, or the implied PRER, at the last instant: RDA 20 or 13, NOCOP 20 or 13 after a fresh planner */
+        {999999972, 4, "reada 0 0 0"}, {999999955, 32, "reada 0 0 0"},
+        {999999976, 4, "writea 0 0 0 0"}, {999999955, 32, "writea 0 0 0 0"}};
     char text[40];
     for (size_t i = 0; i < COUNT(LATEST); i++)
         for (unsigned late = 0; late < 2; late++) {
             snprintf(text, sizeof text, "wait %u", LATEST[i].cycles + late);
             begin();
+            use_figure(T_OFFP, LATEST[i].offp);
             use_request(text);
             if (LATEST[i].cycles + late > 999999996) {
                 check(refuses(RDRAM_REFUSED_HORIZON, PLANNER, REQUEST, ROOM), "%s", text);
@@ -142,8 +150,8 @@ void test_horizon(void)
             }
             check(accepts(0), "%s", text);
             use_request(LATEST[i].text);
-            check(late ? refuses(RDRAM_REFUSED_HORIZON, PLANNER, REQUEST, 0) : accepts(ROOM), "%s, %s", text,
-                  LATEST[i].text);
+            check(late ? refuses(RDRAM_REFUSED_HORIZON, PLANNER, REQUEST, 0) : accepts(ROOM), "%s, %s, tOFFP %u", text,
+                  LATEST[i].text, LATEST[i].offp);
         }
     begin();
     use_request("wait 4294967295");

@@ -83,6 +83,44 @@ void test_runs(void)
     }
 }
 
+/* Read and close, write and close. */
+void test_closing_runs(void)
+{
+    static const run RUNS[] = {
+        {"reada 0", "4 ACT 0, 20 RDA 0"},
+        {"writea 0 0 0 FFFF", "4 ACT 0, 5 WRA 0, 11 D, 20 NOCOP"},
+        /* The next ACT: at the implied PRER, or tRP after it for the bank and its neighbours. */
+        {"writea 0 0 0 FFFF, read 4", "4 ACT 0, 5 WRA 0, 11 D, 20 NOCOP, 24 ACT 4, 33 RD 4"},
+        {"writea 0 0 0 FFFF, read 0 1", "4 ACT 0, 5 WRA 0, 11 D, 20 NOCOP, 32 ACT 0 1, 41 RD 0"},
+        {"reada 14, read 15", "4 ACT 14, 20 RDA 14, 32 ACT 15, 41 RD 15"},
+        {"reada 15, read 16", "4 ACT 15, 20 RDA 15, 24 ACT 16, 33 RD 16"},
+        {"reada 0, refresh", "4 ACT 0, 20 RDA 0, 32 REFA 0, 52 REFP 0"},
+        {"reada 0, reada 4, reada 8", "4 ACT 0, 20 RDA 0, 24 ACT 4, 40 RDA 4, 44 ACT 8, 60 RDA 8"},
+        /* A closing write before and after the waiting one is due. */
+        {"write 0 0 0 0003, writea 0 0 1 FFFF",
+         "4 ACT 0, 5 WR 0 0, 11 D, 9 WRA 0 1, 15 D, 13 NOCOP 0 0 0003, 20 NOCOP"},
+        {"write 0 0 0 0003, wait 8, writea 0 0 1 FFFF",
+         "4 ACT 0, 5 WR 0 0, 11 D, 13 WRA 0 1 0003, 19 D, 21 NOCOP"},
+        /* NOCOPs before an RDA: for a write in its bank, of another column too, and for the older of two elsewhere. */
+        {"write 0 0 0 0003, reada 0 0 1", "4 ACT 0, 5 WR 0 0, 11 D, 13 NOCOP 0 0 0003, 20 RDA 0 1"},
+        {"read 0, write 4 0 0 0003, write 4 0 1 0006, reada 0",
+         "4 ACT 0, 13 RD 0, 13 ACT 4, 19 WR 4, 25 D, 23 WR 4 1, 29 D, 27 NOCOP 0 0 0003, 31 RDA 0"},
+        {"read 0, write 0 0 0 0003, write 0 0 1 0006, reada 0 0 2",
+         "4 ACT 0, 13 RD 0, 19 WR 0, 25 D, 23 WR 0 1, 29 D, 27 NOCOP 0 0 0003, 31 NOCOP 0 0 0006, 35 RDA 0 2"},
+        /* The bank is closed: a close has the others left, at tPP after the implied PRER. */
+        {"read 0, reada 0, close", "4 ACT 0, 13 RD 0, 20 RDA 0"},
+        {"read 0, read 4, reada 0, close", "4 ACT 0, 13 RD 0, 13 ACT 4, 22 RD 4, 26 RDA 0, 38 PRER 4"},
+        /* Eight records: both neighbours open, each with a waiting write. */
+        {"read 5, read 7, write 5 0 0 0003, write 7 0 0 0006, writea 6 1 2 000C",
+         "4 ACT 5, 13 RD 5, 13 ACT 7, 22 RD 7, 28 WR 5, 34 D, 32 WR 7, 38 D, 36 NOCOP 0 0 0003, 40 PRER 5, "
+         "40 NOCOP 0 0 0006, 48 PRER 7, 56 ACT 6 1, 57 WRA 6 2, 63 D, 72 NOCOP 0 0 000C"},
+    };
+    for (size_t i = 0; i < COUNT(RUNS); i++) {
+        check(plan_all(RUNS[i].requests), "accepted: %s", RUNS[i].requests);
+        test_list(&RUNS[i]);
+    }
+}
+
 /* Set H with one or two other timings, which then decide. */
 void test_timings(void)
 {
@@ -109,6 +147,22 @@ void test_timings(void)
         {10, 12, 11, 1, {"read 0, write 0 0 0 1", "4 ACT 0, 13 RD 0, 28 WR 0, 29 D"}}, /* tCAC, tCWD */
         {7, 30, 7, 30, {"read 0, close", "4 ACT 0, 13 RD 0, 43 PRER 0"}}, /* tRDP */
         {8, 30, 8, 30, {"write 0, flush, close", "4 ACT 0, 5 WR 0, 11 D, 13 NOCOP 0 0 0000, 43 PRER 0"}}, /* tRTP */
+        /* tOFFP: the implied PRER later, so that RDA and NOCOP are earlier and the next ACT later */
+        {T_OFFP, 32, T_OFFP, 32, {"reada 0, read 4", "4 ACT 0, 13 RDA 0, 45 ACT 4, 54 RD 4"}},
+        {T_OFFP, 32, T_OFFP, 32, {"writea 0, read 0", "4 ACT 0, 5 WRA 0, 11 D, 13 NOCOP 0 0 0000, 53 ACT 0, 62 RD 0"}},
+        {T_OFFP, 11, T_OFFP, 11, {"reada 0", "4 ACT 0, 13 RDA 0"}},
+        {T_OFFP, 10, T_OFFP, 10, {"reada 0", "4 ACT 0, 14 RDA 0"}},
+        /* what an implied PRER keeps: tRAS, tRP, tPP, and tRDP and tRTP but from its own read or retire */
+        {1, 64, 1, 64, {"reada 0", "4 ACT 0, 64 RDA 0"}},
+        {1, 64, 1, 64, {"writea 0", "4 ACT 0, 5 WRA 0, 11 D, 64 NOCOP 0 0 0000"}},
+        {2, 30, 2, 30, {"reada 0, read 0 1", "4 ACT 0, 20 RDA 0, 54 ACT 0 1, 63 RD 0"}},
+        {3, 40, 3, 40, {"reada 0, reada 4", "4 ACT 0, 20 RDA 0, 24 ACT 4, 60 RDA 4"}},
+        {7, 64, 7, 64, {"reada 0", "4 ACT 0, 20 RDA 0"}},
+        {7, 64, 7, 64, {"read 0, reada 0", "4 ACT 0, 13 RD 0, 73 RDA 0"}},
+        {8, 64, 8, 64, {"writea 0", "4 ACT 0, 5 WRA 0, 11 D, 20 NOCOP 0 0 0000"}},
+        {8, 30, 8, 30,
+         {"write 0, wait 8, writea 0", "4 ACT 0, 5 WR 0, 11 D, 13 WRA 0 0 0000, 19 D, 39 NOCOP 0 0 0000"}},
+        {8, 30, 8, 30, {"write 0, reada 0", "4 ACT 0, 5 WR 0, 11 D, 13 NOCOP 0 0 0000, 39 RDA 0"}},
     };
     for (size_t i = 0; i < COUNT(RUNS); i++) {
         begin();
@@ -142,6 +196,9 @@ void test_cores(void)
         {0, {"read 15, read 16", "4 ACT 15, 13 RD 15, 13 ACT 16, 22 RD 16"}},
         {1, {"read 15, read 16", "4 ACT 15, 13 RD 15, 24 PRER 15, 32 ACT 16, 41 RD 16"}},
         {2, {"read 15, read 16", "4 ACT 15, 13 RD 15, 13 ACT 16, 22 RD 16"}},
+        /* an implied PRER and a neighbour */
+        {1, {"reada 15, read 16", "4 ACT 15, 20 RDA 15, 32 ACT 16, 41 RD 16"}},
+        {2, {"reada 0, read 1", "4 ACT 0, 20 RDA 0, 24 ACT 1, 33 RD 1"}},
         /* a refresh beside an open neighbour */
         {0, {"read 1, refresh", "4 ACT 1, 13 RD 1, 24 PRER 1, 32 REFA 0, 52 REFP 0"}},
         {1, {"read 1, refresh", "4 ACT 1, 13 RD 1, 24 PRER 1, 32 REFA 0, 52 REFP 0"}},

@@ -57,6 +57,28 @@ void test_state(void)
     check(state_is(planner, PLANNER, LATEST, COUNT(LATEST)), "state at the last instant");
 }
 
+void test_closing_states(void)
+{
+    /* ACT 2 at 4, RDA at 20, its PRER at 24 */
+    static const field READ[] = {
+        AT(8, 4), AT(136, 4), AT(264, 24), AT(392, 20), AT(704, 20), AT(708, 4), AT(712, 20), AT(716, 24), AT(720, 20),
+        AT(724, 24), AT(752, 20)};
+    plan_all("reada 2 1 3");
+    check(state_is(planner, PLANNER, READ, COUNT(READ)), "state after a closing read");
+    /* ACT 2 at 4, WRA at 5, NOCOP at 20, its PRER at 24 */
+    static const field WRITTEN[] = {
+        AT(8, 4), AT(136, 4), AT(264, 24), AT(520, 20), AT(704, 20), AT(708, 4), AT(712, 20), AT(716, 24), AT(724, 24),
+        AT(752, 20)};
+    plan_all("writea 2 1 3 00FF");
+    check(state_is(planner, PLANNER, WRITTEN, COUNT(WRITTEN)), "state after a closing write");
+    /* ACT 2 at 4, WR at 5, WRA at 9, NOCOPs at 13 and 20; ACT 0 at 24, RD at 33, PRER at 44 */
+    static const field MORE[] = {
+        AT(0, 24), AT(8, 4), AT(128, 24), AT(136, 4), AT(256, 44), AT(264, 24), AT(384, 33), AT(520, 20), AT(704, 44),
+        AT(708, 44), AT(712, 33), AT(716, 44), AT(720, 33), AT(724, 24), AT(752, 44), {760, 2, 6}, {762, 2, 6}};
+    plan_all("write 2 1 3 0003, writea 2 1 0 0006, read 0, close");
+    check(state_is(planner, PLANNER, MORE, COUNT(MORE)), "state after a closing write beside another, and a close");
+}
+
 /* States with bank 0 open on row 0, and with one write waiting in it, two, or none. */
 static uint8_t waits[PLANNER], two_wait[PLANNER], none_waits[PLANNER];
 
@@ -99,6 +121,8 @@ void test_refused_states(void)
         {640, 2, 0}, {642, 2, 1}, {736, 1, 1}, {736, 1, 32}, {736, 1, 255},
         /* how many writes wait; data due; the column */
         {728, 1, 0}, {728, 1, 2}, {728, 1, 255}, {729, 1, 1}, {729, 1, 2}, {729, 1, 255}, {737, 1, 4}, {737, 1, 255},
+        /* a WRA that waits, and what is no flag */
+        {738, 2, 1}, {738, 2, 2}, {738, 2, 256}, {738, 2, 65535}, {746, 2, 1},
         /* no instant of the waiting write, no now; the refresh bank */
         {740, 4, 0}, {752, 4, 0}, {756, 2, 32}, {756, 2, 256}, {756, 2, 65535}};
     static const field GOOD[] = {
@@ -117,7 +141,8 @@ void test_second_write(void)
 {
     static const field BAD[] = {
         {640, 2, 0}, {640, 2, 65535}, {728, 1, 0}, {728, 1, 1}, {728, 1, 3}, {729, 1, 1}, {736, 1, 2}, {736, 1, 32},
-        {740, 4, 0}, {744, 1, 1}, {744, 1, 2}, {744, 1, 32}, {744, 1, 255}, {745, 1, 4}, {745, 1, 255}, {748, 4, 0}};
+        {740, 4, 0}, {744, 1, 1}, {744, 1, 2}, {744, 1, 32}, {744, 1, 255}, {745, 1, 4}, {745, 1, 255}, {748, 4, 0},
+        {738, 2, 1}, {746, 2, 1}, {746, 2, 2}};
     static const field GOOD[] = {
         {640, 2, 2}, {737, 1, 3}, {740, 4, LAST - 3}, {745, 1, 0}, {745, 1, 3}, {748, 4, 1}, {762, 2, 65535}};
     static const field NONE[] = {{744, 1, 1}, {744, 1, 32}, {745, 1, 1}, {748, 4, 1}, {748, 4, LAST}};
@@ -162,10 +187,10 @@ void test_stored_instants(void)
     }
 }
 
-/* Each bit of the bytes that no field uses. */
+/* Each bit of the bytes that no field uses, and of those that say a WRA waits. */
 void test_unused_bytes(void)
 {
-    static const int PARTS[][2] = {UNUSED, {758, 2}, {764, 4}};
+    static const int PARTS[][2] = {UNUSED, {738, 2}, {746, 2}, {758, 2}, {764, 4}};
     make_states();
     for (size_t i = 0; i < COUNT(PARTS); i++)
         for (int byte = PARTS[i][0]; byte < PARTS[i][0] + PARTS[i][1]; byte++) {

@@ -46,6 +46,7 @@ int list_passes(void);
 
 /* runs.c */
 void test_runs(void);
+void test_closing_runs(void);
 void test_timings(void);
 void test_refresh_banks(void);
 void test_cores(void);
@@ -55,6 +56,7 @@ void test_banks(void);
 /* states.c */
 void test_fresh(void);
 void test_state(void);
+void test_closing_states(void);
 void test_refused_states(void);
 void test_no_write(void);
 void test_second_write(void);

@@ -66,6 +66,27 @@ impl Size {
         })
     }
 
+    /// Any places, each closed again: half of them reads.
+    fn close_pages(&self) -> Vec<Bytes> {
+        let mut x = 0x0F1E_2D3C_4B5A_6978;
+        let (rows, columns) = (self.rows as u64, self.columns as u64);
+        self.stream(|i| {
+            let (bank, row) = (below(&mut x, 32) as u8, below(&mut x, rows) as u16);
+            let (column, mask) = (below(&mut x, columns) as u8, below(&mut x, 0x10000) as u16);
+            if below(&mut x, 2) == 0 {
+                return Request::ReadClose { bank, row, column };
+            }
+            let data = [i as u8; 16];
+            Request::WriteClose {
+                bank,
+                row,
+                column,
+                mask,
+                data,
+            }
+        })
+    }
+
     /// A refresh after every read.
     fn refreshes(&self) -> Vec<Bytes> {
         let mut x = 0x1234_5678_9ABC_DEF1;
@@ -111,7 +132,7 @@ pub const SINGLES: [(&str, Request); 3] = [
 ];
 
 /// Each stream with its name; at least four rows.
-pub fn all(settings: &Settings, requests: usize) -> [(&'static str, Vec<Bytes>); 5] {
+pub fn all(settings: &Settings, requests: usize) -> [(&'static str, Vec<Bytes>); 6] {
     let size = Size {
         rows: settings.rows.into(),
         columns: settings.columns.into(),
@@ -123,5 +144,6 @@ pub fn all(settings: &Settings, requests: usize) -> [(&'static str, Vec<Bytes>);
         ("full writes", size.full_writes()),
         ("random", size.random_places()),
         ("refreshes", size.refreshes()),
+        ("close pages", size.close_pages()),
     ]
 }

@@ -14,5 +14,7 @@ pub mod tuned_plan;
 pub mod tuned_records;
 #[path = "../../tests/compare/tuned_requests.rs"]
 pub mod tuned_requests;
+#[path = "../../tests/compare/tuned_rules.rs"]
+pub mod tuned_rules;
 #[path = "../../tests/compare/tuned_state.rs"]
 pub mod tuned_state;

@@ -34,7 +34,7 @@ fn number_of<T>(answer: &Result<T, Refused>) -> u32 {
 
 /// The settings as the wrapper's struct, where it can hold them.
 pub fn typed(settings: &[u8]) -> Option<Settings> {
-    if settings.len() != 32 || settings[24..26] != [0, 0] {
+    if settings.len() != 32 {
         return None;
     }
     let n = |i: usize| u16::from_le_bytes([settings[2 * i], settings[2 * i + 1]]);
@@ -57,6 +57,7 @@ pub fn typed(settings: &[u8]) -> Option<Settings> {
         t_cc: n(9),
         t_cac: n(10),
         t_cwd: n(11),
+        t_offp: n(12),
         rows: n(13),
         columns: n(14),
         device: settings[30],
@@ -86,6 +87,16 @@ fn typed_packet(p: Fields) -> Option<Packet> {
             mask,
         }),
         (6, ..) => Some(Packet::Rd {
+            bank,
+            column: column?,
+            mask,
+        }),
+        (7, ..) => Some(Packet::Wra {
+            bank,
+            column: column?,
+            mask,
+        }),
+        (8, ..) => Some(Packet::Rda {
             bank,
             column: column?,
             mask,

@@ -1,7 +1,7 @@
 //! Flat memory (document 01, "Flat memory and whole runs"): an array that is fed the plan calls. It
-//! sees neither planner nor packets.
+//! sees neither planner nor packets, and a read or write with close is to it one without.
 
-use crate::plan_streams::{READ, WRITE};
+use crate::plan_streams::{READ, READ_CLOSE, WRITE, WRITE_CLOSE};
 use crate::reference::{number, COLUMNS, ROWS};
 
 pub struct FlatMemory {
@@ -35,11 +35,11 @@ impl FlatMemory {
             return None;
         }
         match request[0] {
-            READ => {
+            READ | READ_CLOSE => {
                 let at = self.place(request);
                 Some(self.bytes[at..at + 16].try_into().unwrap())
             }
-            WRITE => {
+            WRITE | WRITE_CLOSE => {
                 let (at, mask) = (self.place(request), number(&request[6..8]));
                 for i in (0..16).filter(|i| mask >> i & 1 == 1) {
                     self.bytes[at + i] = request[8 + i];

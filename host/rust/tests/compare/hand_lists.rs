@@ -2,12 +2,15 @@
 //! listings: instant, name, bank, row or column, mask where M = 1; numbers at the end may be left
 //! out where they are 0.
 
+use crate::closing;
 use crate::lists::{list_bytes, Item};
 use crate::random::{bytes, set_h};
 use crate::reference::{blocks, Fields, NOCOP};
 use crate::rule_calls::{check, check_both, check_log, Verdicts};
 
-const NAMES: [&str; 7] = ["ACT", "PRER", "REFA", "REFP", "NOCOP", "WR", "RD"];
+const NAMES: [&str; 9] = [
+    "ACT", "PRER", "REFA", "REFP", "NOCOP", "WR", "RD", "WRA", "RDA",
+];
 
 pub fn item(line: &str) -> Item {
     let fields: Vec<&str> = line.split_whitespace().collect();
@@ -204,7 +207,7 @@ const MORE: [(u32, &str); 20] = [
 #[test]
 fn lists_that_pass() {
     let mut seen = Verdicts::default();
-    for text in PASS {
+    for text in PASS.into_iter().chain(closing::PASS) {
         let (settings, list) = set_h_list(text);
         assert_eq!(check_both(&mut seen, &settings, &list).number, 0, "{text}");
     }
@@ -229,7 +232,7 @@ fn broken(seen: &mut Verdicts, rule: u32, single: bool, text: &str) {
 #[test]
 fn one_rule_broken() {
     let mut seen = Verdicts::default();
-    for (rule, text) in ONE {
+    for (rule, text) in ONE.into_iter().chain(closing::ONE) {
         broken(&mut seen, rule, true, text);
     }
     seen.report("rules, lists by hand that break one", &[11]);
@@ -239,7 +242,7 @@ fn one_rule_broken() {
 #[test]
 fn more_rules_broken() {
     let mut seen = Verdicts::default();
-    for (rule, text) in MORE {
+    for (rule, text) in MORE.into_iter().chain(closing::MORE) {
         broken(&mut seen, rule, false, text);
     }
     seen.report("rules, lists by hand that break more", &[11]);

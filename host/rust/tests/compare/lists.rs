@@ -1,8 +1,9 @@
 //! Lists for the rules: legal ones from a generator, and changes of them.
 
 use crate::random::{bytes, Random};
-use crate::reference::{self, Fields, ACT, COLUMNS, NOCOP, PRER, RD, REFA, REFP, WR};
+use crate::reference::{self, Fields, ACT, COLUMNS, NOCOP, PRER, RD, RDA, REFA, REFP, WR, WRA};
 use crate::reference_rules::{self as rules, Bank, Step, Timings};
+use crate::reference_steps::is_wra;
 
 pub const LAST: u32 = 1_000_000_000;
 
@@ -71,7 +72,8 @@ impl Maker {
         let open = |b: &u32| rules::bank(&self.steps, *b) == Bank::Open;
         let open: Vec<u32> = (0..32).filter(open).collect();
         if !open.is_empty() && random.chance(2) {
-            let (command, column) = (random.pick(&[WR, WR, RD, NOCOP]), self.numbers[COLUMNS] - 1);
+            let commands = [WR, WR, RD, NOCOP, WRA, RDA];
+            let (command, column) = (random.pick(&commands), self.numbers[COLUMNS] - 1);
             let place = if command == NOCOP { 0 } else { column.into() };
             p = Fields {
                 command,
@@ -80,21 +82,26 @@ impl Maker {
                 mask: random.pick(&[0xFFFF, 0, 3, 0x8001]),
             };
         }
+        // Before the retire of a WRA little else may come.
+        let waiting = rules::waiting(&self.steps);
+        if waiting.iter().any(|(place, _)| is_wra(&self.steps[*place])) && random.chance(2) {
+            p = first_place(NOCOP, 0, random.pick(&[0xFFFF, 0, 3]));
+        }
         if p.command != NOCOP {
             let (any, often) = (random.below(32) as u32, random.pick(&self.banks));
             p.bank = random.pick(&[often, often, any]);
         }
-        if (p.command == RD || p.command == WR) && !open.is_empty() && !random.chance(8) {
+        if (p.reads() || p.writes()) && !open.is_empty() && !random.chance(8) {
             p.bank = random.pick(&open);
         }
         if (p.command == PRER || p.command == REFP) && !open.is_empty() && random.chance(2) {
             p.bank = (random.pick(&open) + random.pick(&[0, 0, 1, 31])) % 32;
         }
-        let waiting = rules::waiting(&self.steps).len();
+        let waiting = waiting.len();
         // A WR beside a single write may retire that one or not.
-        let retires = match p.command {
-            RD => false,
-            WR if waiting == 1 => random.chance(2),
+        let retires = match waiting {
+            _ if p.reads() => false,
+            1 if p.writes() => random.chance(2),
             _ => waiting > 0,
         };
         if p.command >= NOCOP && !retires && !random.chance(16) {
@@ -110,7 +117,7 @@ impl Maker {
             let delay = random.below(self.most_delay + 1) as u64;
             let at = rules::least(&self.t, &self.steps, p) + delay;
             if self.push(at, Some(p)) {
-                if p.command == WR {
+                if p.writes() {
                     assert!(self.push(at + self.t.cwd, None), "the D of a legal WR");
                 }
                 return true;
@@ -133,7 +140,7 @@ impl Maker {
     fn send(&mut self, command: u32, bank: u32) {
         let p = first_place(command, bank, 0xFFFF);
         let at = rules::least(&self.t, &self.steps, p);
-        if self.push(at, Some(p)) && command == WR {
+        if self.push(at, Some(p)) && p.writes() {
             self.push(at + self.t.cwd, None);
         }
     }
@@ -196,23 +203,24 @@ pub fn half_legal(random: &mut Random, numbers: &[u16; 16], packets: usize) -> V
     items
 }
 
-/// Two writes, to one bank or to two, as early as may be, and after them a record that waiting writes
-/// may forbid, at about the least instant that the distances allow.
+/// Two writes, to one bank or to two, as early as may be, a WRA among them or not, and after them a
+/// record that waiting writes may forbid, at about the least instant that the distances allow.
 pub fn over_writes(random: &mut Random, numbers: &[u16; 16]) -> Vec<Item> {
     let mut maker = Maker::new(random, numbers);
     let first = random.below(32) as u32;
     let banks = [first, (first + random.pick(&[0, 2, 16, 17])) % 32];
-    for command in [ACT, WR] {
-        banks.iter().for_each(|bank| maker.send(command, *bank));
-    }
+    banks.iter().for_each(|bank| maker.send(ACT, *bank));
+    let loads = random.pick(&[[WR, WR], [WR, WR], [WR, WRA], [WRA, WR]]);
+    let loads = banks.iter().zip(loads);
+    loads.for_each(|(bank, command)| maker.send(command, *bank));
     if random.chance(4) {
         maker.send(NOCOP, 0);
     }
-    let command = random.pick(&[NOCOP, WR, RD, PRER, PRER, REFP]);
+    let command = random.pick(&[NOCOP, WR, RD, WRA, RDA, PRER, PRER, REFP]);
     let beside = random.pick(&[0, 0, 1, 31]);
     let bank = match command {
         NOCOP => 0,
-        WR | RD => random.pick(&banks),
+        WR | RD | WRA | RDA => random.pick(&banks),
         _ => (random.pick(&banks) + beside) % 32,
     };
     let p = first_place(command, bank, random.pick(&[0xFFFF, 0xFFFF, 0, 3]));
@@ -220,6 +228,59 @@ pub fn over_writes(random: &mut Random, numbers: &[u16; 16]) -> Vec<Item> {
     let mut items = maker.items();
     items.push(Item {
         at: at - random.pick(&[0, 0, 0, 1, 2]),
+        packet: Some(p),
+    });
+    items
+}
+
+/// Two open banks, some packets, and a WRA or not; now and then at the end of time.
+fn before_implied(random: &mut Random, maker: &mut Maker, banks: [u32; 2], late: bool) {
+    if late {
+        let at = u64::from(LAST) - random.below(160) as u64;
+        maker.push(at, Some(first_place(ACT, banks[0], 0)));
+    }
+    banks.iter().for_each(|bank| maker.send(ACT, *bank));
+    for _ in 0..random.below(3) {
+        let command = random.pick(&[RD, WR, NOCOP, RDA, PRER]);
+        let apart = if command == PRER { 5 } else { 0 };
+        let bank = (random.pick(&banks) + apart) % 32;
+        maker.send(command, if command == NOCOP { 0 } else { bank });
+    }
+    if random.chance(2) {
+        maker.send(WRA, random.pick(&banks));
+    }
+}
+
+/// A packet that implies a PRER or comes after one, at about the least instant that the distances allow,
+/// or at that of which the PRER is at the end of time.
+pub fn over_implied(random: &mut Random, numbers: &[u16; 16]) -> Vec<Item> {
+    let mut maker = Maker::new(random, numbers);
+    let (first, late) = (random.below(32) as u32, random.chance(4));
+    let banks = [first, (first + random.pick(&[2, 16, 17])) % 32];
+    before_implied(random, &mut maker, banks, late);
+    let command = random.pick(&[RDA, NOCOP, NOCOP, WR, WRA, RD, ACT, PRER, REFA]);
+    let bank = match command {
+        NOCOP => 0,
+        ACT | PRER | REFA => (random.pick(&banks) + random.pick(&[0, 1, 5, 31])) % 32,
+        _ => random.pick(&banks),
+    };
+    let p = first_place(command, bank, 0xFFFF);
+    let least = |p| rules::least(&maker.t, &maker.steps, p) as u32;
+    // A WR that retires comes when a NOCOP may.
+    let at = if p.writes() && random.chance(2) {
+        least(p).max(least(first_place(NOCOP, 0, 0xFFFF)))
+    } else {
+        least(p)
+    };
+    let last = LAST - maker.t.offp as u32 + random.pick(&[0, 1, 2]);
+    let at = if late {
+        random.pick(&[at, last, last])
+    } else {
+        at
+    };
+    let mut items = maker.items();
+    items.push(Item {
+        at: at - random.pick(&[0, 0, 1, 1, 2, 4]),
         packet: Some(p),
     });
     items
@@ -248,9 +309,11 @@ fn other_packet(random: &mut Random, numbers: &[u16; 16], p: Fields) -> Fields {
         0 if p.command < NOCOP => {
             (changed.command, changed.place) = (random.pick(&[ACT, PRER, REFA, REFP]), 0);
         }
-        0 if p.command == NOCOP => (changed.command, changed.bank) = (WR, other.bank),
+        0 if p.command == NOCOP => {
+            (changed.command, changed.bank) = (random.pick(&[WR, WRA]), other.bank);
+        }
         0 => {
-            let command = random.pick(&[NOCOP, WR, RD]);
+            let command = random.pick(&[NOCOP, WR, RD, WRA, RDA]);
             changed.command = command;
             if command == NOCOP {
                 (changed.bank, changed.place) = (0, 0);

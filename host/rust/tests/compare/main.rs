@@ -4,6 +4,7 @@
 
 mod buffers;
 mod calls;
+mod closing;
 mod core_forms;
 mod flat_memory;
 mod hand_lists;
@@ -27,6 +28,7 @@ mod reference_model;
 mod reference_plan;
 mod reference_rules;
 mod reference_state;
+mod reference_steps;
 mod refusals;
 mod rule_calls;
 mod rule_settings;
@@ -37,7 +39,9 @@ mod tuned_model;
 mod tuned_plan;
 mod tuned_records;
 mod tuned_requests;
+mod tuned_rules;
 mod tuned_state;
 mod two_writes;
 mod whole_runs;
+mod whole_seen;
 mod words;

@@ -4,9 +4,11 @@
 use crate::buffers::{self, guarded, lent, pattern};
 use crate::calls::{typed, Seen as Numbers};
 use crate::random::{bytes, Random};
-use crate::reference::{figures, number, packet, COLUMNS, NOCOP, PRER, RD, REFA, ROWS, WR};
+use crate::reference::{
+    figures, number, packet, COLUMNS, NOCOP, PRER, RD, RDA, REFA, ROWS, WR, WRA,
+};
 use crate::reference_model::{self as reference, Event, STATE_BYTES};
-use crate::reference_state::WAITING;
+use crate::reference_state::{CLOSES, WAITING, WRITES};
 use crate::rule_settings::rule_numbers;
 use crate::tuned_model;
 use crate::tuned_records;
@@ -228,16 +230,16 @@ pub fn any_store(random: &mut Random, numbers: &[u16; 16]) -> Vec<u8> {
 #[derive(Default)]
 pub struct Seen {
     numbers: Numbers,
-    rules: [u64; 17],
+    rules: [u64; 18],
     /// Those in which the record breaks no other rule.
-    single: [u64; 17],
+    single: [u64; 18],
     /// Retires by the bytes that they wrote.
     retired: [u64; 17],
     shapes: [u64; Self::SHAPES.len()],
 }
 
 impl Seen {
-    const SHAPES: [&'static str; 13] = [
+    const SHAPES: [&'static str; 21] = [
         "neither",
         "RD",
         "RD while a write waits",
@@ -248,6 +250,14 @@ impl Seen {
         "retire of the older of two by NOCOP",
         "retire of the older of two by WR",
         "PRER while two wait",
+        "RDA",
+        "RDA while a write waits",
+        "RDA while a WRA waits",
+        "WRA",
+        "WRA beside another write",
+        "retire of a WRA by NOCOP",
+        "retire of a WRA by WR",
+        "RD while a WRA waits",
         "D",
         "REFA",
         "REFR starts again",
@@ -269,6 +279,7 @@ impl Seen {
         let waiting = run.reference.waiting();
         let own = p.is_some_and(|p| waiting.iter().any(|w| (w.0, w.1) == (p.bank, p.place)));
         let (now, then) = (waiting.len(), before[WAITING]);
+        let closing = before[WRITES[0] + CLOSES] == 1; // the older write
         let retires = matches!(event, Event::Retired(_));
         let refr = |state: &[u8]| number(&state[752..754]);
         let starts_again = refr(before) == f.rows - 1 && refr(&run.state) == 0;
@@ -283,6 +294,14 @@ impl Seen {
             is(NOCOP) && retires && then == 2,
             is(WR) && retires && then == 2,
             is(PRER) && now == 2,
+            is(RDA),
+            is(RDA) && now > 0,
+            is(RDA) && closing,
+            is(WRA),
+            is(WRA) && !retires && now == 2,
+            is(NOCOP) && retires && closing,
+            (is(WR) || is(WRA)) && retires && closing,
+            is(RD) && closing,
             p.is_none(),
             is(REFA),
             is(REFA) && p.is_some_and(|p| p.bank == 31) && starts_again,
@@ -305,7 +324,7 @@ impl Seen {
         println!("{name}: {}", shapes.join(", "));
         println!("{name}: retires by bytes: {:?}", self.retired);
         let rule = |n: usize| format!("{n}: {} ({})", self.rules[n], self.single[n]);
-        let rules: Vec<String> = (1..=16).map(rule).collect();
+        let rules: Vec<String> = (1..=17).map(rule).collect();
         println!("{name}: rules (as the only one): {}", rules.join(", "));
     }
 

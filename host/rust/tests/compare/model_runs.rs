@@ -1,11 +1,12 @@
 //! Short lists under set H, and what the model does with each record. A record is written as in the
 //! paper's listings: instant, name, bank, row or column, mask where M = 1.
 
+use crate::closing;
 use crate::hand_lists::{item, set_h_list, ONE, PASS};
 use crate::lists::list_bytes;
 use crate::model_calls::{Run, Seen};
 use crate::random::{bytes, set_h};
-use crate::reference::{Fields, NOCOP, RD};
+use crate::reference::{Fields, NOCOP};
 use crate::reference_model::Event;
 
 /// What becomes of a record.
@@ -21,7 +22,7 @@ use Becomes::{Breaks, Neither, Reads, Retires};
 type Lines = &'static [(&'static str, Becomes)];
 
 #[rustfmt::skip]
-const RUNS: [Lines; 15] = [
+const RUNS: [Lines; 18] = [
     // Run 1 of the paper.
     &[("4 ACT 0 0", Neither), ("13 RD 0 1", Reads(&[])), ("19 WR 0 1", Neither), ("25 D", Neither),
       ("27 NOCOP 0 0 0003", Retires(2)), ("31 RD 0 1", Reads(&[(3, 25)])), ("35 PRER 0", Neither),
@@ -84,6 +85,21 @@ const RUNS: [Lines; 15] = [
       ("21 RD 20 1", Reads(&[])), ("27 WR 20 2 FF00", Retires(8)), ("33 D", Neither),
       ("31 RD 0 1", Reads(&[(0xFF00, 11)])), ("35 NOCOP 0 0 00FF", Retires(8)),
       ("39 RD 20 2", Reads(&[(0x00FF, 33)]))],
+    // An RDA closes its bank, without a ROW packet; the next may come at its PRER.
+    &[("4 ACT 0 1", Neither), ("19 RDA 0 2", Breaks(6)), ("20 RDA 0 2", Reads(&[])), ("24 RD 0 2", Breaks(9)),
+      ("26 WR 0 2", Breaks(9)), ("23 ACT 20", Breaks(17)), ("24 ACT 20", Neither), ("31 PRER 0", Breaks(8)),
+      ("32 ACT 0 0", Neither), ("41 RD 0 2", Reads(&[]))],
+    // A WRA is retired by NOCOP, which closes its bank; until then NOCOP and RD come alone.
+    &[("4 ACT 0 1", Neither), ("5 WRA 0 2", Neither), ("12 ACT 20", Breaks(15)), ("11 D", Neither),
+      ("12 ACT 20", Breaks(17)), ("12 WR 0", Breaks(17)), ("13 RD 0 2", Reads(&[])), ("20 RDA 0", Breaks(14)),
+      ("19 NOCOP", Breaks(6)), ("20 NOCOP 0 0 0F0F", Retires(8)), ("26 WR 0", Breaks(9)),
+      ("32 ACT 0 1", Neither), ("41 RD 0 2", Reads(&[(0x0F0F, 11)]))],
+    // A WR of another bank retires a WRA; one of its own bank finds that closed. Then one beside a WR.
+    &[("4 ACT 0", Neither), ("12 ACT 20", Neither), ("16 WRA 0", Neither), ("22 D", Neither),
+      ("23 WR 20", Breaks(17)), ("24 WR 0", Breaks(9)), ("24 WR 20 1 8000", Retires(1)), ("30 D", Neither),
+      ("28 WRA 20 2", Neither), ("34 D", Neither), ("32 WR 20", Breaks(17)), ("31 PRER 0", Breaks(8)),
+      ("32 NOCOP", Retires(16)), ("36 RD 0", Breaks(9)), ("36 NOCOP 0 0 0000", Retires(0)),
+      ("36 ACT 0", Breaks(17)), ("40 ACT 0", Neither), ("49 RD 0", Reads(&[(0x8000, 22)]))],
     // M = 1 with a full mask is no word; RD with a mask breaks 16 also while a write waits.
     &[("4 ACT 0", Neither), ("5 WR 0", Neither), ("11 D", Neither), ("13 RD 0 0 0001", Breaks(16)),
       ("13 NOCOP 0 0 7FFF", Retires(15)), ("17 RD 0", Reads(&[(0x7FFF, 11)]))],
@@ -151,8 +167,9 @@ fn hand_runs() {
 #[test]
 fn lists_of_the_rules() {
     let mut seen = Seen::default();
-    let rules = ONE.iter().map(|(rule, text)| (*rule, *text));
-    for (rule, text) in PASS.iter().map(|text| (0, *text)).chain(rules) {
+    let rules = ONE.into_iter().chain(closing::ONE);
+    let passing = PASS.into_iter().chain(closing::PASS);
+    for (rule, text) in passing.map(|text| (0, text)).chain(rules) {
         let (_, list) = set_h_list(text);
         let mut run = Run::new(&set_h(2, 4, 0), first_store());
         let answers: Vec<_> = list
@@ -176,13 +193,13 @@ fn rooms() {
     let texts = [
         "4 ACT 0, 13 RD 0 1, 17 RD 0 2",
         "4 ACT 0, 5 WR 0 1, 11 D, 13 RD 0 1, 17 NOCOP, 21 RD 0 1, 24 PRER 9",
+        "4 ACT 0, 12 ACT 5, 14 WRA 0 1, 20 D, 28 RDA 5 1, 36 NOCOP",
     ];
     for text in texts {
         let mut run = Run::new(&numbers, first_store());
         for line in text.split(',') {
             let record = record(&settings, line);
-            let reads = |p: Fields| p.command == RD;
-            let need = if item(line).packet.is_some_and(reads) {
+            let need = if item(line).packet.is_some_and(Fields::reads) {
                 16
             } else {
                 0

@@ -7,14 +7,14 @@ use crate::lists::{legal, list_bytes, Item, LAST};
 use crate::model_calls::{any_store, compare, fresh, small_numbers, wanted, Case, Run, Seen};
 use crate::random::{bytes, rounds, set_h, with_core, Random};
 use crate::reference::{
-    device_and_core, Fields, ACT, COLUMNS, CORES, NOCOP, PRER, REFA, ROWS, T_CWD, WR,
+    device_and_core, Fields, ACT, COLUMNS, CORES, NOCOP, PRER, REFA, ROWS, T_CWD,
 };
 use crate::reference_model::{state_fits, STATE_BYTES};
 use crate::reference_rules::near;
-use crate::reference_state::{instant, newest, put, put_writes, tag, DUE, WAITING};
+use crate::reference_state::{instant, newest, put, put_writes, tag, CLOSES, DUE, WAITING, WRITES};
 use crate::state_bytes::{
-    any_counts, are_neighbours, assert_every_byte, ends, fields, pairs_of_banks, unused, Field,
-    Instants, UNUSED,
+    any_counts, any_flags, are_neighbours, assert_every_byte, ends, fields, pairs_of_banks, unused,
+    Field, Instants, TWO, UNUSED,
 };
 use rdram::raw::rdram_model_fresh;
 use std::ops::Range;
@@ -127,7 +127,7 @@ fn unused_bytes() {
     for _ in 0..20 {
         let numbers = small_numbers(&mut random);
         let (run, record) = (reached(&mut random, &numbers), late_prer(&numbers, 9));
-        for at in UNUSED.into_iter().flatten().chain(OWN_UNUSED) {
+        for at in UNUSED.chain(OWN_UNUSED) {
             for bit in 0..8 {
                 let mut damaged = run.state.clone();
                 damaged[at] = 1 << bit;
@@ -221,7 +221,7 @@ fn banks_of_the_waiting_writes() {
             .into_iter()
             .flat_map(|due| [0, 1, 2, 3, 65_535].map(|t| (due, t)))
         {
-            let (write, other) = ((bank, 0, 4), (9, 3, 8));
+            let (write, other) = ((bank, 0, 4, false), (9, 3, 8, false));
             for writes in [vec![write], vec![write, other], vec![other, write]] {
                 let mut state = fresh();
                 put_writes(&mut state, &writes, due);
@@ -244,7 +244,7 @@ fn counts_of_writes() {
     for (count, due, writes) in any_counts() {
         let mut state = fresh();
         put(&mut state, 640, 2, 1);
-        put_writes(&mut state, &[(0, 3, 4), (0, 2, 8)][..writes], false);
+        put_writes(&mut state, &TWO[..writes], false);
         (state[WAITING], state[DUE]) = (count, due);
         let answer = call(&numbers, &state, &store, &late_prer(&numbers, 9));
         let want = match (count, due) {
@@ -254,6 +254,25 @@ fn counts_of_writes() {
             _ => Err((1, 0)),
         };
         assert_eq!(answer, want, "{count} writes, due {due}, {writes}");
+    }
+}
+
+/// Whether a waiting write is a WRA, so that no ROW packet comes; 0 where none waits.
+#[test]
+fn flags_of_writes() {
+    let (numbers, store) = (set_h(2, 4, 0), vec![3; 4096]);
+    for (flag, at, writes) in any_flags() {
+        let mut state = fresh();
+        put(&mut state, 640, 2, 1);
+        put_writes(&mut state, &TWO[..writes], false);
+        put(&mut state, WRITES[at] + CLOSES, 2, flag);
+        let answer = call(&numbers, &state, &store, &late_prer(&numbers, 9));
+        let want = match flag {
+            0 => Ok(0),
+            1 if at < writes => Err((11, 17)),
+            _ => Err((1, 0)),
+        };
+        assert_eq!(answer, want, "{flag}, {at}, {writes}");
     }
 }
 
@@ -282,7 +301,7 @@ fn any_state(random: &mut Random, numbers: &[u16; 16]) -> Vec<u8> {
     let instants = Instants::new(random, 300, 60);
     instants.put_lasts(random, &mut state);
     let open = any_banks(random, numbers, &mut state);
-    let writes = instants.writes(random, &open, numbers[COLUMNS]);
+    let writes = instants.writes(random, &open, numbers[COLUMNS], true);
     let due = !writes.is_empty() && random.chance(3);
     put_writes(&mut state, &writes, due);
     let refr = random.below(numbers[ROWS].into());
@@ -294,7 +313,7 @@ fn any_state(random: &mut Random, numbers: &[u16; 16]) -> Vec<u8> {
 /// A record at an instant that some field of the state decides, give or take.
 fn any_record(random: &mut Random, numbers: &[u16; 16], state: &[u8]) -> Vec<u8> {
     let field = |at: usize| instant(state, at) as u32;
-    let latest = (0..640).chain(704..724).step_by(4).map(field);
+    let latest = (0..640).chain(704..728).step_by(4).map(field);
     let latest = latest.filter(|at| *at <= LAST).max().unwrap_or(4);
     let mut packet = random.packet(numbers);
     let open: Vec<u32> = (0..32)
@@ -318,7 +337,7 @@ fn any_record(random: &mut Random, numbers: &[u16; 16], state: &[u8]) -> Vec<u8>
         let at = (newest(state) as u32).wrapping_add(t_cwd);
         return record(numbers, at.wrapping_add(u32::from(random.chance(8))), None);
     }
-    if packet.command == WR && random.chance(16) {
+    if packet.writes() && random.chance(16) {
         return record(numbers, (newest(state) as u32).wrapping_add(t_cwd), None);
     }
     let late = latest.wrapping_add(random.below(80) as u32);
@@ -332,7 +351,7 @@ fn any_record(random: &mut Random, numbers: &[u16; 16], state: &[u8]) -> Vec<u8>
 #[test]
 fn any_states() {
     let (mut seen, mut random) = (Numbers::default(), Random::new(93));
-    let mut rules = [0; 17];
+    let mut rules = [0; 18];
     for _ in 0..rounds(80_000) {
         let numbers = small_numbers(&mut random);
         let (state, store) = (

@@ -2,10 +2,11 @@
 
 use crate::plan_calls::{Run, Seen, ENOUGH};
 use crate::plan_streams::{
-    bare, most_banks, read, wait, write, Maker, CLOSE, FLUSH, READ, REFRESH, WAIT, WRITE,
+    bare, closing, most_banks, read, wait, write, Maker, CLOSE, FLUSH, READ, READ_CLOSE, REFRESH,
+    WRITE_CLOSE,
 };
 use crate::random::{rounds, set_h, with_core, Random};
-use crate::reference::{device_and_core, COLUMNS, CORES, ROWS};
+use crate::reference::{device_and_core, COLUMNS, CORES, ROWS, T_OFFP};
 use crate::reference_state::{put, LAST, WAITING};
 use crate::rule_settings::{rule_numbers, SettingsSeen, T_CC, T_RTR};
 
@@ -39,6 +40,7 @@ fn random_streams() {
     // 7 where damage made a long wait.
     seen.report(name, &[0, 2, 3, 4, 5, 6, 7, 8, 13, 15]);
     seen.all_kinds();
+    seen.all_most();
     seen.all_counts();
     settings_seen.report(name);
 }
@@ -180,6 +182,8 @@ fn prefixes() -> Vec<Vec<Vec<u8>>> {
         vec![bare(REFRESH), part(1, 1, 3), wait(1)],
         vec![part(0, 0, 1), full(0, 0, 1)],
         vec![read(2, 0, 0), full(0, 0, 2), part(2, 0, 3)],
+        vec![closing(read(0, 0, 1))],
+        vec![read(2, 0, 0), closing(part(0, 0, 1))],
     ]
 }
 
@@ -196,17 +200,25 @@ fn one_of_each_kind() -> Vec<Vec<u8>> {
         wait(u32::MAX),
         bare(FLUSH),
         bare(CLOSE),
+        closing(read(1, 0, 0)),
+        closing(read(0, 0, 1)),
+        closing(write(1, 1, 3, 0xFFFF, &[7; 16])),
+        closing(write(0, 0, 1, 0x8001, &[8; 16])),
     ]
 }
 
+/// Under the least and the largest tOFFP.
 #[test]
 fn every_distance_to_the_horizon() {
     let mut seen = Seen::default();
+    let settings = CORES.into_iter().flat_map(|core| [(core, 4), (core, 32)]);
     let runs = prefixes()
         .into_iter()
-        .flat_map(|p| CORES.map(|core| (p.clone(), core)));
-    for (prefix, core) in runs {
-        let mut run = Run::new(&with_core(set_h(2, 4, 0), core));
+        .flat_map(|p| settings.clone().map(move |s| (p.clone(), s)));
+    for (prefix, (core, offp)) in runs {
+        let mut numbers = with_core(set_h(2, 4, 0), core);
+        numbers[T_OFFP] = offp;
+        let mut run = Run::new(&numbers);
         for request in &prefix {
             run.call(&mut seen, request, ENOUGH).unwrap();
         }
@@ -235,7 +247,7 @@ fn damaged_requests() {
             for request in &prefix {
                 _ = run.call(&mut seen, request, ENOUGH);
             }
-            for kind in [READ, WRITE, REFRESH, WAIT, FLUSH, CLOSE] {
+            for kind in READ..=WRITE_CLOSE {
                 damage_each_byte(&mut random, &mut seen, &run, &bare(kind));
             }
         }
@@ -247,7 +259,7 @@ fn damaged_requests() {
 fn damage_each_byte(random: &mut Random, seen: &mut Seen, run: &Run, request: &[u8]) {
     for byte in 0..24 {
         let any = random.word() as u8;
-        for value in [1, 2, 3, 4, 5, 6, 31, 32, 127, 128, 255, any] {
+        for value in [1, 2, 3, 4, 5, 6, 7, 8, 31, 32, 127, 128, 255, any] {
             let mut damaged = request.to_vec();
             damaged[byte] = value;
             _ = run.clone().call(seen, &damaged, ENOUGH);
@@ -295,7 +307,7 @@ fn order_of_refusals() {
     run.call(&mut seen, &wait(LAST as u32 - 4), 0).unwrap();
     let fault = |request: &mut Vec<u8>, number: u32| match number {
         13 => request.push(0),
-        2 => request[0] = 6,
+        2 => request[0] = 8,
         3 => request[5] = 1,
         4 => request[1] = 32,
         5 => put(request, 2, 2, 2),
@@ -304,8 +316,8 @@ fn order_of_refusals() {
     };
     // At the last instant no read is in time, and a room of 0 has no space for one.
     let order = [13, 2, 3, 4, 5, 6, 7];
-    for first in 0..order.len() {
-        let mut request = bare(READ);
+    for (first, kind) in (0..order.len()).flat_map(|i| [READ, READ_CLOSE].map(|kind| (i, kind))) {
+        let mut request = bare(kind);
         order[first..].iter().for_each(|n| fault(&mut request, *n));
         let answer = run.call(&mut seen, &request, 0);
         assert_eq!(answer, Err(order[first]));

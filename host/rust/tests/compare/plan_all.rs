@@ -4,9 +4,10 @@
 use crate::buffers::{guarded, lent, pattern};
 use crate::calls::{typed, Seen};
 use crate::plan_calls::{fresh, refusal, ENOUGH};
-use crate::plan_streams::{bare, read, wait, write, Maker, CLOSE, FLUSH, REFRESH};
+use crate::plan_streams::{bare, closing, read, wait, write, Maker, CLOSE, FLUSH, REFRESH};
 use crate::random::{bytes, rounds, set_h, with_core, Random};
 use crate::reference_plan::{state_fits, Planner as Reference, STATE_BYTES};
+use crate::reference_state::WAITING;
 use rdram::{raw, PlannedAll, Planner};
 
 /// What a call must answer and leave: number, position, records and the next state.
@@ -185,7 +186,8 @@ impl Bench {
     }
 }
 
-/// Requests of every kind; from the second on a write waits.
+/// Requests of every kind but close. A write waits after most of them, none after one that closes its
+/// bank.
 fn stream() -> Vec<Vec<u8>> {
     vec![
         read(0, 0, 1),
@@ -196,8 +198,14 @@ fn stream() -> Vec<Vec<u8>> {
         write(9, 0, 0, 0x8001, &[3; 16]),
         bare(REFRESH),
         write(31, 1, 3, 0, &[4; 16]),
+        closing(read(20, 1, 2)),
         read(31, 1, 2),
+        closing(write(31, 1, 0, 0x00FF, &[6; 16])),
+        closing(write(31, 0, 1, 0xFFFF, &[7; 16])),
+        bare(FLUSH),
         write(2, 0, 0, 0x0F0F, &[5; 16]),
+        closing(read(2, 0, 1)),
+        write(2, 1, 0, 0x3C3C, &[8; 16]),
     ]
 }
 
@@ -223,9 +231,11 @@ fn stops() {
             for at in 0..=stream().len() {
                 let mut requests = stream();
                 requests.insert(at, request.clone());
-                let mut bench = Bench::new(&with_core(set_h(2, 4, 0), core));
-                let want = bench.call(&mut seen, &requests.concat(), 16 * ENOUGH);
-                if *number != 15 || at > 1 {
+                let numbers = with_core(set_h(2, 4, 0), core);
+                let want = Bench::new(&numbers).call(&mut seen, &requests.concat(), 16 * ENOUGH);
+                let before = requests[..at].concat();
+                let left = Bench::new(&numbers).call(&mut seen, &before, 16 * ENOUGH);
+                if *number != 15 || left.state[WAITING] > 0 {
                     assert_eq!((want.number, want.place), (*number, at));
                 }
             }
@@ -296,9 +306,12 @@ fn long_files() {
         let mut requests = wait(start);
         for i in 0..80_000 {
             let (bank, column) = (i / 1000 % 32, i % 4);
-            requests.extend(match i % 7 {
-                6 => write(bank as u8, 0, column as u8, 0xF00F, &[i as u8; 16]),
-                _ => read(bank as u8, 0, column as u8),
+            let (bank, column) = (bank as u8, column as u8);
+            requests.extend(match i % 11 {
+                10 => closing(write(bank, 0, column, 0xF00F, &[i as u8; 16])),
+                9 => closing(read(bank, 0, column)),
+                6 => write(bank, 0, column, 0xF00F, &[i as u8; 16]),
+                _ => read(bank, 0, column),
             });
         }
         let case = Case {

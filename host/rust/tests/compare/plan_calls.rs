@@ -3,9 +3,9 @@
 
 use crate::buffers::{self, guarded, lent, pattern};
 use crate::calls::{typed, Seen as Numbers};
-use crate::plan_streams::{CLOSE, FLUSH, READ, REFRESH, WAIT, WRITE};
+use crate::plan_streams::{CLOSE, FLUSH, READ, READ_CLOSE, REFRESH, WAIT, WRITE, WRITE_CLOSE};
 use crate::random::bytes;
-use crate::reference::{NOCOP, PRER, RD, WR};
+use crate::reference::{NOCOP, PRER, RD, RDA, WR, WRA};
 use crate::reference_plan::{self as reference, STATE_BYTES};
 use crate::reference_state::{instant, tag, WAITING};
 use crate::tuned_plan;
@@ -48,6 +48,14 @@ fn typed_request(request: &[u8]) -> Option<Request> {
     let typed = match b[0] {
         0 => Request::Read { bank, row, column },
         1 => Request::Write {
+            bank,
+            row,
+            column,
+            mask: u16::from_le_bytes([b[6], b[7]]),
+            data: b[8..].try_into().unwrap(),
+        },
+        6 => Request::ReadClose { bank, row, column },
+        7 => Request::WriteClose {
             bank,
             row,
             column,
@@ -185,19 +193,26 @@ pub fn fresh() -> Vec<u8> {
 
 // ---- Runs ----
 
+/// The most records of a request, by kind; of a close without dependency.
+const MOST: [usize; 8] = [6, 7, 6, 0, 2, 32, 6, 8];
+
 /// What calls were seen.
 #[derive(Default)]
 pub struct Seen {
     numbers: Numbers,
     /// Accepted requests by kind.
-    kinds: [u64; 6],
-    /// Accepted requests by the number of their records.
+    kinds: [u64; 8],
+    /// Accepted requests by the number of their records, and the most of each kind.
     records: BTreeMap<usize, u64>,
+    most: [usize; 8],
     /// Accepted closes by the number of banks that they looked at.
     looked: BTreeMap<u32, u64>,
     /// NOCOP before RD, NOCOP before PRER, two PRER before ACT or REFA, a WR with a mask; two NOCOP
     /// before RD, two NOCOP before PRER, a WR that leaves two writes waiting.
     shapes: [u64; 7],
+    /// NOCOP before RDA, two NOCOP before RDA, a WRA with a mask, one NOCOP after its D, two NOCOP after
+    /// it.
+    closing: [u64; 5],
 }
 
 impl Seen {
@@ -206,7 +221,10 @@ impl Seen {
         let Ok((list, next)) = want else {
             return;
         };
-        self.kinds[usize::from(request[0])] += 1;
+        let kind = usize::from(request[0]);
+        self.kinds[kind] += 1;
+        self.most[kind] = self.most[kind].max(commands.len());
+        assert!(commands.len() <= MOST[kind], "{request:?}");
         *self.records.entry(commands.len()).or_default() += 1;
         let pair = |a, b| commands.windows(2).any(|w| w == [Some(a), Some(b)]);
         let flushed = |c| {
@@ -224,23 +242,42 @@ impl Seen {
         self.shapes[4] += u64::from(flushed(RD));
         self.shapes[5] += u64::from(flushed(PRER));
         self.shapes[6] += u64::from(request[0] == WRITE && next[WAITING] == 2);
+        let mut records = list.chunks(32).zip(commands);
+        let after_data = commands.rsplit(|c| c.is_none()).next().unwrap().len();
+        let closing = [
+            pair(NOCOP, RDA),
+            flushed(RDA),
+            records.any(|(r, c)| *c == Some(WRA) && r[10] & 1 == 1),
+            request[0] == WRITE_CLOSE && after_data == 1,
+            request[0] == WRITE_CLOSE && after_data == 2,
+        ];
+        for (count, shape) in self.closing.iter_mut().zip(closing) {
+            *count += u64::from(shape);
+        }
     }
 
     /// Prints the counts; fails unless exactly these numbers were seen.
     pub fn report(&self, name: &str, numbers: &[u32]) {
         self.numbers.report(name, numbers);
-        let most = self.records.keys().last().unwrap_or(&0);
-        let [read, write, refresh, wait, flush, close] =
-            [READ, WRITE, REFRESH, WAIT, FLUSH, CLOSE].map(|kind| self.kinds[usize::from(kind)]);
+        let most = self.most;
+        let count = |kind: u8| self.kinds[usize::from(kind)];
+        let [read, write, refresh, wait] = [READ, WRITE, REFRESH, WAIT].map(count);
+        let [flush, close, read_close, write_close] =
+            [FLUSH, CLOSE, READ_CLOSE, WRITE_CLOSE].map(count);
         println!(
             "{name}: accepted: {read} read, {write} write, {refresh} refresh, {wait} wait, \
-             {flush} flush, {close} close"
+             {flush} flush, {close} close, {read_close} read and close, {write_close} write and close"
         );
         let [own, lost, two, masked, both, both_lost, beside] = self.shapes;
         println!(
             "{name}: {own} with NOCOP RD, {lost} with NOCOP PRER, {two} with two PRER, \
              {masked} with a masked WR, {both} with NOCOP NOCOP RD, {both_lost} with NOCOP NOCOP \
-             PRER, {beside} writes beside another; most records {most}"
+             PRER, {beside} writes beside another; most records by kind {most:?}"
+        );
+        let [lost, both_lost, masked, one, two] = self.closing;
+        println!(
+            "{name}: {lost} with NOCOP RDA, {both_lost} with NOCOP NOCOP RDA, {masked} with a masked WRA, \
+             {one} with one NOCOP after WRA D, {two} with two"
         );
         println!("{name}: closes by banks looked at: {:?}", self.looked);
     }
@@ -249,11 +286,18 @@ impl Seen {
     pub fn all_kinds(&self) {
         assert!(self.kinds.iter().all(|n| *n > 0), "{:?}", self.kinds);
         assert!(self.shapes.iter().all(|n| *n > 0), "{:?}", self.shapes);
+        assert!(self.closing.iter().all(|n| *n > 0), "{:?}", self.closing);
         assert!(
             (0..7).all(|n| self.with_records(n) > 0),
             "{:?}",
             self.records
         );
+    }
+
+    /// Fails unless requests of each kind but close had the most records that they may have.
+    pub fn all_most(&self) {
+        let reached = |kind: usize| kind == usize::from(CLOSE) || self.most[kind] == MOST[kind];
+        assert!((0..8).all(reached), "{:?}", self.most);
     }
 
     /// Fails unless closes looked at each number of banks.

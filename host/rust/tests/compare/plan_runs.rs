@@ -1,7 +1,8 @@
-//! The runs of document 01's "Bench runs" that a planner makes, under set H: by the reference alone,
-//! then by reference and library. A packet is written as in the paper's listings: instant, name,
+//! The runs of document 01's "Bench runs" and of document 02 that a planner makes, under set H: by the
+//! reference alone, then by reference and library. A packet is written as in the paper's listings: instant, name,
 //! bank, row or column, mask or `-`; D shows its WR's bank and column.
 
+use crate::closing;
 use crate::plan_calls::{Run, Seen, ENOUGH};
 use crate::plan_streams::{bare, read, wait, write, CLOSE, FLUSH, REFRESH};
 use crate::random::{bytes, set_h};
@@ -9,7 +10,9 @@ use crate::reference::{figures, number, packet, word, NOCOP};
 use crate::reference_plan::Planner;
 use crate::two_writes;
 
-const NAMES: [&str; 7] = ["ACT", "PRER", "REFA", "REFP", "NOCOP", "WR", "RD"];
+const NAMES: [&str; 9] = [
+    "ACT", "PRER", "REFA", "REFP", "NOCOP", "WR", "RD", "WRA", "RDA",
+];
 
 /// The lines of a list.
 pub fn listing(settings: &[u8], list: &[u8]) -> Vec<String> {
@@ -124,10 +127,15 @@ fn runs() -> Runs {
     ]
 }
 
+fn all_runs() -> impl Iterator<Item = (Requests, Vec<&'static str>)> {
+    let more = two_writes::runs().into_iter().chain(closing::runs());
+    runs().into_iter().chain(more)
+}
+
 #[test]
 fn runs_of_the_paper_by_the_reference() {
     let settings = bytes(&set_h(2, 4, 0));
-    for (requests, lines) in runs().into_iter().chain(two_writes::runs()) {
+    for (requests, lines) in all_runs() {
         let mut planner = Planner::fresh(&settings).unwrap();
         let records = requests.iter().map(|q| planner.plan(q, ENOUGH).unwrap());
         let list: Vec<u8> = records.flatten().collect();
@@ -138,7 +146,7 @@ fn runs_of_the_paper_by_the_reference() {
 #[test]
 fn runs_of_the_paper_by_the_library() {
     let mut seen = Seen::default();
-    for (requests, lines) in runs().into_iter().chain(two_writes::runs()) {
+    for (requests, lines) in all_runs() {
         let mut run = Run::new(&set_h(2, 4, 0));
         for request in &requests {
             run.call(&mut seen, request, ENOUGH).unwrap();
@@ -150,7 +158,9 @@ fn runs_of_the_paper_by_the_library() {
 }
 
 /// Requests, of which the last has this answer: a refusal, or the number of records.
-fn last_answers() -> Vec<(Requests, Result<usize, u32>)> {
+pub type Answers = Vec<(Requests, Result<usize, u32>)>;
+
+fn last_answers() -> Answers {
     vec![
         (vec![read(32, 0, 0)], Err(4)),
         (vec![read(0, 2, 0)], Err(5)),
@@ -200,7 +210,7 @@ fn last_answers() -> Vec<(Requests, Result<usize, u32>)> {
             Ok(1),
         ),
         (vec![wait(999_999_979), read(0, 0, 0), bare(CLOSE)], Err(7)),
-        (vec![vec![6; 24]], Err(2)),
+        (vec![vec![8; 24]], Err(2)),
         (vec![vec![0; 23]], Err(13)),
     ]
 }
@@ -208,7 +218,7 @@ fn last_answers() -> Vec<(Requests, Result<usize, u32>)> {
 #[test]
 fn last_answers_by_the_reference() {
     let settings = bytes(&set_h(2, 4, 0));
-    for (requests, answer) in last_answers() {
+    for (requests, answer) in last_answers().into_iter().chain(closing::last_answers()) {
         let mut planner = Planner::fresh(&settings).unwrap();
         let plans = requests.iter().map(|q| planner.plan(q, ENOUGH));
         let last = plans.last().unwrap().map(|list| list.len() / 32);
@@ -219,7 +229,7 @@ fn last_answers_by_the_reference() {
 #[test]
 fn last_answers_by_the_library() {
     let mut seen = Seen::default();
-    for (requests, answer) in last_answers() {
+    for (requests, answer) in last_answers().into_iter().chain(closing::last_answers()) {
         let mut run = Run::new(&set_h(2, 4, 0));
         let plans = requests.iter().map(|q| run.call(&mut seen, q, ENOUGH));
         assert_eq!(plans.last().unwrap(), answer, "{requests:?}");

@@ -8,11 +8,11 @@ use crate::plan_streams::{bare, read, wait, write, Maker, CLOSE, FLUSH};
 use crate::random::{bytes, rounds, set_h, with_core, Random};
 use crate::reference::{device_and_core, COLUMNS, CORES, ROWS};
 use crate::reference_plan::{state_fits, STATE_BYTES};
-use crate::reference_state::{put, put_instant, put_writes, DUE, WAITING};
+use crate::reference_state::{put, put_instant, put_writes, CLOSES, DUE, WAITING, WRITES};
 use crate::rule_settings::rule_numbers;
 use crate::state_bytes::{
-    any_counts, are_neighbours, assert_every_byte, ends, fields, pairs_of_banks, unused, Field,
-    Instants, UNUSED,
+    any_counts, any_flags, are_neighbours, assert_every_byte, ends, fields, pairs_of_banks, unused,
+    Field, Instants, TWO, UNUSED,
 };
 use crate::tuned_plan;
 use rdram::raw::rdram_planner_fresh;
@@ -90,7 +90,7 @@ fn damaged_field_by_field() {
     }
 }
 
-/// Each bit of each byte that is 0 in all states.
+/// Each bit of each byte that is 0 in all states: those too that say a WRA waits.
 #[test]
 fn unused_bytes() {
     let (mut seen, mut random) = (Numbers::default(), Random::new(74));
@@ -98,7 +98,9 @@ fn unused_bytes() {
         let numbers = rule_numbers(&mut random);
         let state = reached(&mut random, &numbers);
         assert_eq!(call(&numbers, &state, &wait(0), 0), 0);
-        for at in UNUSED.into_iter().chain(OWN_UNUSED).flatten() {
+        let flags = WRITES.map(|at| at + CLOSES..at + 4);
+        let zeros = [UNUSED].into_iter().chain(flags).chain(OWN_UNUSED);
+        for at in zeros.flatten() {
             for bit in 0..8 {
                 let mut damaged = state.clone();
                 damaged[at] = 1 << bit;
@@ -130,7 +132,10 @@ fn damaged_bytes() {
                 let flipped = damaged[at] ^ 1 << random.below(8);
                 damaged[at] = random.pick(&[0, 1, 2, flipped]);
             }
-            let request = maker.request(&mut random);
+            let request = match random.below(64) {
+                0 => wait(u32::MAX),
+                _ => maker.request(&mut random),
+            };
             seen.add(call(&numbers, &damaged, &request, ENOUGH));
         }
     }
@@ -208,7 +213,7 @@ fn banks_of_the_waiting_writes() {
     {
         let numbers = with_core(set_h(2, 4, 0), core);
         for tag in [0, 1, 2, 3, 65_535] {
-            let (write, other) = ((bank, 0, 4), (9, 3, 8));
+            let (write, other) = ((bank, 0, 4, false), (9, 3, 8, false));
             for writes in [vec![write], vec![write, other], vec![other, write]] {
                 let mut state = fresh();
                 put_writes(&mut state, &writes, false);
@@ -230,7 +235,7 @@ fn counts_of_writes() {
     for (count, due, writes) in any_counts() {
         let mut state = fresh();
         put(&mut state, 640, 2, 1);
-        put_writes(&mut state, &[(0, 3, 4), (0, 2, 8)][..writes], false);
+        put_writes(&mut state, &TWO[..writes], false);
         (state[WAITING], state[DUE]) = (count, due);
         let number = call(&numbers, &state, &bare(FLUSH), ENOUGH);
         let fits = (usize::from(count), due) == (writes, 0);
@@ -239,6 +244,20 @@ fn counts_of_writes() {
             u32::from(!fits),
             "{count} writes, due {due}, {writes}"
         );
+    }
+}
+
+/// Whether a waiting write is a WRA: none is between requests.
+#[test]
+fn flags_of_writes() {
+    let numbers = set_h(2, 4, 0);
+    for (flag, at, writes) in any_flags() {
+        let mut state = fresh();
+        put(&mut state, 640, 2, 1);
+        put_writes(&mut state, &TWO[..writes], false);
+        put(&mut state, WRITES[at] + CLOSES, 2, flag);
+        let number = call(&numbers, &state, &bare(FLUSH), ENOUGH);
+        assert_eq!(number, u32::from(flag != 0), "{flag}, {at}, {writes}");
     }
 }
 
@@ -256,7 +275,7 @@ fn any_state(random: &mut Random, numbers: &[u16; 16]) -> Vec<u8> {
             open.push(bank);
         }
     }
-    let writes = instants.writes(random, &open, numbers[COLUMNS]);
+    let writes = instants.writes(random, &open, numbers[COLUMNS], false);
     put_writes(&mut state, &writes, false);
     let now = instants.instant(random, false);
     put_instant(&mut state, NOW, now);

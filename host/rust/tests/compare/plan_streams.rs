@@ -10,6 +10,8 @@ pub const REFRESH: u8 = 2;
 pub const WAIT: u8 = 3;
 pub const FLUSH: u8 = 4;
 pub const CLOSE: u8 = 5;
+pub const READ_CLOSE: u8 = 6;
+pub const WRITE_CLOSE: u8 = 7;
 
 /// A request without place, mask and data.
 pub fn bare(kind: u8) -> Vec<u8> {
@@ -33,6 +35,12 @@ pub fn write(bank: u8, row: u16, column: u8, mask: u16, data: &[u8]) -> Vec<u8> 
     request
 }
 
+/// Read and close of a read, write and close of a write.
+pub fn closing(mut request: Vec<u8>) -> Vec<u8> {
+    request[0] += READ_CLOSE;
+    request
+}
+
 pub fn wait(cycles: u32) -> Vec<u8> {
     let mut request = bare(WAIT);
     put(&mut request, 8, 4, cycles.into());
@@ -50,6 +58,8 @@ pub struct Maker {
     damaged: usize,
     /// Most requests are writes to one row.
     fills: bool,
+    /// One in so many reads and writes closes its bank, or none where it is 0.
+    closes: usize,
 }
 
 impl Maker {
@@ -67,6 +77,16 @@ impl Maker {
             column_choice: [0, (columns - 1) as u8, column],
             damaged: random.pick(&[0, 0, 0, 8]),
             fills: random.chance(3),
+            closes: random.pick(&[0, 1, 2, 2, 4, 8]),
+        }
+    }
+
+    /// Requests that are right, of which every other read or write closes its bank.
+    pub fn mixed(random: &mut Random, numbers: &[u16; 16]) -> Maker {
+        Maker {
+            damaged: 0,
+            closes: 2,
+            ..Maker::new(random, numbers)
         }
     }
 
@@ -88,8 +108,8 @@ impl Maker {
         (bank, row, random.pick(&self.column_choice))
     }
 
-    /// A request with right fields.
-    fn right(&self, random: &mut Random) -> Vec<u8> {
+    /// A request with right fields, of which reads and writes do not close their bank.
+    fn plain(&self, random: &mut Random) -> Vec<u8> {
         let (bank, row, column) = self.place(random);
         if self.fills && !random.chance(3) {
             let (mask, data) = (Self::mask(random), random.bytes(16));
@@ -114,7 +134,7 @@ impl Maker {
             0 => request[1] = random.pick(&[31, 32, 33, 64, 255]),
             1 => put(request, 2, 2, self.rows.into()),
             2 => put(request, 4, 1, self.columns.into()),
-            3 => request[0] = random.pick(&[0, 1, 2, 3, 4, 5, 6, 7, 255]),
+            3 => request[0] = random.pick(&[0, 1, 2, 3, 4, 5, 6, 7, 8, 255]),
             4 => request[random.below(24)] = random.word() as u8,
             5 => request.truncate(random.below(24)),
             6 => request.extend(vec![0; 1 + random.below(24)]),
@@ -123,7 +143,10 @@ impl Maker {
     }
 
     pub fn request(&self, random: &mut Random) -> Vec<u8> {
-        let mut request = self.right(random);
+        let mut request = self.plain(random);
+        if request[0] <= WRITE && self.closes > 0 && random.chance(self.closes) {
+            request = closing(request);
+        }
         if self.damaged > 0 && random.chance(self.damaged) {
             self.damage(random, &mut request);
         }

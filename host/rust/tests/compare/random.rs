@@ -1,7 +1,7 @@
 //! Inputs from a generator with a fixed seed.
 
 use crate::reference::{
-    self, Fields, BOUNDS, COLUMNS, CORES, DEVICE, NOCOP, RESERVED, ROWS, T_CAC, T_CWD,
+    self, Fields, ACT, BOUNDS, COLUMNS, CORES, DEVICE, NOCOP, RDA, ROWS, T_CAC, T_CWD,
 };
 
 /// So many rounds of a test, times `RDRAM_ROUNDS` where the environment has it: a longer run.
@@ -55,16 +55,15 @@ impl Random {
     pub fn numbers(&mut self) -> [u16; 16] {
         let mut numbers = BOUNDS.map(|(low, high)| self.between(low, high));
         numbers[T_CWD] = self.between(1, numbers[T_CAC] - 1);
-        numbers[RESERVED] = 0;
         with_core(numbers, self.pick(&CORES))
     }
 
     /// A packet that has a word under the settings.
     pub fn packet(&mut self, numbers: &[u16; 16]) -> Fields {
-        let command = self.below(7) as u32;
+        let command = self.below(RDA as usize + 1) as u32;
         let places = match command {
-            0 => numbers[ROWS],
-            5 | 6 => numbers[COLUMNS],
+            ACT => numbers[ROWS],
+            command if command > NOCOP => numbers[COLUMNS],
             _ => 1,
         };
         let bank = if command == NOCOP {
@@ -116,7 +115,7 @@ pub fn bytes(numbers: &[u16; 16]) -> Vec<u8> {
 
 /// Set H of the paper with rows, columns and device; its core is split.
 pub fn set_h(rows: u16, columns: u16, device: u16) -> [u16; 16] {
-    let mut numbers = [28, 20, 8, 8, 8, 9, 8, 4, 4, 4, 8, 6, 0, 0, 0, 0];
+    let mut numbers = [28, 20, 8, 8, 8, 9, 8, 4, 4, 4, 8, 6, 4, 0, 0, 0];
     numbers[ROWS] = rows;
     numbers[COLUMNS] = columns;
     numbers[DEVICE] = device;

@@ -1,4 +1,4 @@
-//! Settings, words, records and logs as plain Rust, written from documents 01 and 02 (c) alone.
+//! Settings, words, records and logs as plain Rust, written from documents 01 and 02 (c, f) alone.
 
 /// Number and place of a refusal; the place is 0 where none is named.
 #[derive(Clone, Copy, Debug, PartialEq, Eq)]
@@ -36,14 +36,14 @@ pub const BOUNDS: [(u16, u16); 16] = [
     (4, 16),  // tCC
     (7, 12),  // tCAC
     (1, 11),  // tCWD
-    (0, 0),   // reserved
+    (4, 32),  // tOFFP
     (1, 512), // rows
     (1, 128), // columns
     (0, 31),  // device
 ];
 pub const T_CAC: usize = 10;
 pub const T_CWD: usize = 11;
-pub const RESERVED: usize = 12;
+pub const T_OFFP: usize = 12;
 pub const ROWS: usize = 13;
 pub const COLUMNS: usize = 14;
 pub const DEVICE: usize = 15;
@@ -86,8 +86,8 @@ pub fn number(bytes: &[u8]) -> u64 {
 
 // ---- Words ----
 
-/// A packet: the place is the row of ACT, the column of WR and RD; the mask of a COL packet is
-/// FFFF where it carries none.
+/// A packet: the place is the row of ACT, the column of WR, RD, WRA and RDA; the mask of a COL packet
+/// is FFFF where it carries none.
 #[derive(Clone, Copy, Debug, PartialEq, Eq)]
 pub struct Fields {
     pub command: u32,
@@ -103,9 +103,11 @@ pub const REFP: u32 = 3;
 pub const NOCOP: u32 = 4;
 pub const WR: u32 = 5;
 pub const RD: u32 = 6;
+pub const WRA: u32 = 7;
+pub const RDA: u32 = 8;
 
 const ROPS: [(u32, u64); 3] = [(PRER, 0x600), (REFA, 0x0C0), (REFP, 0x540)];
-const COPS: [(u32, u64); 3] = [(NOCOP, 0), (WR, 1), (RD, 3)];
+const COPS: [(u32, u64); 5] = [(NOCOP, 0), (WR, 1), (RD, 3), (WRA, 5), (RDA, 7)];
 
 fn code_of(codes: &[(u32, u64)], command: u32) -> Option<u64> {
     codes.iter().find(|c| c.0 == command).map(|c| c.1)
@@ -262,7 +264,7 @@ pub fn word_encode(settings: &[u8], p: Fields) -> Result<u64, Refused> {
     let number = match p.command {
         _ if p.bank > 31 => 4,
         ACT if place >= f.rows => 5,
-        WR | RD if place >= f.columns => 6,
+        WR | RD | WRA | RDA if place >= f.columns => 6,
         _ => 10,
     };
     word(&f, p).map_or(refused(number, 0), Ok)

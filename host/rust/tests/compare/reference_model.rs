@@ -1,8 +1,8 @@
-//! The device model as plain Rust, written from documents 01 and 02 (a, c) alone, by history. It keeps
+//! The device model as plain Rust, written from documents 01 and 02 (a, c, f) alone, by history. It keeps
 //! every record that it has taken, judges the next by the rules of `reference_rules` against all of
 //! them, and reads banks, the waiting writes, their data and REFR off that list.
 
-use crate::reference::{figures, number, packet, record_fits, Figures, RD, REFA, ROWS};
+use crate::reference::{figures, number, packet, record_fits, Figures, REFA, ROWS};
 use crate::reference_rules::{self as rules, Rules, Step, Timings};
 use crate::reference_state::{
     channel_bytes, channel_fits, kept, open_row, put, waiting, write_number, zero, Write,
@@ -93,7 +93,7 @@ impl Model {
         let mut event = Event::Neither;
         match packet {
             None => self.data.push(record[16..].try_into().unwrap()),
-            Some(p) if p.command == RD => {
+            Some(p) if p.reads() => {
                 if room < 16 {
                     return refused(8);
                 }
@@ -115,7 +115,7 @@ impl Model {
         waiting(&self.steps)
     }
 
-    /// The model's state in the layout of `rdram.h`, read off the list.
+    /// The model's state in the layout of `rdram_model.h`, read off the list.
     pub fn state(&self) -> Vec<u8> {
         let mut state = channel_bytes(&self.steps);
         state.resize(STATE_BYTES, 0);

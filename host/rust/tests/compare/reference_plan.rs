@@ -1,15 +1,15 @@
-//! The planner as plain Rust, written from documents 01 and 02 (a, c, d, e) alone, by trying. It keeps every
+//! The planner as plain Rust, written from documents 01 and 02 (a, c to f) alone, by trying. It keeps every
 //! record that it has made, reads banks and the waiting writes off that list, and tries each packet
 //! at now, now + 1, .. until it breaks none of the rules of `reference_rules` against all earlier
 //! records.
 
 use crate::reference::{
-    figures, number, word, Fields, Figures, ACT, NOCOP, PRER, RD, REFA, REFP, WR,
+    figures, number, word, Fields, Figures, ACT, NOCOP, PRER, RD, RDA, REFA, REFP, WR, WRA,
 };
 use crate::reference_rules::{self as rules, near, Step, Timings};
 use crate::reference_state::{
     channel_bytes, channel_fits, instant, kept, open_row, put, put_instant, tag, waiting,
-    write_number, zero, Write, DUE, LAST, UNDER_REFRESH,
+    write_number, zero, Write, CLOSES, DUE, LAST, UNDER_REFRESH, WRITES,
 };
 
 pub const STATE_BYTES: usize = 768;
@@ -35,14 +35,17 @@ pub struct Planner {
 
 // ---- Requests ----
 
+/// A read or write closes its bank, or not.
 enum Request {
     Read {
         at: Place,
+        close: bool,
     },
     Write {
         at: Place,
         mask: u32,
         data: [u8; 16],
+        close: bool,
     },
     Refresh,
     Wait {
@@ -61,13 +64,13 @@ struct Place {
 
 /// Whether a request of a kind uses one of its bytes.
 fn used(kind: u8, byte: usize) -> bool {
+    let (reads, writes) = ([0, 6].contains(&kind), [1, 7].contains(&kind));
     match byte {
         0 => true,
-        1..=4 => kind == 0 || kind == 1,
+        1..=4 => reads || writes,
         5 => false,
-        6 | 7 => kind == 1,
-        8..=11 => kind == 1 || kind == 3,
-        _ => kind == 1,
+        8..=11 => writes || kind == 3,
+        _ => writes,
     }
 }
 
@@ -94,20 +97,22 @@ fn read_request(f: &Figures, request: &[u8]) -> Result<Request, Refused> {
         return Err(13);
     }
     let kind = request[0];
-    if kind > 5 {
+    if kind > 7 {
         return Err(2);
     }
     if (0..24).any(|i| !used(kind, i) && request[i] != 0) {
         return Err(3);
     }
     Ok(match kind {
-        0 => Request::Read {
+        0 | 6 => Request::Read {
             at: place(f, request)?,
+            close: kind == 6,
         },
-        1 => Request::Write {
+        1 | 7 => Request::Write {
             at: place(f, request)?,
             mask: number(&request[6..8]) as u32,
             data: request[8..].try_into().unwrap(),
+            close: kind == 7,
         },
         2 => Request::Refresh,
         3 => Request::Wait {
@@ -172,7 +177,7 @@ impl Planner {
             if step.at > LAST {
                 return Err(7);
             }
-            // No distance is longer than 64.
+            // No distance is longer than 64, and no implied PRER later than 32 after its packet.
             assert!(step.at < self.now + 100, "never legal: {step:?}");
         }
         self.now = step.at;
@@ -217,23 +222,25 @@ impl Planner {
         self.send(ACT, at.bank, at.row)
     }
 
-    fn read(&mut self, at: Place) -> Result<(), Refused> {
+    /// An RDA would lose a write of any column of its bank.
+    fn read(&mut self, at: Place, close: bool) -> Result<(), Refused> {
         self.reach(at)?;
-        let own = |(bank, column, _): &Write| (*bank, *column) == (at.bank, at.column);
+        let own = |w: &Write| w.0 == at.bank && (close || w.1 == at.column);
         self.nocops(|writes| writes.len() == 2 || writes.iter().any(own))?;
-        self.send(RD, at.bank, at.column)
+        self.send(if close { RDA } else { RD }, at.bank, at.column)
     }
 
-    fn write(&mut self, at: Place, mask: u32, data: [u8; 16]) -> Result<(), Refused> {
+    fn write(&mut self, at: Place, mask: u32, data: [u8; 16], close: bool) -> Result<(), Refused> {
         self.reach(at)?;
-        self.send(WR, at.bank, at.column)?;
+        self.send(if close { WRA } else { WR }, at.bank, at.column)?;
         self.masks.push(mask);
         let at = self.now + self.timings.cwd;
         let d = Step::new(&self.timings, &self.steps, at, None);
         assert!(rules::broken(&self.timings, &self.steps, &d).none());
         self.steps.push(d);
         self.data.push(data);
-        Ok(())
+        // No WRA waits after its request.
+        self.nocops(|writes| writes.iter().any(|w| w.3))
     }
 
     fn refresh(&mut self) -> Result<(), Refused> {
@@ -273,8 +280,13 @@ impl Planner {
     fn serve(&mut self, request: &[u8], room: usize) -> Result<(), Refused> {
         let before = self.steps.len();
         match read_request(&self.figures, request)? {
-            Request::Read { at } => self.read(at)?,
-            Request::Write { at, mask, data } => self.write(at, mask, data)?,
+            Request::Read { at, close } => self.read(at, close)?,
+            Request::Write {
+                at,
+                mask,
+                data,
+                close,
+            } => self.write(at, mask, data, close)?,
             Request::Refresh => self.refresh()?,
             Request::Wait { cycles } => self.wait(cycles)?,
             Request::Flush => self.flush()?,
@@ -341,13 +353,14 @@ impl Planner {
     }
 }
 
-/// Whether bytes are a planner's state that is not refused under 1: no bank is under refresh and no
-/// data are due.
+/// Whether bytes are a planner's state that is not refused under 1: no bank is under refresh, no data
+/// are due and no WRA waits.
 pub fn state_fits(numbers: &[u16; 16], state: &[u8]) -> bool {
     state.len() == STATE_BYTES
         && channel_fits(numbers, state)
         && (0..32).all(|bank| tag(state, bank) != UNDER_REFRESH)
         && state[DUE] == 0
+        && WRITES.iter().all(|at| zero(&state[at + CLOSES..at + 4]))
         && (4..=LAST).contains(&instant(state, 752))
         && number(&state[756..758]) < 32
         && zero(&state[758..760])

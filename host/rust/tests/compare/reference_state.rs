@@ -1,9 +1,7 @@
 //! The bytes 0 to 751 that the states of planner and model have in common, in the layout of
 //! `rdram.h`: read off a list of records that break no rule, and what is asked of them.
 
-use crate::reference::{
-    device_and_core, number, Fields, ACT, COLUMNS, NOCOP, PRER, RD, REFA, REFP, ROWS, WR,
-};
+use crate::reference::{device_and_core, number, Fields, ACT, COLUMNS, NOCOP, REFA, ROWS, WRA};
 use crate::reference_rules::{self as rules, neighbours, Bank, Step};
 
 pub const LAST: u64 = 1_000_000_000;
@@ -15,6 +13,8 @@ pub const UNDER_REFRESH: u64 = 65_535;
 pub const WAITING: usize = 728;
 pub const DUE: usize = 729;
 pub const WRITES: [usize; 2] = [736, 744];
+/// In the place of a write: whether its retire closes the bank, two bytes.
+pub const CLOSES: usize = 2;
 
 /// Writes a number, low byte first.
 pub fn put(bytes: &mut [u8], at: usize, width: usize, number: u64) {
@@ -35,14 +35,15 @@ pub fn instant(state: &[u8], at: usize) -> u64 {
     }
 }
 
-/// A waiting write: bank, column and the instant of its WR.
-pub type Write = (u32, u32, u64);
+/// A waiting write: bank, column, the instant of its WR, and whether that is a WRA.
+pub type Write = (u32, u32, u64, bool);
 
 /// Writes the waiting writes, oldest first; the data of the newest are due or not.
 pub fn put_writes(state: &mut [u8], writes: &[Write], due: bool) {
     (state[WAITING], state[DUE]) = (writes.len() as u8, due.into());
-    for ((bank, column, at), place) in writes.iter().zip(WRITES) {
+    for ((bank, column, at, closes), place) in writes.iter().zip(WRITES) {
         (state[place], state[place + 1]) = (*bank as u8, *column as u8);
+        put(state, place + CLOSES, 2, (*closes).into());
         put_instant(state, place + 4, *at);
     }
 }
@@ -68,14 +69,15 @@ pub fn open_row(steps: &[Step], bank: u32) -> Option<u32> {
 pub fn waiting(steps: &[Step]) -> Vec<Write> {
     let write = |(place, bank): (usize, u32)| {
         let step = &steps[place];
-        (bank, step.packet.expect("a WR").place, step.at)
+        let wr = step.packet.expect("a WR");
+        (bank, wr.place, step.at, wr.command == WRA)
     };
     rules::waiting(steps).into_iter().map(write).collect()
 }
 
 /// The number of the WR at a place, from 0, or of those before it.
 pub fn write_number(steps: &[Step], place: usize) -> usize {
-    let is_wr = |step: &&Step| step.packet.is_some_and(|p| p.command == WR);
+    let is_wr = |step: &&Step| step.packet.is_some_and(Fields::writes);
     steps[..place].iter().filter(is_wr).count()
 }
 
@@ -87,7 +89,7 @@ pub fn kept(steps: &[Step], come: usize) -> [Option<usize>; 2] {
     let (mut writes, mut retires, mut second) = (0, 0, None);
     for step in steps {
         retires += usize::from(step.retired().is_some());
-        if step.packet.is_some_and(|p| p.command == WR) {
+        if step.packet.is_some_and(Fields::writes) {
             if writes > retires && writes < come {
                 second = Some(writes);
             }
@@ -101,7 +103,7 @@ pub fn kept(steps: &[Step], come: usize) -> [Option<usize>; 2] {
 /// Whether the list ends with a WR, so that its D is due.
 fn data_due(steps: &[Step]) -> bool {
     let last = steps.last().and_then(|step| step.packet);
-    last.is_some_and(|p| p.command == WR)
+    last.is_some_and(Fields::writes)
 }
 
 pub fn channel_bytes(steps: &[Step]) -> Vec<u8> {
@@ -123,19 +125,15 @@ pub fn channel_bytes(steps: &[Step]) -> Vec<u8> {
     state
 }
 
-/// Notes the instant of a packet in the fields of which it is now the last.
+/// Notes the instants of a packet, and of the PRER that it is or implies, in the fields of which they
+/// are now the last.
 fn note(state: &mut [u8], step: &Step, p: Fields) {
     let bank = 4 * p.bank as usize;
     let mut fields = vec![704, if p.command < NOCOP { 708 } else { 712 }];
     match p.command {
         ACT => fields.extend([bank, 128 + bank]),
         REFA => fields.push(bank),
-        PRER | REFP => {
-            let closed = (0..32).filter(|b| step.closes >> b & 1 == 1);
-            fields.extend(closed.map(|b| 256 + 4 * b));
-            fields.push(716);
-        }
-        RD => fields.extend([384 + bank, 720]),
+        _ if p.reads() => fields.extend([384 + bank, 720]),
         _ => {}
     }
     if let Some((_, bank)) = step.retired() {
@@ -143,6 +141,13 @@ fn note(state: &mut [u8], step: &Step, p: Fields) {
     }
     for at in fields {
         put_instant(state, at, step.at);
+    }
+    if let Some(prer) = step.prer() {
+        let closed = (0..32).filter(|b| prer.closes(*b));
+        let banks = closed.map(|b| 256 + 4 * b as usize).chain([716]);
+        for at in banks.chain(prer.implied.then_some(724)) {
+            put_instant(state, at, prer.at);
+        }
     }
 }
 
@@ -160,15 +165,14 @@ pub fn zero(bytes: &[u8]) -> bool {
 
 /// Whether bytes 0 to 751 are not refused under 1.
 pub fn channel_fits(numbers: &[u16; 16], state: &[u8]) -> bool {
-    let unused = [724..728, 730..736];
-    let mut lasts = (0..640).chain(704..724).step_by(4);
+    let mut lasts = (0..640).chain(704..728).step_by(4);
     let row_fits = |tag: u64| tag <= numbers[ROWS].into() || tag == UNDER_REFRESH;
     let core = device_and_core(numbers).1.into();
     let closed = |bank: u32| tag(state, bank as usize) == 0;
     lasts.all(|at| instant(state, at) <= LAST)
         && (0..32).all(|bank| row_fits(tag(state, bank)))
         && (0..31).all(|b| !neighbours(core, b, b + 1) || closed(b) || closed(b + 1))
-        && unused.into_iter().all(|part| zero(&state[part]))
+        && zero(&state[730..736])
         && buffer_fits(numbers, state)
 }
 
@@ -192,6 +196,6 @@ fn write_fits(numbers: &[u16; 16], state: &[u8], at: usize) -> bool {
     let (bank, column) = (usize::from(state[at]), u16::from(state[at + 1]));
     let open = bank < 32 && (1..UNDER_REFRESH).contains(&tag(state, bank));
     open && column < numbers[COLUMNS]
-        && zero(&state[at + 2..at + 4])
+        && number(&state[at + CLOSES..at + 4]) <= 1
         && (4..=LAST).contains(&instant(state, at + 4))
 }

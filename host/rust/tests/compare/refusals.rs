@@ -74,7 +74,7 @@ fn texts_name_number_and_place() {
 #[test]
 fn texts_of_rules() {
     let mut texts: Vec<String> = Vec::new();
-    for rule in 1..=16 {
+    for rule in 1..=17 {
         let refusal = Refusal::Rule { rule, place: 70 };
         assert_eq!(refusal.rule(), Some(rule));
         let text = refusal.to_string();
@@ -89,8 +89,8 @@ fn texts_of_rules() {
     }
     texts.sort();
     texts.dedup();
-    assert_eq!(texts.len(), 16);
-    for rule in [0, 17, u32::MAX] {
+    assert_eq!(texts.len(), 17);
+    for rule in [0, 18, u32::MAX] {
         let text = Refusal::Rule { rule, place: 0 }.to_string();
         assert!(text.contains("unknown rule; "), "{text}");
     }

@@ -1,23 +1,26 @@
 //! The checks of the library, each compared with the reference: C functions and safe wrappers.
 
 use crate::calls::{typed, Seen};
-use crate::reference::{blocks, NOCOP, RD, WR};
+use crate::reference::{blocks, NOCOP, RD, RDA, WR, WRA};
 use crate::reference_rules::{self as rules, Answer};
 use rdram::{raw, Refusal, Settings};
+use std::collections::BTreeMap;
 
 /// How many checks had each answer number and each rule.
 #[derive(Default)]
 pub struct Verdicts {
     numbers: Seen,
-    rules: [u64; 17],
+    rules: [u64; 18],
     /// Those in which the named record breaks no other rule.
-    single: [u64; 17],
+    single: [u64; 18],
     /// Those in which the waiting writes decide.
     shapes: [u64; Self::SHAPES.len()],
+    /// Those of which an implied PRER is the cause, by rule and packet.
+    implied: BTreeMap<(u32, &'static str), u64>,
 }
 
 impl Verdicts {
-    const SHAPES: [&'static str; 8] = [
+    const SHAPES: [&'static str; 11] = [
         "12 by NOCOP, one waits",
         "12 by NOCOP, two wait",
         "12 by WR, two wait",
@@ -26,6 +29,33 @@ impl Verdicts {
         "14 of the newer of two",
         "16 by NOCOP, none waits",
         "16 by WR, one waits",
+        "17 by ROW, a WRA waits",
+        "17 by WR, one waits",
+        "17 by WR, two wait",
+    ];
+
+    /// Rules of which an implied PRER is the cause, with the packets that break them: its own rules, and
+    /// those that an earlier one is in the way of.
+    const IMPLIED: [(u32, &'static str); 19] = [
+        (1, "RDA"),
+        (1, "NOCOP"),
+        (1, "WR"),
+        (6, "RDA"),
+        (6, "NOCOP"),
+        (6, "WR"),
+        (7, "ROW"),
+        (8, "RDA"),
+        (8, "NOCOP"),
+        (8, "WR"),
+        (8, "ROW"),
+        (9, "RD"),
+        (9, "RDA"),
+        (9, "WR"),
+        (13, "RDA"),
+        (13, "NOCOP"),
+        (13, "WR"),
+        (14, "RDA"),
+        (17, "ROW"),
     ];
 
     fn add(&mut self, answer: &Answer) {
@@ -48,7 +78,20 @@ impl Verdicts {
                 rule == 14 && answer.closes == [false, true],
                 by(16, NOCOP, 0),
                 by(16, WR, 1),
+                rule == 17 && !answer.broken.by_implied() && answer.command < Some(NOCOP),
+                by(17, WR, 1) || by(17, WRA, 1),
+                by(17, WR, 2) || by(17, WRA, 2),
             ];
+            if answer.broken.by_implied() {
+                let packet = match answer.command {
+                    Some(RDA) => "RDA",
+                    Some(RD) => "RD",
+                    Some(WR | WRA) => "WR",
+                    Some(NOCOP) => "NOCOP",
+                    _ => "ROW",
+                };
+                *self.implied.entry((answer.rule, packet)).or_default() += 1;
+            }
             for (count, shape) in self.shapes.iter_mut().zip(shapes) {
                 *count += u64::from(shape);
             }
@@ -58,7 +101,7 @@ impl Verdicts {
     /// Prints the counts; fails unless exactly these numbers were seen.
     pub fn report(&self, name: &str, expected: &[u32]) {
         self.numbers.report(name, expected);
-        let counts: Vec<String> = (1..=16)
+        let counts: Vec<String> = (1..=17)
             .map(|n| format!("{n}: {} ({})", self.rules[n], self.single[n]))
             .collect();
         if expected.contains(&11) {
@@ -66,12 +109,17 @@ impl Verdicts {
             let shapes = Self::SHAPES.iter().zip(self.shapes);
             let shapes: Vec<String> = shapes.map(|(name, n)| format!("{name}: {n}")).collect();
             println!("{name}: {}", shapes.join(", "));
+            let implied = self.implied.iter();
+            let implied: Vec<String> = implied
+                .map(|((n, p), c)| format!("{n} by {p}: {c}"))
+                .collect();
+            println!("{name}: by implied PRERs: {}", implied.join(", "));
         }
     }
 
     /// Fails unless each of the rules was named, also for a record that breaks it alone.
     pub fn all_rules(&self, name: &str) {
-        for rule in 1..=16 {
+        for rule in 1..=17 {
             assert!(self.single[rule] > 0, "{name}: rule {rule} alone");
         }
     }
@@ -83,6 +131,21 @@ impl Verdicts {
             "{name}: {:?}",
             self.shapes
         );
+    }
+
+    /// Fails unless implied PRERs were the cause of each rule that they can be the cause of.
+    pub fn implied_rules(&self, name: &str) {
+        for (rule, _) in Self::IMPLIED {
+            let named = self.implied.keys().any(|(n, _)| *n == rule);
+            assert!(named, "{name}: rule {rule} by an implied PRER");
+        }
+    }
+
+    /// Fails unless implied PRERs were the cause in each way.
+    pub fn all_implied(&self, name: &str) {
+        for way in Self::IMPLIED {
+            assert!(self.implied.contains_key(&way), "{name}: {way:?}");
+        }
     }
 }
 

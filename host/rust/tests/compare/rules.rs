@@ -1,6 +1,8 @@
 //! The rules on random lists, as lists and as logs.
 
-use crate::lists::{any_items, change, half_legal, legal, list_bytes, over_writes, LAST};
+use crate::lists::{
+    any_items, change, half_legal, legal, list_bytes, over_implied, over_writes, LAST,
+};
 use crate::random::{bytes, rounds, Random};
 use crate::reference::{blocks, seal};
 use crate::rule_calls::{check, check_both, check_log, Verdicts};
@@ -50,6 +52,7 @@ fn changed_lists() {
     seen.report(name, &[0, 11]);
     settings_seen.report(name);
     seen.all_rules(name);
+    seen.implied_rules(name);
 }
 
 /// Lists of some hundred records.
@@ -76,13 +79,14 @@ fn long_lists() {
 fn short_lists() {
     let name = "rules, short lists";
     let (mut seen, mut random) = (Verdicts::default(), Random::new(43));
-    for round in 0..120_000 {
+    for round in 0..150_000 {
         let numbers = rule_numbers(&mut random);
         let records = 1 + random.below(14);
         let settings = bytes(&numbers);
-        let items = match round % 4 {
+        let items = match round % 5 {
             0 => any_items(&mut random, &numbers, records),
             1 => over_writes(&mut random, &numbers),
+            2 => over_implied(&mut random, &numbers),
             _ => half_legal(&mut random, &numbers, records),
         };
         check(&mut seen, &settings, &list_bytes(&settings, &items));
@@ -90,6 +94,7 @@ fn short_lists() {
     seen.report(name, &[0, 11]);
     seen.all_rules(name);
     seen.all_shapes(name);
+    seen.all_implied(name);
 }
 
 /// Lists moved so that a record lies near 4, near the last instant or near 2^32 - 1.
@@ -162,7 +167,7 @@ fn spoiled_lists() {
         }
         if random.chance(8) {
             let figure = random.below(16);
-            numbers[figure] = random.pick(&[0, 3, 65, 513, 1 << 8]);
+            numbers[figure] = random.pick(&[0, 3, 33, 65, 513, 1 << 8]);
         }
         let mut settings = bytes(&numbers);
         settings.truncate(random.pick(&[32, 32, 32, 32, 32, 32, 31, 0]));
@@ -207,7 +212,7 @@ fn logs() {
         let list = any_list(&mut random, &numbers, records);
         let log = blocks(&list);
         if random.chance(32) {
-            numbers[random.below(12)] = 0;
+            numbers[random.below(13)] = 0;
         }
         check_log(&mut seen, &bytes(&numbers), &log);
         for _ in 0..4 {

@@ -2,9 +2,7 @@
 
 use crate::calls::{log_decode, log_encode, word_decode, word_encode, Seen};
 use crate::random::{bytes, rounds, set_h, with_core, Random};
-use crate::reference::{
-    blocks, figures, Fields, ACT, BOUNDS, CORES, DEVICE, RESERVED, T_CAC, T_CWD,
-};
+use crate::reference::{blocks, figures, Fields, ACT, BOUNDS, CORES, DEVICE, T_CAC, T_CWD, T_OFFP};
 use rdram::{Core, Settings};
 
 /// ACT of bank 0, row 0, device 0: a packet, its word, a list and a log.
@@ -77,14 +75,16 @@ fn column_delays() {
 }
 
 #[test]
-fn reserved_number() {
+fn every_offp() {
     let (mut seen, mut random) = (Seen::default(), Random::new(3));
     for value in 0..=u16::MAX {
         let mut numbers = random.numbers();
-        numbers[RESERVED] = value;
+        numbers[T_OFFP] = value;
+        let fits = (4..=32).contains(&value);
+        assert_eq!(figures(&bytes(&numbers)).is_some(), fits, "{value}");
         all_calls(&mut seen, &bytes(&numbers));
     }
-    seen.report("settings, reserved number", &[0, 1, 10]);
+    seen.report("settings, tOFFP", &[0, 1, 10]);
 }
 
 /// Every last number: a device up to 31 in its low byte and a core form up to 2 in its high byte.

@@ -3,14 +3,14 @@
 
 use crate::random::Random;
 use crate::reference::{COLUMNS, ROWS};
-use crate::reference_state::{put_instant, Write, DUE, LAST, WAITING, WRITES};
+use crate::reference_state::{put_instant, Write, CLOSES, DUE, LAST, WAITING, WRITES};
 use std::ops::Range;
 
 /// Offset and width.
 pub type Field = (usize, usize);
 
 /// Bytes that no field uses, which are 0.
-pub const UNUSED: [Range<usize>; 4] = [724..728, 730..736, 738..740, 746..748];
+pub const UNUSED: Range<usize> = 730..736;
 
 /// Such bytes, each as a field.
 pub fn unused(bytes: Range<usize>) -> impl Iterator<Item = Field> {
@@ -21,14 +21,10 @@ pub fn unused(bytes: Range<usize>) -> impl Iterator<Item = Field> {
 pub fn fields(own: &[Field]) -> Vec<Field> {
     let instants = (0..160).map(|i| (4 * i, 4));
     let banks = (0..32).map(|i| (640 + 2 * i, 2));
-    let lasts = (0..5).map(|i| (704 + 4 * i, 4));
-    let [a, b, c, d] = UNUSED.map(unused);
-    let count = a.chain([(WAITING, 1), (DUE, 1)]).chain(b);
-    let write = |at: usize, zeros| {
-        let place = [(at, 1), (at + 1, 1)].into_iter().chain(zeros);
-        place.chain([(at + 4, 4)])
-    };
-    let buffer = count.chain(write(WRITES[0], c)).chain(write(WRITES[1], d));
+    let lasts = (0..6).map(|i| (704 + 4 * i, 4));
+    let count = [(WAITING, 1), (DUE, 1)].into_iter().chain(unused(UNUSED));
+    let write = |at: usize| [(at, 1), (at + 1, 1), (at + CLOSES, 2), (at + 4, 4)];
+    let buffer = count.chain(WRITES.into_iter().flat_map(write));
     let channel = instants.chain(banks).chain(lasts).chain(buffer);
     channel.chain(own.iter().copied()).collect()
 }
@@ -62,6 +58,16 @@ pub fn any_counts() -> impl Iterator<Item = (u8, u8, usize)> {
         .into_iter()
         .flat_map(move |n| counts.map(|due| (n, due)));
     pairs.flat_map(|(n, due)| [0, 1, 2].map(|writes| (n, due, writes)))
+}
+
+/// Two waiting writes of bank 0.
+pub const TWO: [Write; 2] = [(0, 3, 4, false), (0, 2, 8, false)];
+
+/// Numbers in the place of a WRA's flag, of the older write or the newer, and how many writes wait.
+pub fn any_flags() -> impl Iterator<Item = (u64, usize, usize)> {
+    let flags = [0, 1, 2, 3, 128, 255, 256, 257, 65_535];
+    let places = flags.into_iter().flat_map(|flag| [(flag, 0), (flag, 1)]);
+    places.flat_map(|(flag, at)| [0, 1, 2].map(|writes| (flag, at, writes)))
 }
 
 /// All pairs of banks.
@@ -119,20 +125,27 @@ impl Instants {
         }
     }
 
-    /// Up to two waiting writes in open banks, of any order in time.
-    pub fn writes(&self, random: &mut Random, open: &[usize], columns: u16) -> Vec<Write> {
+    /// Up to two waiting writes in open banks, of any order in time; WRAs among them or not.
+    pub fn writes(
+        &self,
+        random: &mut Random,
+        open: &[usize],
+        columns: u16,
+        closing: bool,
+    ) -> Vec<Write> {
         let count = if open.is_empty() { 0 } else { random.below(3) };
         let mut write = || {
             let column = random.below(columns.into()) as u32;
             let bank = random.pick(open) as u32;
-            (bank, column, self.instant(random, false))
+            let at = self.instant(random, false);
+            (bank, column, at, closing && random.chance(3))
         };
         (0..count).map(|_| write()).collect()
     }
 
     /// Writes all last instants of a state.
     pub fn put_lasts(&self, random: &mut Random, state: &mut [u8]) {
-        for at in (0..640).chain(704..724).step_by(4) {
+        for at in (0..640).chain(704..728).step_by(4) {
             let instant = self.instant(random, true);
             put_instant(state, at, instant);
         }

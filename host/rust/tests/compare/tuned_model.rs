@@ -1,11 +1,9 @@
-//! The device model in plain Rust, written for speed from documents 01 and 02 (a, c): banks, write
+//! The device model in plain Rust, written for speed from documents 01 and 02 (a, c, f): banks, write
 //! buffer and last instants in a struct of numbers, and no list (the rival "tuned" of the benches). It goes on from
 //! any state that is not refused, also one that no run reaches.
 
 use super::tuned_records::{dualoct, received, refused, Dualoct, Record, Refused};
-use super::tuned_state::{
-    beside, near, since, Channel, Figures, Write, BASE, FULL, MOST, UNDER_REFRESH,
-};
+use super::tuned_state::{beside, Channel, Figures, Write, BASE, MOST, UNDER_REFRESH};
 
 pub const MODEL_BYTES: usize = 792;
 
@@ -25,15 +23,6 @@ pub struct Model {
     second: Dualoct,
 }
 
-/// The first broken one of some rules, in rising order.
-macro_rules! rules {
-    ($($rule:literal: $broken:expr),* $(,)?) => {
-        $(if $broken {
-            return Err($rule);
-        })*
-    };
-}
-
 impl Model {
     pub fn fresh() -> Model {
         Model {
@@ -41,116 +30,6 @@ impl Model {
             refr: 0,
             data: [0; 16],
             second: [0; 16],
-        }
-    }
-
-    // ---- Rules: each answers the lowest that is broken ----
-
-    fn judge_opening(&mut self, f: &Figures, at: u32, bank: usize) -> Result<(), u32> {
-        let ch = &mut self.channel;
-        let (below, above) = beside(f, bank);
-        rules! {
-            2: at < since(ch.last_row, 4),
-            4: ch.tags[below] | ch.tags[bank] | ch.tags[above] != 0,
-            5: at < since(near(f, &ch.opened, bank), f.rc) || at < ch.others_ask(f, bank),
-            7: at < since(near(f, &ch.pre, bank), f.rp),
-            15: ch.due,
-        }
-        Ok(())
-    }
-
-    fn judge_prer(&self, f: &Figures, at: u32, bank: usize) -> Result<(), u32> {
-        let ch = &self.channel;
-        let (below, above) = beside(f, bank);
-        rules! {
-            2: at < since(ch.last_row, 4),
-            6: at < since(near(f, &ch.opened, bank), f.ras),
-            8: at < since(ch.last_pre, f.pp),
-            13: at < since(near(f, &ch.rd, bank), f.rdp) || at < since(near(f, &ch.retire, bank), f.rtp),
-            14: ch.waiting().iter().any(|w| (below..=above).contains(&w.bank)),
-            15: ch.due,
-        }
-        Ok(())
-    }
-
-    fn judge_rd(&self, f: &Figures, at: u32, bank: usize, mask: u16) -> Result<(), u32> {
-        let ch = &self.channel;
-        rules! {
-            3: at < since(ch.last_col, f.cc),
-            9: !self.is_open(bank),
-            10: at < since(ch.act[bank], f.rcd),
-            12: ch.count > 1,
-            15: ch.due,
-            16: mask != FULL,
-        }
-        Ok(())
-    }
-
-    fn judge_wr(&self, f: &Figures, at: u32, bank: usize, mask: u16) -> Result<(), u32> {
-        let (ch, retired) = (&self.channel, self.retires(f, at));
-        rules! {
-            3: at < since(ch.last_col, f.cc),
-            9: !self.is_open(bank),
-            10: at < since(ch.act[bank], f.act_to_wr) || at < self.retire_asks(f, retired),
-            11: at < since(ch.last_rd, f.rd_to_wr),
-            12: ch.count > 1 && retired.is_none(),
-            15: ch.due,
-            16: mask != FULL && retired.is_none(),
-        }
-        Ok(())
-    }
-
-    fn judge_nocop(&self, f: &Figures, at: u32, mask: u16) -> Result<(), u32> {
-        let (ch, retired) = (&self.channel, self.retires(f, at));
-        rules! {
-            3: at < since(ch.last_col, f.cc),
-            10: at < self.retire_asks(f, retired),
-            12: ch.count > 0 && retired.is_none(),
-            15: ch.due,
-            16: mask != FULL && retired.is_none(),
-        }
-        Ok(())
-    }
-
-    fn judge_data(&self, f: &Figures, at: u32) -> Result<(), u32> {
-        let ch = &self.channel;
-        rules! { 15: !(ch.due && ch.waiting().last().is_some_and(|w| at == w.at + f.cwd)) }
-        Ok(())
-    }
-
-    /// The write that a COL packet other than RD retires.
-    fn retires(&self, f: &Figures, at: u32) -> Option<Write> {
-        let w = self.channel.writes[0];
-        (self.channel.count > 0 && at >= w.at + f.rtr).then_some(w)
-    }
-
-    /// Rule 10 for the bank that is retired to.
-    fn retire_asks(&self, f: &Figures, retired: Option<Write>) -> u32 {
-        retired.map_or(0, |w| since(self.channel.act[w.bank & 31], f.rcd))
-    }
-
-    fn is_open(&self, bank: usize) -> bool {
-        (1..UNDER_REFRESH).contains(&self.channel.tags[bank])
-    }
-
-    /// The lowest rule that is broken. Rule 1 first: after it all sums fit 32 bits.
-    #[inline(always)]
-    fn judge(&mut self, f: &Figures, at: u32, record: &Record) -> Result<(), u32> {
-        let (delay, packet) = match record {
-            Record::Rd { .. } => (f.cac, true),
-            Record::Wr { .. } => (f.cwd, true),
-            Record::D { .. } => (0, false),
-            _ => (0, true),
-        };
-        let in_range = (1..=MOST - delay).contains(&at);
-        rules! { 1: !in_range | (packet & (at < self.channel.last)) }
-        match *record {
-            Record::Act { bank, .. } | Record::Refa { bank } => self.judge_opening(f, at, bank),
-            Record::Prer { bank } => self.judge_prer(f, at, bank),
-            Record::Rd { bank, mask, .. } => self.judge_rd(f, at, bank, mask),
-            Record::Wr { bank, mask, .. } => self.judge_wr(f, at, bank, mask),
-            Record::Nocop { mask } => self.judge_nocop(f, at, mask),
-            Record::D { .. } => self.judge_data(f, at),
         }
     }
 
@@ -184,7 +63,7 @@ impl Model {
     /// A COL packet other than RD.
     fn retire(&mut self, f: &Figures, at: u32, mask: u16, store: &mut [u8]) -> Event {
         (self.channel.last, self.channel.last_col) = (at, at);
-        let Some(w) = self.retires(f, at) else {
+        let Some(w) = self.channel.retires(f, at) else {
             return Event::Neither;
         };
         self.channel.retired(at);
@@ -192,6 +71,9 @@ impl Model {
         let dualoct = dualoct(f, store, w.bank & 31, row, w.column);
         for (i, (byte, new)) in dualoct.iter_mut().zip(&self.data).enumerate() {
             *byte = if mask >> i & 1 == 1 { *new } else { *byte };
+        }
+        if w.closes {
+            self.channel.imply(f, at, w.bank);
         }
         self.data = self.second;
         Event::Retired(mask.count_ones())
@@ -221,7 +103,7 @@ impl Model {
     ) -> Result<Event, Refused> {
         let (at, record) = received(f, store, record)?;
         let at = at.wrapping_sub(BASE); // out of range where it wraps
-        if let Err(rule) = self.judge(f, at, &record) {
+        if let Err(rule) = self.channel.judge(f, at, &record) {
             return Err(Refused { number: 11, rule });
         }
         self.take(f, at, record, store, answer)
@@ -252,18 +134,36 @@ impl Model {
                 self.channel.due = false;
             }
             Record::Nocop { mask } => return Ok(self.retire(f, at, mask, store)),
-            Record::Wr { bank, column, mask } => {
+            Record::Wr {
+                bank,
+                column,
+                mask,
+                close: closes,
+            } => {
                 let event = self.retire(f, at, mask, store);
-                self.channel.joined(Write { bank, column, at });
+                self.channel.joined(Write {
+                    bank,
+                    column,
+                    at,
+                    closes,
+                });
                 self.channel.due = true;
                 return Ok(event);
             }
-            Record::Rd { bank, column, .. } => {
+            Record::Rd {
+                bank,
+                column,
+                close,
+                ..
+            } => {
                 let Some(answer) = answer.first_chunk_mut() else {
                     return refused(8);
                 };
                 *answer = *dualoct(f, store, bank, row_of(self.channel.tags[bank]), column);
                 self.read(at, bank);
+                if close {
+                    self.channel.imply(f, at, bank);
+                }
                 return Ok(Event::Read);
             }
         }

@@ -1,15 +1,15 @@
-//! The planner in plain Rust, written for speed from documents 01 and 02 (a, c, d): last instants in a
+//! The planner in plain Rust, written for speed from documents 01 and 02 (a, c, d, f): last instants in a
 //! struct of numbers, and no list (the rival "tuned" of the benches). It plans from any state that is not
 //! refused, also one that no run reaches.
 
 use super::tuned_requests::{Asked, Out, Refused, Request, RECORDS};
 use super::tuned_state::{
-    beside, near, since, Channel, Figures, Write, ACT, BASE, FULL, MOST, NOCOP, PRER, RD, REFA,
-    REFP, WR,
+    beside, near, since, Channel, Figures, Write, ACT, BASE, FULL, MOST, NOCOP, PRER, RD, RDA,
+    REFA, REFP, WR, WRA,
 };
 
 /// No request gets from here past the last instant: it makes at most 32 packets, each at most 64
-/// after the latest instant before it, and data come at most 12 later.
+/// after the latest instant before it, and data and implied PRERs come at most 32 later.
 const SAFE: u32 = MOST - 4_096;
 pub const STATE_BYTES: usize = 768;
 
@@ -38,11 +38,12 @@ impl Planner {
         }
     }
 
-    /// Rules 1 and 2 of a ROW packet, and rules 1 and 3 of a COL packet.
+    /// Rules 1, 2 and 17 of a ROW packet, and rules 1 and 3 of a COL packet.
     fn row_from(&self) -> u32 {
         self.now
             .max(self.channel.last)
             .max(since(self.channel.last_row, 4))
+            .max(self.channel.last_implied)
     }
 
     fn col_from(&self, f: &Figures) -> u32 {
@@ -105,25 +106,36 @@ impl Planner {
         std::mem::replace(&mut self.mask, self.second)
     }
 
-    /// NOCOP where a write waits.
-    fn nocop(&mut self, f: &Figures, out: &mut Out) {
-        let at = self.col_from(f).max(self.retire_from(f));
+    /// NOCOP where a write waits, not before an instant; answers its own.
+    fn nocop(&mut self, f: &Figures, out: &mut Out, from: u32) -> u32 {
+        let at = self.col_from(f).max(self.retire_from(f)).max(from);
         let mask = self.retire(at);
         self.col_sent(at);
         out.col(f, at + BASE, NOCOP, 0, 0, mask);
+        at
+    }
+
+    /// NOCOPs until a WRA has retired, which waits alone or beside an older write.
+    fn nocops_to_close(&mut self, f: &Figures, out: &mut Out) {
+        if self.channel.count > 1 {
+            self.nocop(f, out, 0);
+        }
+        let bank = self.channel.writes[0].bank & 31;
+        let at = self.nocop(f, out, self.channel.implied_asks(f, bank));
+        self.channel.imply(f, at, bank);
     }
 
     /// Closes a bank if it is open.
     fn close(&mut self, f: &Figures, out: &mut Out, bank: usize) {
         if self.channel.tags[bank] != 0 {
             while self.channel.waiting().iter().any(|w| w.bank == bank) {
-                self.nocop(f, out);
+                self.nocop(f, out, 0);
             }
             self.precharge(f, out, bank, PRER);
         }
     }
 
-    /// Closes the open ones of a bank and its neighbours.
+    /// The open ones of a bank and its neighbours.
     fn close_near(&mut self, f: &Figures, out: &mut Out, bank: usize) {
         let (below, above) = beside(f, bank);
         self.close(f, out, below);
@@ -150,16 +162,45 @@ impl Planner {
         self.reach(f, out, asked);
         let own = |w: &Write| (w.bank, w.column) == (bank, column);
         while self.channel.count > 1 || self.channel.waiting().iter().any(own) {
-            self.nocop(f, out);
+            self.nocop(f, out, 0);
         }
         let at = self.col_from(f).max(since(self.channel.act[bank], f.rcd));
-        (self.channel.rd[bank], self.channel.last_rd) = (at, at);
-        self.col_sent(at);
+        self.read_sent(at, bank);
         out.col(f, at + BASE, RD, bank, column, FULL);
     }
 
+    fn read_sent(&mut self, at: u32, bank: usize) {
+        (self.channel.rd[bank], self.channel.last_rd) = (at, at);
+        self.col_sent(at);
+    }
+
+    #[inline(never)]
+    fn read_close(&mut self, f: &Figures, out: &mut Out, asked: &Asked) {
+        let (bank, column) = (asked.bank & 31, asked.column);
+        self.reach(f, out, asked);
+        while self.channel.count > 1 || self.channel.waiting().iter().any(|w| w.bank == bank) {
+            self.nocop(f, out, 0);
+        }
+        let at = self
+            .col_from(f)
+            .max(since(self.channel.act[bank], f.rcd))
+            .max(self.channel.implied_asks(f, bank));
+        self.read_sent(at, bank);
+        self.channel.imply(f, at, bank);
+        out.col(f, at + BASE, RDA, bank, column, FULL);
+    }
+
+    /// Answers the instant of the D.
+    #[inline(never)]
+    fn write_close(&mut self, f: &Figures, out: &mut Out, asked: &Asked) -> u32 {
+        self.write(f, out, asked, WRA);
+        let data = self.now + f.cwd;
+        self.nocops_to_close(f, out);
+        data
+    }
+
     #[inline]
-    fn write(&mut self, f: &Figures, out: &mut Out, asked: &Asked) {
+    fn write(&mut self, f: &Figures, out: &mut Out, asked: &Asked, cop: u64) {
         let (bank, column) = (asked.bank & 31, asked.column);
         self.reach(f, out, asked);
         let from = self
@@ -178,9 +219,14 @@ impl Planner {
             0 => self.mask = asked.mask,
             _ => self.second = asked.mask,
         }
-        self.channel.joined(Write { bank, column, at });
+        self.channel.joined(Write {
+            bank,
+            column,
+            at,
+            closes: cop == WRA,
+        });
         self.col_sent(at);
-        out.col(f, at + BASE, WR, bank, column, mask);
+        out.col(f, at + BASE, cop, bank, column, mask);
         out.add(at + BASE + f.cwd, 2, 0, asked.low, asked.high);
     }
 
@@ -195,7 +241,7 @@ impl Planner {
 
     fn flush(&mut self, f: &Figures, out: &mut Out) {
         while self.channel.count > 0 {
-            self.nocop(f, out);
+            self.nocop(f, out, 0);
         }
     }
 
@@ -207,24 +253,32 @@ impl Planner {
         }
     }
 
-    /// Plans without regard to the horizon; answers the delay of the data of the last packet.
+    /// Plans without regard to the horizon; answers the latest instant.
     #[inline(always)]
     fn serve(&mut self, f: &Figures, out: &mut Out, asked: &Asked) -> u32 {
         match asked.kind {
             Request::Read => {
                 self.read(f, out, asked);
-                return f.cac;
+                return self.now + f.cac;
             }
             Request::Write => {
-                self.write(f, out, asked);
-                return f.cwd;
+                self.write(f, out, asked, WR);
+                return self.now + f.cwd;
+            }
+            Request::ReadClose => {
+                self.read_close(f, out, asked);
+                return self.now + f.cac.max(f.offp);
+            }
+            Request::WriteClose => {
+                let data = self.write_close(f, out, asked);
+                return data.max(self.now + f.offp);
             }
             Request::Refresh => self.refresh(f, out),
             Request::Flush => self.flush(f, out),
             Request::Close => self.close_all(f, out),
             Request::Wait => {}
         }
-        0
+        self.now
     }
 
     /// Plans on a copy, which takes the planner's place where nothing is refused.
@@ -240,10 +294,9 @@ impl Planner {
             records: &mut records,
             used: 0,
         };
-        let delay = next.serve(f, &mut out, asked);
+        let latest = next.serve(f, &mut out, asked);
         let used = out.used;
-        // Instants never fall, so the last packet or its data come last.
-        if next.now + delay > MOST {
+        if latest > MOST {
             return Err(7);
         }
         if room.len() / 32 < used {
@@ -311,6 +364,7 @@ impl Planner {
             & (number(752) >> 32 < 32) // the refresh bank and zeros
             & (number(760) >> 32 == 0)
             & !ch.due
+            & !(ch.writes[0].closes | ch.writes[1].closes)
             & ch.buffer_fits(f, state.first_chunk().unwrap())
     }
 

@@ -1,7 +1,7 @@
-//! What a device model in plain Rust takes, written for speed from documents 01 and 02 (a): records of
+//! What a device model in plain Rust takes, written for speed from documents 01 and 02 (a, f): records of
 //! bytes, and the dualocts of a store.
 
-use super::tuned_state::{Figures, ACT, FULL, NOCOP, PRER, RD, REFA, REFP, WR};
+use super::tuned_state::{Figures, ACT, FULL, NOCOP, PRER, RD, RDA, REFA, REFP, WR, WRA};
 
 /// The number of a refusal, and the rule where it is 11.
 #[derive(Clone, Copy, Debug, PartialEq, Eq)]
@@ -30,15 +30,19 @@ pub enum Record {
     Prer {
         bank: usize,
     },
+    /// RD, or RDA, which closes its bank.
     Rd {
         bank: usize,
         column: u32,
         mask: u16,
+        close: bool,
     },
+    /// WR, or WRA, whose retire closes its bank.
     Wr {
         bank: usize,
         column: u32,
         mask: u16,
+        close: bool,
     },
     Nocop {
         mask: u16,
@@ -76,9 +80,20 @@ fn col_record(f: &Figures, word: u64) -> Option<Record> {
         return None;
     }
     let (bank, column) = ((rest >> 29 & 31) as usize, column as u32);
-    match rest >> 17 & 15 {
-        WR => Some(Record::Wr { bank, column, mask }),
-        RD => Some(Record::Rd { bank, column, mask }),
+    let cop = rest >> 17 & 15;
+    match cop {
+        WR | WRA => Some(Record::Wr {
+            bank,
+            column,
+            mask,
+            close: cop == WRA,
+        }),
+        RD | RDA => Some(Record::Rd {
+            bank,
+            column,
+            mask,
+            close: cop == RDA,
+        }),
         NOCOP if rest >> 17 == 0 => Some(Record::Nocop { mask }),
         _ => None,
     }

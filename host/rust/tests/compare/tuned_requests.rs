@@ -1,4 +1,4 @@
-//! What a planner in plain Rust takes and makes, written for speed from documents 01 and 02 (a, c, d):
+//! What a planner in plain Rust takes and makes, written for speed from documents 01 and 02 (a, c, d, f):
 //! requests of bytes, and the records of a call.
 
 use super::tuned_state::{Figures, FULL};
@@ -17,6 +17,8 @@ pub enum Request {
     Wait,
     Flush,
     Close,
+    ReadClose,
+    WriteClose,
 }
 
 /// A request: its kind, its place, and its mask and data or cycles as they stand in the bytes.
@@ -43,6 +45,8 @@ impl Asked {
             3 => (Request::Wait, head >> 8 | low >> 32 | high),
             4 => (Request::Flush, head >> 8 | low | high),
             5 => (Request::Close, head >> 8 | low | high),
+            6 => (Request::ReadClose, head >> 40 | low | high),
+            7 => (Request::WriteClose, head & 0xFF << 40),
             _ => return Err(2),
         };
         let asked = Asked {

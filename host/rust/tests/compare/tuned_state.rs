@@ -1,5 +1,5 @@
 //! What the tuned planner and the tuned model have in common, written for speed from documents 01
-//! and 02 (a, c): settings, the words' codes, and banks, write buffer and last instants as a struct of numbers.
+//! and 02 (a, c, f): settings, the words' codes, and banks, write buffer and last instants as a struct of numbers.
 
 pub const LAST: u32 = 1_000_000_000;
 /// Instants of states are counted from here.
@@ -24,6 +24,7 @@ pub struct Figures {
     pub cc: u32,
     pub cac: u32,
     pub cwd: u32,
+    pub offp: u32,
     pub rows: u32,
     pub columns: u32,
     pub act_to_wr: u32,
@@ -38,7 +39,7 @@ pub struct Figures {
 #[rustfmt::skip]
 const BOUNDS: [(u16, u16); 16] = [
     (4, 64), (4, 64), (4, 64), (4, 64), (4, 64), (4, 64), (4, 64), (4, 64), (4, 64), (4, 16),
-    (7, 12), (1, 11), (0, 0), (1, 512), (1, 128), (0, 31),
+    (7, 12), (1, 11), (4, 32), (1, 512), (1, 128), (0, 31),
 ];
 
 /// The banks of a run by the core form, less 1.
@@ -72,6 +73,7 @@ impl Figures {
             cc: n(9),
             cac: n(10),
             cwd: n(11),
+            offp: n(12),
             rows: n(13),
             columns: n(14),
             act_to_wr: n(5).saturating_sub(n(6)),
@@ -93,6 +95,8 @@ pub const REFP: u64 = 0x540;
 pub const NOCOP: u64 = 0;
 pub const WR: u64 = 1;
 pub const RD: u64 = 3;
+pub const WRA: u64 = 5;
+pub const RDA: u64 = 7;
 pub const FULL: u16 = 0xFFFF;
 
 // ---- Channel ----
@@ -102,6 +106,8 @@ pub struct Write {
     pub bank: usize,
     pub column: u32,
     pub at: u32,
+    /// Whether it is a WRA: its retire closes the bank.
+    pub closes: bool,
 }
 
 impl Write {
@@ -109,6 +115,7 @@ impl Write {
         bank: 0,
         column: 0,
         at: 0,
+        closes: false,
     };
 
     /// The write of 8 bytes.
@@ -117,11 +124,13 @@ impl Write {
             bank: (bytes & 0xFF) as usize,
             column: (bytes >> 8 & 0xFF) as u32,
             at: (bytes >> 32) as u32,
+            closes: bytes >> 16 & 1 == 1,
         }
     }
 
     fn bytes(self) -> u64 {
-        u64::from(self.at) << 32 | u64::from(self.column) << 8 | self.bank as u64
+        let closes = u64::from(self.closes) << 16;
+        u64::from(self.at) << 32 | closes | u64::from(self.column) << 8 | self.bank as u64
     }
 }
 
@@ -140,6 +149,7 @@ pub struct Channel {
     pub last_col: u32,
     pub last_pre: u32,
     pub last_rd: u32,
+    pub last_implied: u32,
     /// How many writes wait, and these, oldest first.
     pub count: usize,
     pub writes: [Write; 2],
@@ -192,6 +202,7 @@ impl Channel {
         last_col: 0,
         last_pre: 0,
         last_rd: 0,
+        last_implied: 0,
         count: 0,
         writes: [Write::NONE; 2],
         due: false,
@@ -217,6 +228,24 @@ impl Channel {
     pub fn joined(&mut self, write: Write) {
         self.writes[self.count & 1] = write;
         self.count += 1;
+    }
+
+    // ---- Implied PRERs ----
+
+    /// What rules 6, 8 and 13 ask of a packet whose PRER of a bank is implied.
+    pub fn implied_asks(&self, f: &Figures, bank: usize) -> u32 {
+        let asked = since(near(f, &self.opened, bank), f.ras)
+            .max(since(self.last_pre, f.pp))
+            .max(since(near(f, &self.rd, bank), f.rdp))
+            .max(since(near(f, &self.retire, bank), f.rtp));
+        asked.saturating_sub(f.offp)
+    }
+
+    /// The PRER that a packet at an instant implies. Neighbours of a bank that is open are closed.
+    pub fn imply(&mut self, f: &Figures, at: u32, bank: usize) {
+        let prer = at + f.offp;
+        (self.last_pre, self.last_implied) = (prer, prer);
+        (self.pre[bank & 31], self.tags[bank & 31]) = (prer, 0);
     }
 
     /// Rule 5 for banks that are not near. Where tRR is at most tRC the last ACT decides.
@@ -251,6 +280,7 @@ impl Channel {
             last_col: number(712),
             last_pre: number(716),
             last_rd: number(720),
+            last_implied: number(724),
             count: state[728].into(),
             writes: [write(736), write(744)],
             due: state[729] != 0,
@@ -266,8 +296,8 @@ impl Channel {
             planes.iter().fold(all, |all, p| all | bad(p[i]))
         });
         let [a, b, c] = [self.last, self.last_row, self.last_col].map(bad);
-        let [d, e] = [self.last_pre, self.last_rd].map(bad);
-        banks | a | b | c | d | e == 0
+        let [d, e, f] = [self.last_pre, self.last_rd, self.last_implied].map(bad);
+        banks | a | b | c | d | e | f == 0
     }
 
     /// Whether of two neighbours one is closed.
@@ -280,15 +310,15 @@ impl Channel {
         (both == 0) | (f.run == 0)
     }
 
-    /// Whether the bytes from 724 on are of a buffer, and the banks of waiting writes are open by ACT.
+    /// Whether the bytes from 728 on are of a buffer, and the banks of waiting writes are open by ACT.
     pub fn buffer_fits(&self, f: &Figures, state: &[u8; CHANNEL_BYTES]) -> bool {
         let number = |at: usize| u64::from_le_bytes(state[at..at + 8].try_into().unwrap());
         let (counts, writes) = (number(728), [number(736), number(744)]);
         // So many writes, due or not, and zeros.
         let counted = match counts & !0x100 {
             0 => counts | writes[0] | writes[1] == 0,
-            1 => writes[0] & 0xFFFF_0000 | writes[1] == 0,
-            2 => (writes[0] | writes[1]) & 0xFFFF_0000 == 0,
+            1 => writes[0] & 0xFFFE_0000 | writes[1] == 0,
+            2 => (writes[0] | writes[1]) & 0xFFFE_0000 == 0,
             _ => false,
         };
         let open = |tag: &u16| (1..UNDER_REFRESH).contains(tag);
@@ -297,7 +327,7 @@ impl Channel {
                 && w.column < f.columns
                 && w.at.wrapping_sub(1) < MOST
         };
-        number(720) >> 32 == 0 && counted && self.waiting().iter().all(fits)
+        counted && self.waiting().iter().all(fits)
     }
 
     pub fn encode(&self, state: &mut [u8; CHANNEL_BYTES]) {
@@ -316,12 +346,12 @@ impl Channel {
             self.last_col,
             self.last_pre,
             self.last_rd,
+            self.last_implied,
         ];
-        for (bytes, at) in state[704..724].as_chunks_mut::<4>().0.iter_mut().zip(lasts) {
+        for (bytes, at) in state[704..728].as_chunks_mut::<4>().0.iter_mut().zip(lasts) {
             *bytes = at.to_le_bytes();
         }
         let counts = u64::from(self.due) << 8 | self.count as u64;
-        state[724..728].fill(0);
         state[728..736].copy_from_slice(&counts.to_le_bytes());
         state[736..744].copy_from_slice(&self.writes[0].bytes().to_le_bytes());
         state[744..].copy_from_slice(&self.writes[1].bytes().to_le_bytes());

@@ -6,71 +6,17 @@ use crate::calls::typed;
 use crate::flat_memory::FlatMemory;
 use crate::model_calls::{any_store, small_numbers};
 use crate::plan_calls::ENOUGH;
-use crate::plan_streams::{bare, read, wait, write, Maker, CLOSE, FLUSH, READ, REFRESH, WRITE};
+use crate::plan_streams::{
+    bare, closing, read, wait, write, Maker, CLOSE, FLUSH, READ, READ_CLOSE, REFRESH, WRITE,
+    WRITE_CLOSE,
+};
 use crate::random::{bytes, rounds, set_h, Random};
 use crate::reference::{COLUMNS, ROWS};
 use crate::reference_state::WAITING;
 use crate::rule_settings::{rule_numbers, SettingsSeen};
+use crate::whole_seen::Seen;
 use rdram::{Event, Model, Planner, Refusal, Settings};
 use std::collections::VecDeque;
-
-/// What runs did.
-#[derive(Default)]
-struct Seen {
-    runs: u64,
-    /// Plan calls that were accepted, by kind, and those that were refused, by number.
-    accepted: [u64; 6],
-    refused: [u64; 16],
-    records: u64,
-    reads: u64,
-    /// Model calls that were refused 8.
-    full: u64,
-    retires: u64,
-    /// The bytes that retires wrote.
-    written: u64,
-    /// Flushes by the number of writes that waited before them.
-    flushed: [u64; 3],
-    /// Turns of REFR from rows - 1 to 0.
-    refr_again: u64,
-}
-
-impl Seen {
-    fn report(&self, name: &str) {
-        let [read, write, refresh, wait, flush, close] = self.accepted;
-        println!(
-            "{name}: {} runs; accepted: {read} read, {write} write, {refresh} refresh, {wait} wait, \
-             {flush} flush, {close} close; refused, by number: {:?}",
-            self.runs, self.refused
-        );
-        println!(
-            "{name}: {} records, {} reads, {} calls refused 8, {} retires of {} bytes, {:?} writes \
-             before flushes, REFR started again {} times",
-            self.records,
-            self.reads,
-            self.full,
-            self.retires,
-            self.written,
-            self.flushed,
-            self.refr_again
-        );
-        assert_eq!(self.reads, read);
-        assert_eq!(self.retires, write);
-    }
-
-    /// Fails unless each of these was seen.
-    fn all(&self, refusals: &[usize]) {
-        assert!(self.accepted.iter().all(|n| *n > 0), "{:?}", self.accepted);
-        assert!(
-            refusals.iter().all(|n| self.refused[*n] > 0),
-            "{:?}",
-            self.refused
-        );
-        for count in [self.full, self.written, self.refr_again] {
-            assert!(count > 0);
-        }
-        assert!(self.flushed.iter().all(|n| *n > 0), "{:?}", self.flushed);
-    }
-}
 
 /// One run: planner and model of the library, the packet list between them, and flat memory.
 struct Run {
@@ -121,7 +67,7 @@ impl Run {
             Ok(records) => {
                 self.list.extend(room.as_chunks::<32>().0[..records].iter());
                 seen.accepted[usize::from(request[0])] += 1;
-                if request[0] == WRITE {
+                if [WRITE, WRITE_CLOSE].contains(&request[0]) {
                     let mask = u16::from_le_bytes([request[6], request[7]]);
                     self.ones += u64::from(mask.count_ones());
                 }
@@ -175,7 +121,7 @@ impl Run {
     fn refused_full(&mut self, record: &[u8], answer: &mut [u8]) -> bool {
         let small = self.store.len() <= SMALL;
         let (mut model, before) = (self.model.clone(), small.then(|| self.store.clone()));
-        let is_rd = record[4] == 1 && record[10] & 0x1E == 6;
+        let is_rd = record[4] == 1 && record[10] & 0x16 == 6; // COP 3 or 7
         if !is_rd {
             return false;
         }
@@ -363,8 +309,8 @@ fn refresh_rows() {
     seen.report("whole runs, refresh rows");
 }
 
-/// The traps of the paper: a masked write, a read of it, another row of its bank, another write; and
-/// two writes in flight.
+/// The traps of the paper: a masked write, a read of it, another row of its bank, another write; two
+/// writes in flight; and the same with some of them closing their bank.
 #[test]
 fn traps() {
     let (mut seen, mut random) = (Seen::default(), Random::new(106));
@@ -390,13 +336,20 @@ fn traps() {
                 read(9, 0, 2),
                 read(1, 1, 2),
             ];
-            let mut run = Run::new(&numbers, any_store(&mut random, &numbers));
-            for request in &requests {
-                run.plan(&mut seen, request, ENOUGH).unwrap();
+            for every in [0, 1, 2, 3, 4, 5] {
+                let mut run = Run::new(&numbers, any_store(&mut random, &numbers));
+                for (i, request) in requests.iter().enumerate() {
+                    let mut request = request.clone();
+                    if every > 0 && i % every == 0 {
+                        request = closing(request);
+                    }
+                    run.plan(&mut seen, &request, ENOUGH).unwrap();
+                }
+                run.finish(&mut random, &mut seen);
             }
-            run.finish(&mut random, &mut seen);
         }
     }
-    assert_eq!(seen.accepted[usize::from(READ)], 9 * 12);
+    let reads = [READ, READ_CLOSE].map(|kind| seen.accepted[usize::from(kind)]);
+    assert_eq!(reads[0] + reads[1], 9 * 12 * 6);
     seen.report("whole runs, traps");
 }

@@ -2,7 +2,7 @@
 
 use crate::calls::{word_decode, word_encode, Seen};
 use crate::random::{bytes, rounds, set_h, Random};
-use crate::reference::{Fields, ACT, COLUMNS, NOCOP, PRER, RD, REFP, ROWS, WR};
+use crate::reference::{Fields, ACT, COLUMNS, NOCOP, PRER, RD, RDA, REFP, ROWS, WR, WRA};
 
 const MASKS: [u32; 8] = [0, 1, 3, 0x8000, 0xFFFE, 0xFFFF, 0x10000, u32::MAX];
 
@@ -32,7 +32,11 @@ fn worked_words() {
     };
     assert_eq!(word_encode(&mut seen, &settings, act), Some(0x401000));
     assert_eq!(word_encode(&mut seen, &settings, rd), Some(0x80_0026_0000));
-    seen.report("words of the paper", &[0]);
+    for (command, word) in [(WRA, 0x80_002A_0000), (RDA, 0x80_002E_0000)] {
+        let closing = Fields { command, ..rd };
+        assert_eq!(word_encode(&mut seen, &settings, closing), Some(word));
+    }
+    seen.report("words of the papers", &[0]);
 }
 
 /// Rows, columns and what lies beside them.
@@ -51,7 +55,7 @@ fn fields_at_the_ends() {
     for _ in 0..40 {
         let numbers = random.numbers();
         let settings = bytes(&numbers);
-        for command in (0..=8).chain([0x100, u32::MAX]) {
+        for command in (0..=RDA + 2).chain([0x100, u32::MAX]) {
             for bank in (0..=32).chain([63, 64, 0x100, u32::MAX]) {
                 for place in places(&numbers) {
                     for mask in MASKS {
@@ -94,26 +98,18 @@ fn every_bank_row_and_column() {
             }
             for place in 0..=u32::from(numbers[COLUMNS]) {
                 let mask = random.below(0x10000) as u32;
-                both_ways(
-                    &mut seen,
-                    &settings,
-                    Fields {
-                        command: WR,
-                        bank,
-                        place,
-                        mask: 0xFFFF,
-                    },
-                );
-                both_ways(
-                    &mut seen,
-                    &settings,
-                    Fields {
-                        command: RD,
-                        bank,
-                        place,
-                        mask,
-                    },
-                );
+                for (command, mask) in [(WR, 0xFFFF), (RD, mask), (WRA, mask), (RDA, 0xFFFF)] {
+                    both_ways(
+                        &mut seen,
+                        &settings,
+                        Fields {
+                            command,
+                            bank,
+                            place,
+                            mask,
+                        },
+                    );
+                }
             }
             for command in PRER..=REFP {
                 both_ways(
@@ -137,7 +133,7 @@ fn every_mask() {
     let (mut seen, mut random) = (Seen::default(), Random::new(13));
     for mask in 0..=0x10000 {
         let numbers = random.numbers();
-        for command in NOCOP..=RD {
+        for command in NOCOP..=RDA {
             let p = Fields {
                 mask,
                 command,

@@ -1,7 +1,9 @@
 //! The check of the rival "plain", written for speed: one pass, with the first instant that each rule
 //! still allows.
 
-use crate::rivals::tuned_state::{self as state, Figures, ACT, NOCOP, PRER, RD, REFA, REFP, WR};
+use super::check_bank::{Bank, State, CLOSED};
+use super::form::{Form, Record};
+use crate::rivals::tuned_state::{self as state, Figures};
 
 const LAST: u64 = state::LAST as u64;
 
@@ -21,56 +23,19 @@ const RTP: usize = 8;
 const CC: usize = 9;
 const CAC: usize = 10;
 const CWD: usize = 11;
+const OFFP: usize = 12;
 
-#[derive(Clone, Copy, PartialEq, Eq)]
-enum State {
-    Closed,
-    Open,
-    Refresh,
-}
-
-/// A bank, and the first instants that rules 5, 6, 7, 10 and 13 allow in it.
+/// A waiting write: its bank, the instant from which on a packet retires it, and whether it is a WRA.
 #[derive(Clone, Copy)]
-struct Bank {
-    state: State,
-    last_act: Option<u64>,
-    act_5: u64,
-    prer_6: u64,
-    act_7: u64,
-    rd_10: u64,
-    wr_10: u64,
-    prer_13: u64,
-}
-
-const CLOSED: Bank = Bank {
-    state: State::Closed,
-    last_act: None,
-    act_5: 0,
-    prer_6: 0,
-    act_7: 0,
-    rd_10: 0,
-    wr_10: 0,
-    prer_13: 0,
-};
-
-/// What a well formed record is.
-#[derive(Clone, Copy)]
-enum Record {
-    Act { bank: usize, opens: bool },
-    Prer { bank: usize },
-    Rd { bank: usize, masked: bool },
-    Wr { bank: usize, masked: bool },
-    Nocop { masked: bool },
-    D,
+struct Write {
+    bank: usize,
+    from: u64,
+    closes: bool,
 }
 
 pub struct Checker {
-    t: [u64; 12],
-    rows: u64,
-    columns: u64,
-    row_device: u64,
-    col_device: u64,
-    second_device: u64,
+    t: [u64; 13],
+    form: Form,
     /// The banks of a run, less 1.
     run: usize,
     banks: [Bank; 32],
@@ -80,10 +45,9 @@ pub struct Checker {
     act_5: u64,
     prer_8: u64,
     wr_11: u64,
-    /// The banks of the waiting writes, oldest first, and the instants from which on a packet retires
-    /// them.
-    older: Option<(usize, u64)>,
-    newer: Option<(usize, u64)>,
+    row_17: u64,
+    older: Option<Write>,
+    newer: Option<Write>,
     /// The instant of the D that is due.
     due: Option<u64>,
 }
@@ -92,15 +56,11 @@ impl Checker {
     pub fn new(settings: &[u8]) -> Option<Checker> {
         let f = Figures::of(settings)?;
         let t = [
-            f.rc, f.ras, f.rp, f.pp, f.rr, f.rcd, f.rtr, f.rdp, f.rtp, f.cc, f.cac, f.cwd,
+            f.rc, f.ras, f.rp, f.pp, f.rr, f.rcd, f.rtr, f.rdp, f.rtp, f.cc, f.cac, f.cwd, f.offp,
         ];
         Some(Checker {
             t: t.map(u64::from),
-            rows: f.rows.into(),
-            columns: f.columns.into(),
-            row_device: f.row_device,
-            col_device: f.col_device,
-            second_device: f.second_device,
+            form: Form::of(&f),
             run: f.run,
             banks: [CLOSED; 32],
             now: 4,
@@ -109,6 +69,7 @@ impl Checker {
             act_5: 0,
             prer_8: 0,
             wr_11: 0,
+            row_17: 0,
             older: None,
             newer: None,
             due: None,
@@ -119,50 +80,6 @@ impl Checker {
     fn near(&self, bank: usize) -> std::ops::Range<usize> {
         let above = bank + 1;
         bank - usize::from(bank & self.run != 0)..above + usize::from(above & self.run != 0)
-    }
-
-    // ---- Form ----
-
-    fn row(&self, word: u64) -> Option<Record> {
-        let bank = (word >> 13 & 31) as usize;
-        match (word ^ self.row_device) & !(31 << 13) {
-            PRER | REFP => Some(Record::Prer { bank }),
-            REFA => Some(Record::Act { bank, opens: false }),
-            rest if rest.wrapping_sub(ACT) < self.rows => Some(Record::Act { bank, opens: true }),
-            _ => None,
-        }
-    }
-
-    fn col(&self, word: u64) -> Option<Record> {
-        let rest = word ^ self.col_device;
-        let (masked, low) = (rest & 0x10000 != 0, rest & 0xFFFF);
-        let low_fits = (masked & (low != 0xFFFF)) | (!masked & (low == self.second_device));
-        if !low_fits | ((rest & !(31 << 29)) >> 21 >= self.columns) {
-            return None;
-        }
-        let bank = (rest >> 29 & 31) as usize;
-        match rest >> 17 & 15 {
-            WR => Some(Record::Wr { bank, masked }),
-            RD => Some(Record::Rd { bank, masked }),
-            NOCOP if rest >> 17 == 0 => Some(Record::Nocop { masked }),
-            _ => None,
-        }
-    }
-
-    fn record(&self, bytes: &[u8; 32]) -> Option<Record> {
-        let number = |at: usize| u64::from_le_bytes(bytes[at..at + 8].try_into().unwrap());
-        let (kind, word) = (number(0) >> 32, number(8));
-        if kind == 2 {
-            return (word == 0).then_some(Record::D);
-        }
-        if number(16) | number(24) != 0 {
-            return None;
-        }
-        match kind {
-            0 => self.row(word),
-            1 => self.col(word),
-            _ => None,
-        }
     }
 
     // ---- Rules: each answers the lowest broken rule, or 0 and takes the record ----
@@ -185,6 +102,9 @@ impl Checker {
         if self.due.is_some() {
             return 15;
         }
+        if self.row_too_early(at) {
+            return 17;
+        }
         for b in &mut self.banks[near] {
             (b.act_5, b.prer_6) = (at + t[RC], at + t[RAS]);
         }
@@ -198,6 +118,11 @@ impl Checker {
         }
         (self.now, self.row_2, self.act_5) = (at, at + 4, at + t[RR]);
         0
+    }
+
+    fn row_too_early(&self, at: u64) -> bool {
+        let closes = |w: Option<Write>| w.is_some_and(|w| w.closes);
+        at < self.row_17 || closes(self.older) || closes(self.newer)
     }
 
     /// Rule 5 for banks that are not near. Where tRR is at most tRC the last ACT decides.
@@ -226,15 +151,25 @@ impl Checker {
             return 13;
         }
         let near = self.near(bank);
-        let lost = |(b, _): (usize, u64)| near.contains(&b);
+        let lost = |w: Write| near.contains(&w.bank);
         if self.older.is_some_and(lost) || self.newer.is_some_and(lost) {
             return 14;
         }
         if self.due.is_some() {
             return 15;
         }
+        if self.row_too_early(at) {
+            return 17;
+        }
+        self.close(at, bank);
+        (self.now, self.row_2) = (at, at + 4);
+        0
+    }
+
+    /// A PRER, implied or not, at an instant.
+    fn close(&mut self, at: u64, bank: usize) {
         let from = at + self.t[RP];
-        for b in near {
+        for b in self.near(bank) {
             if b == bank || self.banks[b].state != State::Closed {
                 let beside = self.near(b);
                 self.banks[beside].iter_mut().for_each(|c| c.act_7 = from);
@@ -242,17 +177,33 @@ impl Checker {
             self.banks[b].state = State::Closed;
             self.banks[b].act_7 = from;
         }
-        (self.now, self.row_2, self.prer_8) = (at, at + 4, at + self.t[PP]);
-        0
+        self.prer_8 = at + self.t[PP];
     }
 
-    fn rd(&mut self, at: u64, bank: usize, masked: bool) -> u32 {
+    /// The PRER that a packet at an instant implies: the lowest of rules 6 and 8 that it breaks, or 0.
+    fn implied(&self, at: u64, bank: usize) -> u32 {
+        match at + self.t[OFFP] {
+            prer if prer < self.banks[bank].prer_6 => 6,
+            prer if prer < self.prer_8 => 8,
+            _ => 0,
+        }
+    }
+
+    fn imply(&mut self, at: u64, bank: usize) {
+        self.row_17 = at + self.t[OFFP];
+        self.close(self.row_17, bank);
+    }
+
+    fn rd(&mut self, at: u64, bank: usize, masked: bool, close: bool) -> u32 {
         let t = &self.t;
-        if at + t[CAC] > LAST {
+        if at + t[CAC] > LAST || (close && at + t[OFFP] > LAST) {
             return 1;
         }
         if at < self.col_3 {
             return 3;
+        }
+        if close && self.implied(at, bank) != 0 {
+            return self.implied(at, bank);
         }
         if self.banks[bank].state != State::Open {
             return 9;
@@ -262,6 +213,12 @@ impl Checker {
         }
         if self.newer.is_some() {
             return 12;
+        }
+        if close && at + t[OFFP] < self.banks[bank].prer_13 {
+            return 13;
+        }
+        if close && self.older.is_some_and(|w| w.bank == bank) {
+            return 14;
         }
         if self.due.is_some() {
             return 15;
@@ -275,24 +232,65 @@ impl Checker {
         }
         self.wr_11 = at + t[CC] + t[CAC] - t[CWD];
         (self.now, self.col_3) = (at, at + t[CC]);
+        if close {
+            self.imply(at, bank);
+        }
         0
     }
 
-    /// WR of a bank, or NOCOP where there is none.
-    fn other_col(&mut self, at: u64, wr: Option<usize>, masked: bool) -> u32 {
+    /// WR of a bank, which closes it or not, or NOCOP where there is none.
+    fn other_col(&mut self, at: u64, wr: Option<(usize, bool)>, masked: bool) -> u32 {
+        let retired = self.older.filter(|w| at >= w.from);
+        let bank = wr.map(|(bank, _)| bank);
+        let rule = self.judge_other(at, bank, masked, retired);
+        if rule != 0 {
+            return rule;
+        }
+        if let Some(w) = retired {
+            let near = self.near(w.bank);
+            for b in &mut self.banks[near] {
+                b.prer_13 = b.prer_13.max(at + self.t[RTP]);
+            }
+            (self.older, self.newer) = (self.newer, None);
+            if w.closes {
+                self.imply(at, w.bank);
+            }
+        }
+        if let Some((bank, closes)) = wr {
+            let from = at + self.t[RTR];
+            let place = if self.older.is_none() {
+                &mut self.older
+            } else {
+                &mut self.newer
+            };
+            *place = Some(Write { bank, from, closes });
+        }
+        self.due = wr.map(|_| at + self.t[CWD]);
+        (self.now, self.col_3) = (at, at + self.t[CC]);
+        0
+    }
+
+    fn judge_other(&self, at: u64, wr: Option<usize>, masked: bool, retired: Option<Write>) -> u32 {
         let t = &self.t;
-        if wr.is_some() && at + t[CWD] > LAST {
+        // The bank that is closed, if a WRA is retired.
+        let closed = retired.filter(|w| w.closes).map(|w| w.bank);
+        if (wr.is_some() && at + t[CWD] > LAST) || (closed.is_some() && at + t[OFFP] > LAST) {
             return 1;
         }
         if at < self.col_3 {
             return 3;
         }
-        if wr.is_some_and(|b| self.banks[b].state != State::Open) {
+        if let Some(rule) = closed
+            .map(|b| self.implied(at, b))
+            .filter(|rule| *rule != 0)
+        {
+            return rule;
+        }
+        if wr.is_some_and(|b| self.banks[b].state != State::Open || closed == wr) {
             return 9;
         }
-        let retired = self.older.filter(|(_, from)| at >= *from);
         if wr.is_some_and(|b| at < self.banks[b].wr_10)
-            || retired.is_some_and(|(b, _)| at < self.banks[b].rd_10)
+            || retired.is_some_and(|w| at < self.banks[w.bank].rd_10)
         {
             return 10;
         }
@@ -303,29 +301,24 @@ impl Checker {
         if retired.is_none() && !stays {
             return 12;
         }
+        if closed.is_some_and(|b| at + t[OFFP] < self.banks[b].prer_13) {
+            return 13;
+        }
+        // No write waits behind a WRA, so none is lost by its retire (14).
         if self.due.is_some() {
             return 15;
         }
         if masked && retired.is_none() {
             return 16;
         }
-        if let Some((bank, _)) = retired {
-            let near = self.near(bank);
-            for b in &mut self.banks[near] {
-                b.prer_13 = b.prer_13.max(at + t[RTP]);
-            }
-            (self.older, self.newer) = (self.newer, None);
+        let left = if retired.is_some() {
+            self.newer
+        } else {
+            self.older
+        };
+        if wr.is_some() && left.is_some_and(|w| w.closes) {
+            return 17;
         }
-        if let Some(bank) = wr {
-            let write = Some((bank, at + t[RTR]));
-            if self.older.is_none() {
-                self.older = write;
-            } else {
-                self.newer = write;
-            }
-        }
-        self.due = wr.map(|_| at + t[CWD]);
-        (self.now, self.col_3) = (at, at + t[CC]);
         0
     }
 
@@ -350,8 +343,16 @@ impl Checker {
         match record {
             Record::Act { bank, opens } => self.act(at, bank, opens),
             Record::Prer { bank } => self.prer(at, bank),
-            Record::Rd { bank, masked } => self.rd(at, bank, masked),
-            Record::Wr { bank, masked } => self.other_col(at, Some(bank), masked),
+            Record::Rd {
+                bank,
+                masked,
+                close,
+            } => self.rd(at, bank, masked, close),
+            Record::Wr {
+                bank,
+                masked,
+                close,
+            } => self.other_col(at, Some((bank, close)), masked),
             Record::Nocop { masked } => self.other_col(at, None, masked),
             Record::D => 0,
         }
@@ -359,7 +360,7 @@ impl Checker {
 
     /// The lowest rule that a well formed record breaks, or 0. Only in that case it is taken.
     pub fn take(&mut self, bytes: &[u8; 32]) -> Option<u32> {
-        let record = self.record(bytes)?;
+        let record = self.form.record(bytes)?;
         let at = u32::from_le_bytes(bytes[..4].try_into().unwrap());
         Some(self.judge(at.into(), record))
     }
@@ -376,7 +377,7 @@ pub fn check(settings: &[u8], list: &[u8]) -> Result<(), Refused> {
         let rule = checker.take(bytes).ok_or((10, 0, place))?;
         if rule != 0 {
             let mut later = records[place..].iter();
-            let bad = later.position(|r| checker.record(r).is_none());
+            let bad = later.position(|r| checker.form.record(r).is_none());
             return Err(bad.map_or((11, rule, place), |i| (10, 0, place + i)));
         }
     }

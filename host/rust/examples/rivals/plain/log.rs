@@ -1,6 +1,6 @@
 //! The log calls of the rival "plain", written for speed.
 
-use crate::rivals::tuned_state::{Figures, ACT, PRER, RD, REFA, REFP, WR};
+use crate::rivals::tuned_state::{Figures, ACT, PRER, REFA, REFP};
 
 /// Number and place of a refusal.
 pub type Refused = (u32, usize);
@@ -17,7 +17,8 @@ fn col_fits(f: &Figures, word: u64) -> bool {
     let (cop, m, low) = (rest >> 17 & 15, rest & 0x10000 != 0, rest & 0xFFFF);
     let low_fits = (m & (low != 0xFFFF)) | (!m & (low == f.second_device));
     let column_fits = (rest & !(31 << 29)) >> 21 < f.columns.into();
-    low_fits & column_fits & ((cop == WR) | (cop == RD) | (rest >> 17 == 0))
+    // WR, RD, WRA and RDA are 1, 3, 5 and 7.
+    low_fits & column_fits & ((cop & 9 == 1) | (rest >> 17 == 0))
 }
 
 fn number(record: &[u8; 32], at: usize) -> u64 {

@@ -4,10 +4,15 @@
 //! words and records are those of the rival "tuned" (`tests/compare/tuned_*.rs`), whose channel is a
 //! struct of arrays.
 
+pub mod buffer;
+mod check_bank;
 pub mod checker;
+mod form;
 pub mod log;
 pub mod model;
 pub mod planner;
+
+pub use buffer::Buffer;
 
 use crate::rivals::tuned_state::{beside, since, Figures, Write, MOST, UNDER_REFRESH};
 
@@ -28,18 +33,10 @@ pub struct Track {
     /// ACT or REFA.
     pub opened: u32,
     pub act: u32,
-    /// PRER or REFP to it, or that closed it.
+    /// PRER, implied ones too, or REFP to it, or that closed it.
     pub pre: u32,
     pub rd: u32,
     pub retire: u32,
-}
-
-/// The waiting writes, oldest first.
-#[derive(Clone, Copy)]
-pub enum Buffer {
-    Empty,
-    One(Write),
-    Two(Write, Write),
 }
 
 /// Banks, last instants and write buffer.
@@ -51,6 +48,7 @@ pub struct Channel {
     pub last_col: u32,
     pub last_pre: u32,
     pub last_rd: u32,
+    pub last_implied: u32,
     pub buffer: Buffer,
     /// Whether the data of the newest write have not come.
     pub due: bool,
@@ -70,6 +68,7 @@ impl Channel {
             last_col: 0,
             last_pre: 0,
             last_rd: 0,
+            last_implied: 0,
             buffer: Buffer::Empty,
             due: false,
         }
@@ -137,6 +136,15 @@ impl Channel {
         latest(near.clone().map(|t| t.rd), f.rdp).max(latest(near.map(|t| t.retire), f.rtp))
     }
 
+    /// Rules 6, 8 and 13 of a packet that implies a PRER of a bank.
+    pub fn implied_from(&self, f: &Figures, bank: usize) -> u32 {
+        let prer = self
+            .rule_6(f, bank)
+            .max(self.rule_8(f))
+            .max(self.rule_13(f, bank));
+        prer.saturating_sub(f.offp)
+    }
+
     // ---- What a packet changes ----
 
     /// ACT on a row, or REFA.
@@ -151,6 +159,17 @@ impl Channel {
 
     /// PRER or REFP.
     pub fn close(&mut self, f: &Figures, at: u32, bank: usize) {
+        self.close_banks(f, at, bank);
+        (self.last, self.last_row) = (at, at);
+    }
+
+    /// The PRER that a packet at an instant implies.
+    pub fn imply(&mut self, f: &Figures, at: u32, bank: usize) {
+        self.close_banks(f, at + f.offp, bank);
+        self.last_implied = at + f.offp;
+    }
+
+    fn close_banks(&mut self, f: &Figures, at: u32, bank: usize) {
         let (below, above) = beside(f, bank);
         for x in below..=above {
             let t = &mut self.banks[x];
@@ -158,7 +177,7 @@ impl Channel {
                 (t.bank, t.pre) = (Bank::Closed, at);
             }
         }
-        (self.last, self.last_row, self.last_pre) = (at, at, at);
+        self.last_pre = at;
     }
 
     pub fn read(&mut self, at: u32, bank: usize) {
@@ -177,7 +196,7 @@ impl Channel {
 
     // ---- Bytes ----
 
-    /// None where the bytes from 724 on are of no buffer.
+    /// None where the bytes from 728 on are of no buffer.
     pub fn decode(bytes: &[u8; CHANNEL_BYTES]) -> Option<Channel> {
         let mut banks = [Track::CLOSED; 32];
         for (x, t) in banks.iter_mut().enumerate() {
@@ -197,6 +216,7 @@ impl Channel {
             last_col: word(bytes, 712),
             last_pre: word(bytes, 716),
             last_rd: word(bytes, 720),
+            last_implied: word(bytes, 724),
             buffer: Buffer::of(bytes.last_chunk().unwrap())?,
             due: bytes[729] == 1,
         })
@@ -217,6 +237,7 @@ impl Channel {
             && is_last(self.last_col)
             && is_last(self.last_pre)
             && is_last(self.last_rd)
+            && is_last(self.last_implied)
             && self.banks.iter().all(|t| t.valid(f))
             && runs_apart
             && !self.buffer.any(|w| !self.write_valid(f, w))
@@ -244,6 +265,7 @@ impl Channel {
         put_word(bytes, 712, self.last_col);
         put_word(bytes, 716, self.last_pre);
         put_word(bytes, 720, self.last_rd);
+        put_word(bytes, 724, self.last_implied);
         *bytes.last_chunk_mut().unwrap() = self.buffer.bytes(self.due);
     }
 }
@@ -287,86 +309,6 @@ impl Track {
             && is_last(self.pre)
             && is_last(self.rd)
             && is_last(self.retire)
-    }
-}
-
-impl Buffer {
-    pub fn older(self) -> Option<Write> {
-        match self {
-            Buffer::Empty => None,
-            Buffer::One(x) | Buffer::Two(x, _) => Some(x),
-        }
-    }
-
-    pub fn newest(self) -> Option<Write> {
-        match self {
-            Buffer::Empty => None,
-            Buffer::One(x) | Buffer::Two(_, x) => Some(x),
-        }
-    }
-
-    /// Whether some write that waits passes a test.
-    pub fn any(self, test: impl Fn(Write) -> bool) -> bool {
-        match self {
-            Buffer::Empty => false,
-            Buffer::One(x) => test(x),
-            Buffer::Two(x, y) => test(x) || test(y),
-        }
-    }
-
-    /// Without the older write.
-    fn left(self) -> Buffer {
-        match self {
-            Buffer::Empty | Buffer::One(_) => Buffer::Empty,
-            Buffer::Two(_, y) => Buffer::One(y),
-        }
-    }
-
-    /// With one more; no third write waits.
-    pub fn joined(self, w: Write) -> Buffer {
-        match self {
-            Buffer::Empty => Buffer::One(w),
-            Buffer::One(x) | Buffer::Two(x, _) => Buffer::Two(x, w),
-        }
-    }
-
-    /// None where the numbers of writes and of data due are of no buffer, or a byte that is not used
-    /// is not 0.
-    fn of(bytes: &[u8; 28]) -> Option<Buffer> {
-        let write = |at: usize| Write {
-            bank: bytes[at].into(),
-            column: bytes[at + 1].into(),
-            at: word(bytes, at + 4),
-        };
-        let buffer = match bytes[4] {
-            0 => Buffer::Empty,
-            1 => Buffer::One(write(12)),
-            2 => Buffer::Two(write(12), write(20)),
-            _ => return None,
-        };
-        (buffer.bytes(bytes[5] == 1) == *bytes).then_some(buffer)
-    }
-
-    fn bytes(self, due: bool) -> [u8; 28] {
-        let mut bytes = [0; 28];
-        let mut put = |at: usize, w: Write| {
-            (bytes[at], bytes[at + 1]) = (w.bank as u8, w.column as u8);
-            put_word(&mut bytes, at + 4, w.at);
-        };
-        let count = match self {
-            Buffer::Empty => 0,
-            Buffer::One(x) => {
-                put(12, x);
-                1
-            }
-            Buffer::Two(x, y) => {
-                put(12, x);
-                put(20, y);
-                2
-            }
-        };
-        (bytes[4], bytes[5]) = (count, due.into());
-        bytes
     }
 }
 

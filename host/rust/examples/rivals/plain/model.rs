@@ -54,6 +54,7 @@ impl Model {
     fn judge(&self, f: &Figures, at: u32, record: &Record) -> Result<(), u32> {
         let last = self.channel.last;
         let (from, delay) = match record {
+            Record::Rd { close: true, .. } => (last, f.cac.max(f.offp)),
             Record::Rd { .. } => (last, f.cac),
             Record::Wr { .. } => (last, f.cwd),
             Record::D { .. } => (0, 0),
@@ -63,7 +64,9 @@ impl Model {
         match *record {
             Record::Act { bank, .. } | Record::Refa { bank } => self.judge_opening(f, at, bank),
             Record::Prer { bank } => self.judge_prer(f, at, bank),
-            Record::Rd { bank, mask, .. } => self.judge_rd(f, at, bank, mask),
+            Record::Rd {
+                bank, mask, close, ..
+            } => self.judge_rd(f, at, bank, mask, close),
             Record::Wr { bank, mask, .. } => self.judge_other(f, at, Some(bank), mask),
             Record::Nocop { mask } => self.judge_other(f, at, None, mask),
             Record::D { .. } => {
@@ -79,7 +82,12 @@ impl Model {
         rule(4, ch.near(f, bank).iter().all(|t| t.bank == Bank::Closed))?;
         rule(5, at >= ch.rule_5(f, bank))?;
         rule(7, at >= ch.rule_7(f, bank))?;
-        rule(15, !self.due())
+        rule(15, !self.due())?;
+        rule(17, self.row_in_time(at))
+    }
+
+    fn row_in_time(&self, at: u32) -> bool {
+        at >= self.channel.last_implied && !self.channel.buffer.any(|w| w.closes)
     }
 
     fn judge_prer(&self, f: &Figures, at: u32, bank: usize) -> Result<(), u32> {
@@ -90,28 +98,56 @@ impl Model {
         rule(8, at >= ch.rule_8(f))?;
         rule(13, at >= ch.rule_13(f, bank))?;
         rule(14, !ch.buffer.any(near))?;
-        rule(15, !self.due())
+        rule(15, !self.due())?;
+        rule(17, self.row_in_time(at))
     }
 
-    fn judge_rd(&self, f: &Figures, at: u32, bank: usize, mask: u16) -> Result<(), u32> {
-        let ch = &self.channel;
+    fn judge_rd(
+        &self,
+        f: &Figures,
+        at: u32,
+        bank: usize,
+        mask: u16,
+        close: bool,
+    ) -> Result<(), u32> {
+        let (ch, prer) = (&self.channel, close.then_some(bank));
         rule(3, at >= ch.rule_3(f))?;
+        self.judge_implied(f, at, prer)?;
         rule(9, self.row(bank).is_some())?;
         rule(10, at >= ch.rule_10_rd(f, bank))?;
         rule(12, !matches!(ch.buffer, Buffer::Two(..)))?;
+        rule(13, self.implied_in_time(f, at, prer))?;
+        rule(14, !close || !ch.buffer.any(|w| w.bank == bank))?;
         rule(15, !self.due())?;
         rule(16, mask == FULL)
+    }
+
+    /// Rules 6 and 8 of the PRER of a bank, if any, that a packet implies.
+    fn judge_implied(&self, f: &Figures, at: u32, bank: Option<usize>) -> Result<(), u32> {
+        let Some(bank) = bank else {
+            return Ok(());
+        };
+        rule(6, at + f.offp >= self.channel.rule_6(f, bank))?;
+        rule(8, at + f.offp >= self.channel.rule_8(f))
+    }
+
+    /// Rule 13 of it.
+    fn implied_in_time(&self, f: &Figures, at: u32, bank: Option<usize>) -> bool {
+        bank.is_none_or(|bank| at + f.offp >= self.channel.rule_13(f, bank))
     }
 
     /// WR of a bank, or NOCOP where there is none.
     fn judge_other(&self, f: &Figures, at: u32, wr: Option<usize>, mask: u16) -> Result<(), u32> {
         let ch = &self.channel;
+        let retired = ch.retires(f, at);
+        let prer = retired.filter(|w| w.closes).map(|w| w.bank);
+        rule(1, prer.is_none() || at <= MOST - f.offp)?;
         rule(3, at >= ch.rule_3(f))?;
+        self.judge_implied(f, at, prer)?;
         if let Some(bank) = wr {
-            rule(9, self.row(bank).is_some())?;
+            rule(9, self.row(bank).is_some() && prer != wr)?;
             rule(10, at >= ch.rule_10_wr(f, bank))?;
         }
-        let retired = ch.retires(f, at);
         rule(10, retired.is_none_or(|w| at >= ch.rule_10_rd(f, w.bank)))?;
         rule(11, wr.is_none() || at >= ch.rule_11(f))?;
         let stays = match ch.buffer {
@@ -120,8 +156,16 @@ impl Model {
             Buffer::Two(..) => false,
         };
         rule(12, retired.is_some() || stays)?;
+        rule(13, self.implied_in_time(f, at, prer))?;
+        let left = match ch.buffer {
+            Buffer::Two(_, y) if retired.is_some() => Some(y),
+            Buffer::One(x) if retired.is_none() => Some(x),
+            _ => None, // two writes of which none is retired broke rule 12
+        };
+        rule(14, left.is_none_or(|w| prer != Some(w.bank)))?;
         rule(15, !self.due())?;
-        rule(16, mask == FULL || retired.is_some())
+        rule(16, mask == FULL || retired.is_some())?;
+        rule(17, wr.is_none() || left.is_none_or(|w| !w.closes))
     }
 
     fn due(&self) -> bool {
@@ -149,6 +193,9 @@ impl Model {
                 *byte = *new;
             }
         }
+        if w.closes {
+            self.channel.imply(f, at, w.bank);
+        }
         self.data = self.second;
         Event::Retired(mask.count_ones())
     }
@@ -171,20 +218,38 @@ impl Model {
             }
             Record::Prer { bank } => self.channel.close(f, at, bank),
             Record::Nocop { mask } => return Ok(self.retire(f, at, mask, store)),
-            Record::Wr { bank, column, mask } => {
+            Record::Wr {
+                bank,
+                column,
+                mask,
+                close: closes,
+            } => {
                 let event = self.retire(f, at, mask, store);
-                let write = Write { bank, column, at };
+                let write = Write {
+                    bank,
+                    column,
+                    at,
+                    closes,
+                };
                 self.channel.buffer = self.channel.buffer.joined(write);
                 self.channel.due = true;
                 return Ok(event);
             }
-            Record::Rd { bank, column, .. } => {
+            Record::Rd {
+                bank,
+                column,
+                close,
+                ..
+            } => {
                 let Some(answer) = answer.first_chunk_mut() else {
                     return refused(8);
                 };
                 let row = self.row(bank).unwrap(); // rule 9
                 *answer = *dualoct(f, store, bank, row, column);
                 self.channel.read(at, bank);
+                if close {
+                    self.channel.imply(f, at, bank);
+                }
                 return Ok(Event::Read);
             }
             Record::D { data } => {

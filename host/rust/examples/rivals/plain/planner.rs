@@ -4,7 +4,7 @@ use super::{half, is_instant, put_half, put_word, word, Bank, Buffer, Channel};
 use crate::rivals::tuned_plan::STATE_BYTES;
 use crate::rivals::tuned_requests::{Asked, Out, Refused, Request, RECORDS};
 use crate::rivals::tuned_state::{
-    beside, Figures, Write, ACT, BASE, FULL, MOST, NOCOP, PRER, RD, REFA, REFP, WR,
+    beside, Figures, Write, ACT, BASE, FULL, MOST, NOCOP, PRER, RD, RDA, REFA, REFP, WR, WRA,
 };
 
 #[derive(Clone, Copy)]
@@ -42,10 +42,11 @@ impl Planner {
             records: &mut records,
             used: 0,
         };
-        // Instants never fall, so this is the latest.
         let last = match asked.kind {
-            Request::Read => self.read(f, &mut out, &asked) + f.cac,
-            Request::Write => self.write(f, &mut out, &asked) + f.cwd,
+            Request::Read => self.read(f, &mut out, &asked, false) + f.cac,
+            Request::ReadClose => self.read(f, &mut out, &asked, true) + f.cac.max(f.offp),
+            Request::Write => self.write(f, &mut out, &asked, false) + f.cwd,
+            Request::WriteClose => self.write_close(f, &mut out, &asked),
             Request::Refresh => self.refresh(f, &mut out),
             Request::Flush => self.flush(f, &mut out),
             Request::Close => self.close_all(f, &mut out).ok_or(15u32)?,
@@ -68,12 +69,17 @@ impl Planner {
         self.now.max(self.channel.last)
     }
 
+    /// Rules 1, 2 and 17.
+    fn row_from(&self) -> u32 {
+        let ch = &self.channel;
+        self.from().max(ch.rule_2()).max(ch.last_implied)
+    }
+
     /// ACT or REFA.
     fn open(&mut self, f: &Figures, bank: usize, state: Bank) -> u32 {
         let ch = &self.channel;
         let at = self
-            .from()
-            .max(ch.rule_2())
+            .row_from()
             .max(ch.rule_5(f, bank))
             .max(ch.rule_7(f, bank));
         self.channel.open(at, bank, state);
@@ -85,8 +91,7 @@ impl Planner {
     fn precharge(&mut self, f: &Figures, out: &mut Out, bank: usize, code: u64) {
         let ch = &self.channel;
         let at = self
-            .from()
-            .max(ch.rule_2())
+            .row_from()
             .max(ch.rule_6(f, bank))
             .max(ch.rule_8(f))
             .max(ch.rule_13(f, bank));
@@ -99,10 +104,13 @@ impl Planner {
     /// that the packet carries for it.
     fn retire(&mut self, f: &Figures, at: u32) -> u16 {
         self.now = at;
-        match self.channel.retire(f, at) {
-            Some(_) => std::mem::replace(&mut self.mask, self.second),
-            None => FULL,
+        let Some(w) = self.channel.retire(f, at) else {
+            return FULL;
+        };
+        if w.closes {
+            self.channel.imply(f, at, w.bank);
         }
+        std::mem::replace(&mut self.mask, self.second)
     }
 
     /// NOCOPs while the waiting writes are such.
@@ -112,7 +120,10 @@ impl Planner {
                 return;
             }
             let ch = &self.channel;
-            let at = self.from().max(ch.rule_3(f)).max(ch.retire_from(f, w));
+            let mut at = self.from().max(ch.rule_3(f)).max(ch.retire_from(f, w));
+            if w.closes {
+                at = at.max(ch.implied_from(f, w.bank));
+            }
             let mask = self.retire(f, at);
             out.col(f, at + BASE, NOCOP, 0, 0, mask);
         }
@@ -144,21 +155,41 @@ impl Planner {
         }
     }
 
-    fn read(&mut self, f: &Figures, out: &mut Out, asked: &Asked) -> u32 {
+    fn read(&mut self, f: &Figures, out: &mut Out, asked: &Asked, close: bool) -> u32 {
         let (bank, column) = (asked.bank, asked.column);
         self.reach(f, out, asked);
-        let own = |w: Write| (w.bank, w.column) == (bank, column);
+        let own = |w: Write| w.bank == bank && (close || w.column == column);
         let two = |buffer: Buffer| matches!(buffer, Buffer::Two(..));
         self.nocops(f, out, |buffer| two(buffer) || buffer.any(own));
         let ch = &self.channel;
-        let at = self.from().max(ch.rule_3(f)).max(ch.rule_10_rd(f, bank));
+        let mut at = self.from().max(ch.rule_3(f)).max(ch.rule_10_rd(f, bank));
+        if close {
+            at = at.max(ch.implied_from(f, bank));
+        }
         self.channel.read(at, bank);
         self.now = at;
-        out.col(f, at + BASE, RD, bank, column, FULL);
+        if close {
+            self.channel.imply(f, at, bank);
+        }
+        out.col(
+            f,
+            at + BASE,
+            if close { RDA } else { RD },
+            bank,
+            column,
+            FULL,
+        );
         at
     }
 
-    fn write(&mut self, f: &Figures, out: &mut Out, asked: &Asked) -> u32 {
+    /// Answers the latest instant: of its D, or of the implied PRER.
+    fn write_close(&mut self, f: &Figures, out: &mut Out, asked: &Asked) -> u32 {
+        let data = self.write(f, out, asked, true) + f.cwd;
+        self.nocops(f, out, |_| true);
+        data.max(self.now + f.offp)
+    }
+
+    fn write(&mut self, f: &Figures, out: &mut Out, asked: &Asked, closes: bool) -> u32 {
         let (bank, column) = (asked.bank, asked.column);
         self.reach(f, out, asked);
         let ch = &self.channel;
@@ -178,9 +209,21 @@ impl Planner {
             Buffer::Empty => self.mask = asked.mask,
             _ => self.second = asked.mask,
         }
-        let write = Write { bank, column, at };
+        let write = Write {
+            bank,
+            column,
+            at,
+            closes,
+        };
         self.channel.buffer = self.channel.buffer.joined(write);
-        out.col(f, at + BASE, WR, bank, column, mask);
+        out.col(
+            f,
+            at + BASE,
+            if closes { WRA } else { WR },
+            bank,
+            column,
+            mask,
+        );
         out.add(at + BASE + f.cwd, 2, 0, asked.low, asked.high);
         at
     }
@@ -237,6 +280,7 @@ impl Planner {
         ch.valid(f)
             && ch.banks.iter().all(|t| t.bank != Bank::Refresh)
             && !ch.due
+            && !ch.buffer.any(|w| w.closes)
             && is_instant(self.now)
             && self.refresh < 32
     }
