@@ -3,8 +3,8 @@
 held to does not come from the program that they test. Nothing of it is proved, and no build needs it.
 
   listing.py            the listing of standard input
-  listing.py requests   the largest input, 2,730 requests of every kind, refused ones among them: crates/run_largest/stdin
-  listing.py test       compares the listing of each crates/run_*/stdin with the stdout beside it
+  listing.py requests   the largest input, 2,730 requests of every kind, refused ones among them: host/runs/largest/stdin
+  listing.py test       compares the listing of each host/runs/*/stdin with the stdout beside it
 """
 import glob
 import os
@@ -231,7 +231,7 @@ def largest():
 def test():
     root = os.path.join(os.path.dirname(os.path.abspath(__file__)), '..', '..')
     passed = failed = 0
-    for name in sorted(glob.glob(os.path.join(root, 'crates', 'run_*', 'stdin'))):
+    for name in sorted(glob.glob(os.path.join(root, 'host', 'runs', '*', 'stdin'))):
         wanted = os.path.join(os.path.dirname(name), 'stdout')
         with open(name, 'rb') as given, open(wanted) as text:
             if listing(given.read()) == text.read():
