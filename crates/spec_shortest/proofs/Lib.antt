@@ -1,2 +1,3 @@
 pub mod FrontLaws
 pub mod ShortestLaws
+pub mod Worked
