@@ -1,10 +1,11 @@
 -- The shortest run of a list that still breaks its rule (document 02 l).
 -- Assumes nothing.
-use Prim.Native.Nat.{ℕ, zero, suc, _+_, _-_, _<_, _≤_}
+use Prim.Native.Nat.{ℕ, zero, suc, _+_, _-_, _*_, _<_, _≤_}
 use mathlib.Core.Bool.{Bool, cond, _&&_}
 use mathlib.Core.List.{List}
 use lib.Dec.{eqb}
 use lib.ListN.{take, drop}
+use Rattle.num.specs.Bytes.{part}
 use Rattle.record.specs.declared.Record.{Record}
 use Rattle.record.specs.declared.Answer.{Answer}
 use Rattle.record.specs.Refusal.{answerOf}
@@ -18,6 +19,10 @@ use Rattle.spec_shortest.specs.declared.Shortest.{Shortest}
 -- the run of a list from record i to record j
 abbrev pub run : List Record → ℕ → ℕ → List Record
 run rs i j = drop i (take (j + 1) rs)
+
+-- and its bytes, of a list of bytes
+abbrev pub runBytes : List ℕ → ℕ → ℕ → List ℕ
+runBytes l i j = part l (32 * i) (32 * (j + 1 - i))
 
 -- "a fresh checker also refuses first at its last record by rule n": whether it does so of the run from record i to record j
 unfoldable pub stillBreaks : Context → List Record → ℕ → ℕ → ℕ → Bool
