@@ -6,7 +6,8 @@ use settings::SettingsRead;
 use spec_calls::CheckAnswer;
 use spec_check::Judged;
 
-fn check_answer(j: Judged) -> CheckAnswer
+// A verdict in numbers.
+pub fn check_answer(j: Judged) -> CheckAnswer
     ensures { λ r. ⌜ r ≡ checkAnswer j ⌝ }
 {
     match j {

@@ -4,6 +4,7 @@ use Prim.Native.Nat.{ℕ, _+_, _-_, _*_, _<_, _≤_}
 use mathlib.Core.Path.{_≡_, refl, sym, ap, ap₂, _∙_}
 use mathlib.Core.Bool.{Bool, true, false, _&&_}
 use mathlib.Core.List.{List}
+use mathlib.Core.Logic.{_↔_}
 use lib.Dec.{eqb, ltb}
 use lib.ListN.{length, getD, take, drop}
 use lib.Seq.{length-slice, getD-take, getD-drop, ext-getD}
@@ -23,15 +24,15 @@ use Rattle.record.specs.Record.{recordRead, recordAt, recordsIn, wellFormed, fi
 use Rattle.spec_rules.specs.Neighbour.{Context, Neighbours}
 use Rattle.spec_rules.specs.Packets.{traits, colTraits}
 use Rattle.spec_rules.specs.History.{has}
-use Rattle.spec_rules.specs.Broken.{recordIn, ruleAt, firstBroken}
+use Rattle.spec_rules.specs.Broken.{FirstBreach, ruleAt, firstBroken}
 use Rattle.spec_rules.specs.Checks.{firstFound}
 use Rattle.spec_rules.proofs.CheckerRight.{checker-right}
-use Rattle.spec_check.specs.Check.{known, recordsOf}
+use Rattle.spec_check.specs.Check.{known, recordsOf, ListBreach}
 use Rattle.check_walk.specs.declared.Stop.{Stop}
 use Rattle.check_walk.specs.form.Walk.{placeIn, recordVia, recordsVia, formedVia, foundVia, stopAt, stopOf}
 use Rattle.check_walk.proofs.ViaLaws.{length-via, via-at}
 use Rattle.check_list.proofs.WalkLaws.{list-via, list-formed, via-fits}
-use Rattle.spec_shortest.specs.Shortest.{run, stillBreaks}
+use Rattle.spec_shortest.specs.Shortest.{run, runBytes, stillBreaks}
 use Rattle.check_shortest.specs.declared.Tried.{Tried}
 use Rattle.check_shortest.specs.form.Tried.{triedAt}
 
@@ -82,6 +83,19 @@ module _ (s : Settings) (l : List ℕ) where
         ∙ ap (λ (p : ℕ). wellFormed s (part l p 32)) e
         ∙ f (i + x) (omega arith)
 
+    -- the bytes of the run, as a list of their own, have these records
+    same-bytes : bytes ≡ runBytes l i j
+    same-bytes = let e : 32 * j + 32 - 32 * i ≡ 32 * (j + 1 - i) = omega arith in ap (part l (32 * i)) e
+
+    length-bytes : length bytes ≡ 32 * (j - i + 1)
+    length-bytes = length-part l (32 * i) (32 * j + 32 - 32 * i) (omega arith) ∙ omega arith
+
+    pub records-run : recordsOf s (runBytes l i j) ≡ run (recordsOf s l) i j
+    records-run =
+        let e = length-bytes in
+        let n : recordsIn bytes ≡ j - i + 1 = omega arith in
+        ap (recordsOf s) (sym same-bytes) ∙ sym (list-via s bytes) ∙ ap (recordsVia s false bytes) n ∙ run-via
+
     pub run-within : (x : ℕ) → x < j - i + 1 → placeIn false x + 32 ≤ length bytes
     unfolding placeIn
     run-within x m = rw (length-part l (32 * i) (32 * j + 32 - 32 * i) (omega arith)) (omega arith)
@@ -89,6 +103,22 @@ module _ (s : Settings) (l : List ℕ) where
 pub records-formed : (s : Settings) (l : List ℕ) → firstBad s l ≡ recordsIn l → (x : ℕ) → x < recordsIn l → wellFormed s (recordAt l x) ≡ true
 unfolding placeIn
 records-formed s l e = list-formed s l e
+
+-- the checker on the bytes of a run, of a list of well formed records
+pub run-breach : (cx : Context) (l : List ℕ) (i j n : ℕ) → i ≤ j → j < recordsIn l → ((x : ℕ) → x < recordsIn l → wellFormed (cx .settings) (recordAt l x) ≡ true)
+    → ListBreach cx (runBytes l i j) n (j - i) ↔ FirstBreach cx (run (recordsOf (cx .settings) l) i j) n (j - i)
+unfolding placeIn
+run-breach cx l i j n k h f =
+    let r = records-run (cx .settings) l i j k h in
+    let e = length-part l (32 * i) (32 * (j + 1 - i)) (omega arith) in (
+      λ b. rw r at (b .breach),
+      λ b.
+          record {
+            whole = omega arith;
+            formed = λ x m. rw (same-bytes (cx .settings) l i j k h) at (formed-via (cx .settings) l i j k h f x (omega arith));
+            breach = rw r b;
+          },
+    )
 
 -- ---- where the walk stops
 
