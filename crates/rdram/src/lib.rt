@@ -5,4 +5,5 @@ pub mod logs;
 pub mod meters;
 pub mod models;
 pub mod plans;
+pub mod shortest;
 pub mod words;
