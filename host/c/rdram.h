@@ -1,14 +1,15 @@
 /*
- * rdram.h: Direct RDRAM packet words, block logs and their index (rdram_index.h), timing rules, plans
- * of one request and of many (rdram_plan_all.h), a device model (rdram_model.h), a meter of the data
- * pins (rdram_meter.h), all under settings (rdram_settings.h).
+ * rdram.h: Direct RDRAM packet words, block logs and their index (rdram_index.h), timing rules and
+ * the shortest run that breaks one (rdram_shortest.h), plans of one request and of many
+ * (rdram_plan_all.h), a device model (rdram_model.h), a meter of the data pins (rdram_meter.h), all
+ * under settings (rdram_settings.h).
  * Link with librdram.a. Common to all calls:
  * - A buffer is a pointer and its length in bytes. A null pointer is allowed with length 0. No
  *   alignment is needed. Numbers in buffers have their low byte first.
  * - The buffers of one call must not overlap.
  * - An answer with number 0 (RDRAM_OK) is accepted. Any other number is a refusal (enum
- *   rdram_refusal): every other field of the answer is then 0, except `place`, counted from 0, and
- *   `rule` where the call names them, and no buffer is changed. rdram_plan_all alone can stop on
+ *   rdram_refusal): every other field of the answer is then 0, except `place`, counted from 0,
+ *   `rule` and `start` where the call names them, and no buffer is changed. rdram_plan_all alone can stop on
  *   its way, with what it has planned.
  * - The library keeps no state and allocates nothing: planners, models and meters are the caller's.
  */
@@ -20,6 +21,7 @@
 #include "rdram_model.h"
 #include "rdram_plan_all.h"
 #include "rdram_settings.h"
+#include "rdram_shortest.h"
 #include <stddef.h>
 #include <stdint.h>
 

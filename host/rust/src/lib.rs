@@ -25,6 +25,7 @@ mod planner;
 pub mod raw;
 mod refusal;
 mod settings;
+mod shortest;
 
 pub use index::{index_add, index_banks, index_check, index_make, index_query};
 pub use meter::Meter;
@@ -32,6 +33,7 @@ pub use model::{Event, Model};
 pub use planner::{Planned, PlannedAll, Planner, Request};
 pub use refusal::Refusal;
 pub use settings::{Core, Settings};
+pub use shortest::{shortest, ShortestRun};
 
 /// Bytes of the settings.
 pub const SETTINGS_BYTES: usize = 32;

@@ -48,6 +48,16 @@ pub struct Judged {
     pub place: u64,
 }
 
+/// The answer of [`rdram_shortest`].
+#[repr(C)]
+#[derive(Clone, Copy, Debug, Default, PartialEq, Eq)]
+pub struct Shortest {
+    pub number: u32,
+    pub rule: u32,
+    pub place: u64,
+    pub start: u64,
+}
+
 /// The answer of [`rdram_plan`].
 #[repr(C)]
 #[derive(Clone, Copy, Debug, PartialEq, Eq)]
@@ -190,6 +200,13 @@ extern "C" {
         log: *const u8,
         log_len: usize,
     ) -> Judged;
+
+    pub fn rdram_shortest(
+        settings: *const u8,
+        settings_len: usize,
+        list: *const u8,
+        list_len: usize,
+    ) -> Shortest;
 
     pub fn rdram_planner_fresh(planner: *mut u8, planner_len: usize) -> u32;
 

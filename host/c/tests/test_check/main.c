@@ -1,5 +1,5 @@
 /*
- * Tests of rdram_check and rdram_check_log through rdram.h. Prints one line for
+ * Tests of rdram_check, rdram_check_log and rdram_shortest through rdram.h. Prints one line for
  * each failed check and last the line 'N passed, M failed'. Lists are written
  * as in the listings of document 01: instant, name, bank, row or column, mask
  * where M = 1; numbers at the end may be left out where they are 0.
@@ -22,5 +22,7 @@ int main(void)
     test_cores();
     test_word_before_rule();
     test_31_records();
+    test_shortest_lists();
+    test_shortest_by_all_starts();
     return report();
 }

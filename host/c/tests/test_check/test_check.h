@@ -1,4 +1,4 @@
-/* The tests of rdram_check and rdram_check_log, and the list and log that they judge. */
+/* The tests of rdram_check, rdram_check_log and rdram_shortest, and the list and log that they judge. */
 #ifndef TEST_CHECK_H
 #define TEST_CHECK_H
 
@@ -41,5 +41,9 @@ void test_lengths(void);
 void test_settings(void);
 void test_word_before_rule(void);
 void test_31_records(void);
+
+/* shortest.c */
+void test_shortest_lists(void);
+void test_shortest_by_all_starts(void);
 
 #endif

@@ -34,6 +34,7 @@ mod rule_calls;
 mod rule_settings;
 mod rules;
 mod settings;
+mod shortest;
 mod state_bytes;
 mod tuned_model;
 mod tuned_plan;
