@@ -9,8 +9,8 @@
  * - The buffers of one call must not overlap.
  * - An answer with number 0 (RDRAM_OK) is accepted. Any other number is a refusal (enum
  *   rdram_refusal): every other field of the answer is then 0, except `place`, counted from 0,
- *   `rule` and `start` where the call names them, and no buffer is changed. rdram_plan_all alone can stop on
- *   its way, with what it has planned.
+ *   `rule` and `start` where the call names them, and no buffer is changed. rdram_plan_all alone
+ *   can stop on its way, with what it has planned.
  * - The library keeps no state and allocates nothing: planners, models and meters are the caller's.
  */
 #ifndef RDRAM_H

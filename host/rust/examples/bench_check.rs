@@ -1,6 +1,7 @@
 //! Times `check` on a legal list of 1,000,000 records, and on short ones, by the library and by
 //! plain Rust that makes the same tests: `bench_check [RECORDS [RUNS [STREAM]]]`. The stream
-//! "close pages" has RDA and WRA for RD and WR, the stream "" has none.
+//! "close pages" has RDA and WRA for RD and WR, the stream "" has none. And times `shortest` on these
+//! lists with a fault as their last record, beside plain Rust that tries one start after another.
 
 mod common;
 mod rivals;
@@ -112,6 +113,56 @@ fn measure(records: usize, runs: usize, close: bool) {
     print_row("`rdram_check`", &stream, library, plain, None);
 }
 
+/// The list with one record more: an ACT whose bank or a neighbour is not closed, and which breaks no
+/// lower rule.
+fn with_fault(list: &[u8]) -> Vec<u8> {
+    let last = &list[list.len() - 32..];
+    let at = u32::from_le_bytes(last[..4].try_into().unwrap()) + 64;
+    for bank in 0..32 {
+        let act = word_encode(&SETTINGS, Packet::Act { bank, row: 0 }).unwrap();
+        let broken = [list, &packet_record(at, Kind::Row, act)].concat();
+        let found = rdram::check(&SETTINGS, &broken).map_err(|r| r.rule());
+        if found == Err(Some(4)) {
+            return broken;
+        }
+    }
+    panic!("every bank is closed");
+}
+
+/// The start of the shortest run by trying one after another, down from the bad record.
+#[inline(never)]
+fn plain_shortest(settings: &[u8], list: &[u8]) -> Option<(u32, usize, usize)> {
+    let (number, rule, place) = plain::check(settings, list).err()?;
+    let starts_there = |start: &usize| {
+        let run = &list[32 * start..32 * (place + 1)];
+        plain::check(settings, run) == Err((number, rule, place - start))
+    };
+    (0..=place)
+        .rev()
+        .find(starts_there)
+        .map(|start| (rule, place, start))
+}
+
+fn measure_shortest(records: usize, runs: usize, close: bool) {
+    let settings = SETTINGS.to_bytes();
+    let list = with_fault(&make_list(records - 1, close));
+    let run = rdram::shortest(&SETTINGS, &list).unwrap().unwrap();
+    let found = (run.rule, run.place, run.start);
+    assert_eq!(Some(found), plain_shortest(&settings, &list));
+    let [library, plain] = best(
+        records,
+        runs,
+        [
+            &mut || vec![timed(|| rdram::shortest(&SETTINGS, black_box(&list)))],
+            &mut || vec![timed(|| plain_shortest(&settings, black_box(&list)))],
+        ],
+    );
+    let kind = if close { ", close pages" } else { "" };
+    let length = run.place - run.start + 1;
+    let stream = format!("{records} records{kind}, a run of {length}");
+    print_row("`rdram_shortest`", &stream, library, plain, None);
+}
+
 fn main() {
     let size = Size::from_arguments(1_000_000, 21);
     print_head();
@@ -120,6 +171,7 @@ fn main() {
             continue;
         }
         measure(size.count, size.runs, close);
+        measure_shortest(size.count, size.runs, close);
         if size.count > SHORT {
             measure(SHORT, 50 * size.runs, close);
         }
