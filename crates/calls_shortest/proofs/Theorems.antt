@@ -1,20 +1,17 @@
 -- What rdram_shortest promises of the answers of rdram_check.
 -- Assumes nothing.
-use Prim.Native.Nat.{ℕ, _-_, _<_, _≤_}
+use Prim.Native.Nat.{ℕ, _-_, _≤_}
 use mathlib.Core.Path.{_≡_, refl, sym, ap, ap₂, _∙_}
 use mathlib.Core.List.{List}
-use mathlib.Core.Logic.{_↔_, Iff·trans}
+use mathlib.Core.Logic.{_↔_}
 use native.Mathlib.Omega.{arith}
 use borrow.Author.Tests.{ne-eqb}
 use Rattle.settings.specs.declared.Settings.{Settings}
 use Rattle.settings.specs.declared.SettingsRead.{SettingsRead}
 use Rattle.settings.specs.declared.SettingsRead.the-variants.{Refused as Unread, Accepted}
-use Rattle.settings.specs.Settings.{settingsRead, AcceptedWith}
-use Rattle.settings.proofs.SettingsLaws.{accepted-iff}
-use Rattle.record.specs.declared.Refusal.{Refusal}
+use Rattle.settings.specs.Settings.{settingsRead}
 use Rattle.record.specs.declared.Refusal.the-variants as refusal
 use Rattle.record.specs.Refusal.{answerOf}
-use Rattle.record.specs.Record.{recordsIn}
 use Rattle.spec_rules.specs.Neighbour.{Context, contextOf}
 use Rattle.spec_rules.specs.Broken.{FirstBreach}
 use Rattle.spec_check.specs.declared.Judged.{Judged}

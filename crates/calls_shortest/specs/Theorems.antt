@@ -7,7 +7,6 @@ use mathlib.Core.Logic.{_↔_}
 use Rattle.spec_shortest.specs.Shortest.{runBytes}
 use Rattle.spec_calls.specs.declared.CheckAnswer.{CheckAnswer}
 use Rattle.spec_calls.specs.Checks.{checkCall}
-use Rattle.calls_shortest.specs.declared.ShortestAnswer.{ShortestAnswer}
 use Rattle.calls_shortest.specs.Results.{withStart, shortestCall}
 
 -- refused first at record j by rule n

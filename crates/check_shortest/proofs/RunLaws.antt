@@ -6,7 +6,7 @@ use mathlib.Core.Bool.{Bool, true, false, _&&_}
 use mathlib.Core.List.{List}
 use mathlib.Core.Logic.{_↔_}
 use lib.Dec.{eqb, ltb}
-use lib.ListN.{length, getD, take, drop}
+use lib.ListN.{length, getD, take}
 use lib.Seq.{length-slice, getD-take, getD-drop, ext-getD}
 use native.Mathlib.Omega.{arith}
 use borrow.Author.Tests.{eqb-true, lt-ltb}
@@ -33,7 +33,6 @@ use Rattle.check_walk.specs.form.Walk.{placeIn, recordVia, recordsVia, formedVi
 use Rattle.check_walk.proofs.ViaLaws.{length-via, via-at}
 use Rattle.check_list.proofs.WalkLaws.{list-via, list-formed, via-fits}
 use Rattle.spec_shortest.specs.Shortest.{run, runBytes, stillBreaks}
-use Rattle.check_shortest.specs.declared.Tried.{Tried}
 use Rattle.check_shortest.specs.form.Tried.{triedAt}
 
 -- COL packets open no bank
@@ -149,7 +148,7 @@ module _ (cx : Context) (ns : Neighbours cx) (b : List ℕ) (n : ℕ) (f : (x : 
 
 -- what the walk over a run says of its start
 module _ (cx : Context) (ns : Neighbours cx) (l : List ℕ) (i j : ℕ) (k : i ≤ j) (h : j < recordsIn l)
-  (good : (x : ℕ) → x < recordsIn l → wellFormed (cx .settings) (recordAt l x) ≡ true) where
+    (good : (x : ℕ) → x < recordsIn l → wellFormed (cx .settings) (recordAt l x) ≡ true) where
   abbrev stop : Stop
   stop = stopOf cx false (part l (32 * i) (32 * j + 32 - 32 * i)) (j - i + 1)
 

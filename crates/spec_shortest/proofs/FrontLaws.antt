@@ -1,7 +1,7 @@
 -- A record in front of a list that opens no bank frees no later record of a rule: what is broken without it is broken with it, or
 -- something before that.
 -- Assumes nothing.
-use Prim.Native.Nat.{ℕ, zero, suc, _+_, _<_, _≤_}
+use Prim.Native.Nat.{ℕ, suc, _+_, _<_}
 use mathlib.Core.Path.{_≡_, refl, sym, ap, ap₂, _∙_, fun-ext}
 use mathlib.Core.Bool.{Bool, true, false, not, _&&_, _||_, cond}
 use mathlib.Core.List.{List, [], _∷_, _++_, reverse-cons}
@@ -9,8 +9,8 @@ use mathlib.Core.Option.{Option, none, some}
 use lib.Dec.{eqb, leb}
 use lib.ListN.{length, take}
 use native.Mathlib.Omega.{arith}
-use borrow.Author.Tests.{eqb-true, eqb-false, eq-eqb, ne-eqb}
-use Rattle.num.proofs.SearchLaws.{first-before, first-fails, first-le}
+use borrow.Author.Tests.{eqb-true, eqb-false}
+use Rattle.num.proofs.SearchLaws.{first-before, first-fails}
 use Rattle.settings.specs.declared.PacketAt.{PacketAt}
 use Rattle.settings.specs.declared.DataAt.{DataAt}
 use Rattle.settings.specs.Instants.{horizon, isInstant}
@@ -22,12 +22,12 @@ use Rattle.record.specs.declared.Dualoct.{Dualoct}
 use Rattle.record.specs.declared.Record.{Record}
 use Rattle.record.specs.declared.Record.the-variants.{RowAt, ColAt, DataOf}
 use Rattle.spec_rules.specs.declared.Bank.{Bank}
-use Rattle.spec_rules.specs.declared.Bank.the-variants.{Closed, Open, Refresh}
+use Rattle.spec_rules.specs.declared.Bank.the-variants.{Closed}
 use Rattle.spec_rules.specs.declared.Write.{Write}
 use Rattle.spec_rules.specs.Neighbour.{Context, near}
 use Rattle.spec_rules.specs.Packets.{rowTraits, colTraits, traits, instant}
 use Rattle.spec_rules.specs.History.{bankBy, closedBy, isOpen, onlyWrite, leaving, left, loads, waitingNext, waitingAfter, bankOf, has, retireImplies, bankRetired, bankAfter, Deed, deeds, Event, afterDeeds, eventOf, done, events, spaced, keeps}
-use Rattle.spec_rules.specs.Distances.{distances, Distance, asked, each, holds}
+use Rattle.spec_rules.specs.Distances.{distances, asked, each, holds}
 use Rattle.spec_rules.specs.Rules.{freeFor, openFor, longestDelay, dueAfter, impliedDelay, ruleOf, rule1, rule4, rule9, stays, rule12, allLoseNone, rule14, dataInPlace, rule15, rule16, fitsBetween, rule17, rules}
 use Rattle.spec_rules.specs.Broken.{earlier, recordIn, lowest, lowestRule, ruleAt, firstBroken}
 use Rattle.spec_rules.proofs.Bools.{not-both, and-left, and-right}
@@ -187,8 +187,8 @@ module _ (cx : Context) where
       nine-front =
           ap₂
           (λ (b : ℕ → Bank) (ws : List Write).
-              openFor (λ x. bankRetired cx ws r x (b x)) (traits r .reads)
-              && (openFor (λ x. bankRetired cx ws r x (b x)) (traits r .writes) && openFor b (bankOf (leaving cx ws r))))
+          openFor (λ x. bankRetired cx ws r x (b x)) (traits r .reads)
+          && (openFor (λ x. bankRetired cx ws r x (b x)) (traits r .writes) && openFor b (bankOf (leaving cx ws r))))
           (banks-front es)
           (waiting-front es)
 
@@ -242,18 +242,14 @@ module _ (cx : Context) where
     calm-early f k h =
         let p : ℕ = firstBroken cx l in
         let bad : ruleAt cx l p ≡ 0 → ⊥ = eqb-false _ _ (first-fails (λ j. eqb (ruleAt cx l j) 0) (length l) (omega arith)) in
-        let not-later : suc p < firstBroken cx (f ∷ l) → ⊥ =
-            λ m. bad (calm-front f k p (eqb-true _ _ (first-before (λ j. eqb (ruleAt cx (f ∷ l) j) 0) (suc (length l)) (suc p) m)))
-        in
+        let not-later : suc p < firstBroken cx (f ∷ l) → ⊥ = λ m. bad (calm-front f k p (eqb-true _ _ (first-before (λ j. eqb (ruleAt cx (f ∷ l) j) 0) (suc (length l)) (suc p) m))) in
         omega arith
 
     write-early : (t : PacketAt) (b c m : ℕ) (x : Bool) → firstBroken cx l + 1 < length l → firstBroken cx (ColAt t (Wr b c m x) ∷ l) < length l
     unfolding firstBroken
     write-early t b c m x h =
         let f : Record = ColAt t (Wr b c m x) in
-        let not-later : 0 < firstBroken cx (f ∷ l) → ⊥ =
-            λ k. write-first t b c m x l (eqb-true _ _ (first-before (λ j. eqb (ruleAt cx (f ∷ l) j) 0) (suc (length l)) 0 k))
-        in
+        let not-later : 0 < firstBroken cx (f ∷ l) → ⊥ = λ k. write-first t b c m x l (eqb-true _ _ (first-before (λ j. eqb (ruleAt cx (f ∷ l) j) 0) (suc (length l)) 0 k)) in
         omega arith
 
     -- what is refused before its last record is so with it

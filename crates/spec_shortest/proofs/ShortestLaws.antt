@@ -1,26 +1,25 @@
 -- The run from the start that is answered still breaks the rule, no run from a later one does, and there is always such a run.
 -- Assumes nothing.
 use Prim.Native.Nat.{ℕ, zero, suc, _+_, _-_, _<_, _≤_}
-use mathlib.Core.Path.{_≡_, refl, sym, ap, ap₂, _∙_}
-use mathlib.Core.Bool.{Bool, true, false, cond, _&&_}
+use mathlib.Core.Path.{_≡_, refl, sym, ap, _∙_}
+use mathlib.Core.Bool.{Bool, true, false, cond}
 use mathlib.Core.List.{List, _∷_, reverse}
 use mathlib.Core.Logic.{_↔_, _⊎_, ⊎-elim}
 use mathlib.Core.Option.{none}
 use lib.Dec.{eqb}
-use lib.ListN.{length, take}
-use lib.Seq.{slice-cons, length-slice, length-take-le, getD-take, take-take}
+use lib.ListN.{length}
+use lib.Seq.{slice-cons, length-slice, getD-take, take-take}
 use native.Mathlib.Nat.{eq-or-lt-of-le}
 use native.Mathlib.Omega.{arith}
-use borrow.Author.Tests.{eqb-true, eqb-false, eq-eqb, ne-eqb}
+use borrow.Author.Tests.{eqb-true, eq-eqb, ne-eqb}
 use Rattle.record.specs.declared.Record.{Record}
 use Rattle.record.specs.declared.Refusal.the-variants.{Rule}
 use Rattle.record.specs.Refusal.{answerOf}
 use Rattle.spec_rules.specs.Neighbour.{Context}
 use Rattle.spec_rules.specs.Packets.{traits}
-use Rattle.spec_rules.specs.Broken.{earlier, recordIn, LowestBroken, FirstBreach, ruleAt, firstBroken}
+use Rattle.spec_rules.specs.Broken.{earlier, recordIn, FirstBreach, ruleAt, firstBroken}
 use Rattle.spec_rules.proofs.Bools.{not-both, and-left, and-right}
 use Rattle.spec_rules.proofs.BrokenLaws.{breach-iff}
-use Rattle.spec_check.specs.declared.Judged.{Judged}
 use Rattle.spec_check.specs.declared.Judged.the-variants.{Refused}
 use Rattle.spec_check.specs.Check.{recordsOf, listAnswer, ListBreach}
 use Rattle.spec_check.proofs.BreachLaws.{list-names}

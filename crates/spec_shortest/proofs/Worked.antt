@@ -2,13 +2,13 @@
 -- Assumes nothing.
 use Prim.Native.Nat.{ℕ, zero, suc}
 use mathlib.Core.Path.{_≡_, refl}
-use mathlib.Core.Bool.{Bool, true, false, cond}
+use mathlib.Core.Bool.{false, cond}
 use mathlib.Core.List.{List, [], _∷_, map, _++_}
 use lib.Dec.{ltb}
 use lib.ListN.{length}
 use Rattle.num.specs.Search.{allUpTo, firstFalse}
 use Rattle.settings.specs.Bench.{setOf}
-use Rattle.packet.specs.declared.RowPacket.the-variants.{Act, Prer, Refa, Refp}
+use Rattle.packet.specs.declared.RowPacket.the-variants.{Act, Prer}
 use Rattle.packet.specs.declared.ColPacket.the-variants.{Nocop, Wr, Rd}
 use Rattle.record.specs.declared.Record.{Record}
 use Rattle.spec_rules.specs.Neighbour.{bankCount, Context, runOf, inRuns, contextOf}

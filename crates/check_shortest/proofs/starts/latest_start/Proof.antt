@@ -65,9 +65,9 @@ loop-again c =
     let in-list : a .j < length rs = rw (length-records (a .s) (a .list .now)) (e .pre .0) in (
       omega arith,
       ⊎-elim
-      (λ w. rw (w .3) (turn-tried cx rs (a .rule) (a .j) m (k .i) (k .early) (w .1 .result) (c .before .before .loop-test .taken) (k .inv .1) (w .1 .ensures) (w .2 .left)))
-      (λ w. rw (w .1) (turn-skipped cx rs (a .rule) (a .j) m (k .i) (k .early) (c .before .before .loop-test .taken) in-list (k .inv .1) (sym (c .before .to-try .ensures) ∙ w .0 .left)))
-      (c .if1 .came),
+          (λ w. rw (w .3) (turn-tried cx rs (a .rule) (a .j) m (k .i) (k .early) (w .1 .result) (c .before .before .loop-test .taken) (k .inv .1) (w .1 .ensures) (w .2 .left)))
+          (λ w. rw (w .1) (turn-skipped cx rs (a .rule) (a .j) m (k .i) (k .early) (c .before .before .loop-test .taken) in-list (k .inv .1) (sym (c .before .to-try .ensures) ∙ w .0 .left)))
+          (c .if1 .came),
     )
 
 returns-2 : tie.Need-returns-2 Inv-loop μ-loop
