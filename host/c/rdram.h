@@ -259,7 +259,7 @@ rdram_copied rdram_log_decode(const uint8_t *settings, size_t settings_len,
  *   11  place is the first record that breaks a rule, given the records before it, and rule the
  *       lowest that it breaks (1 to 17). The records before it pass; those after it have not been
  *       judged. A D that is missing is named at the record in its place. Move or correct that
- *       record and check again.
+ *       record and check again; rdram_shortest finds the few records that show the breach.
  */
 rdram_judged rdram_check(const uint8_t *settings, size_t settings_len,
                          const uint8_t *list, size_t list_len);
