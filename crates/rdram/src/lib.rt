@@ -4,6 +4,7 @@ pub mod indexes;
 pub mod logs;
 pub mod meters;
 pub mod models;
+pub mod pages;
 pub mod plans;
 pub mod shortest;
 pub mod words;

@@ -1,0 +1,3 @@
+pub mod PaintLaws
+pub mod BlankLaws
+pub mod ListLaws

@@ -1,0 +1,4 @@
+pub mod Worked
+pub mod DistanceLaws
+pub mod MarkLaws
+pub mod PageLaws

@@ -1,0 +1,1 @@
+// A page of the channel (document 02, request k): definitions and theorems.
