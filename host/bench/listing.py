@@ -1,10 +1,11 @@
 #!/usr/bin/env python3
-"""The listing of document 01 ("Bench runs") a second time, written from documents 01 and 02 (a, d, f) alone, so that what the runs are
-held to does not come from the program that they test. Nothing of it is proved, and no build needs it.
+"""The listing of document 01 ("Bench runs") and the page of document 02 k a second time, written from documents 01 and 02 (a, d, f, k)
+alone, so that what the runs are held to does not come from the program that they test. Nothing of it is proved, and no build needs it.
 
   listing.py            the listing of standard input
+  listing.py page N     the page from cycle N on of the requests on standard input
   listing.py requests   the largest input, 2,730 requests of every kind, refused ones among them: host/runs/largest/stdin
-  listing.py test       compares the listing of each host/runs/*/stdin with the stdout beside it
+  listing.py test       compares the listing of each host/runs/*/stdin with the stdout beside it, and its page from cycle N on with page.N
 """
 import glob
 import os
@@ -194,6 +195,30 @@ def listing(data):
     return ''.join(line + '\n' for line in out + ['records %d' % records])
 
 
+LETTERS = {'ACT': 'A', 'PRER': 'P', 'REFA': 'F', 'REFP': 'E', 'RD': 'R', 'RDA': 'R', 'WR': 'W', 'WRA': 'W', 'NOCOP': 'N'}
+
+
+def page(data, start):
+    """The page of the lines that the listing has."""
+    cells = {}
+
+    def mark(line, first, letter):
+        for cycle in range(first, first + 4):
+            assert (line, cycle) not in cells
+            cells[line, cycle] = letter
+
+    for at, name in (text.split()[:2] for text in listing(data).splitlines()):
+        if name == 'D':
+            mark('DQ', int(at), 'D')
+        elif name in LETTERS:
+            mark('ROW' if LETTERS[name] in 'APFE' else 'COL', int(at) - 4, LETTERS[name])
+            if name in ('RD', 'RDA'):
+                mark('DQ', int(at) + CAC, 'Q')
+    cycles = range(start, start + 64)
+    lines = [name.ljust(8) + ''.join(cells.get((name, c), '.') for c in cycles) for name in ('ROW', 'COL', 'DQ')]
+    return ''.join(line + '\n' for line in lines + [8 * ' ' + ''.join(' |'[c % 8 == 0] for c in cycles)])
+
+
 def largest():
     seed, out = 1, b''
 
@@ -239,6 +264,14 @@ def test():
             else:
                 failed += 1
                 print(os.path.relpath(wanted), 'differs')
+    for name in sorted(glob.glob(os.path.join(root, 'host', 'runs', '*', 'page.*[0-9]'))):
+        start = int(name.rsplit('.', 1)[1])
+        with open(os.path.join(os.path.dirname(name), 'stdin'), 'rb') as given, open(name) as text:
+            if page(given.read(), start) == text.read():
+                passed += 1
+            else:
+                failed += 1
+                print(os.path.relpath(name), 'differs')
     print('%d passed, %d failed' % (passed, failed))
     sys.exit(failed != 0 or passed == 0)
 
@@ -247,5 +280,7 @@ if sys.argv[1:] == ['requests']:
     sys.stdout.buffer.write(largest())
 elif sys.argv[1:] == ['test']:
     test()
+elif sys.argv[1:2] == ['page']:
+    sys.stdout.write(page(sys.stdin.buffer.read(), int(sys.argv[2])))
 else:
     sys.stdout.write(listing(sys.stdin.buffer.read()))

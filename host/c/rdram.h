@@ -1,8 +1,8 @@
 /*
  * rdram.h: Direct RDRAM packet words, block logs and their index (rdram_index.h), timing rules and
  * the shortest run that breaks one (rdram_shortest.h), plans of one request and of many
- * (rdram_plan_all.h), a device model (rdram_model.h), a meter of the data pins (rdram_meter.h), all
- * under settings (rdram_settings.h).
+ * (rdram_plan_all.h), a device model (rdram_model.h), a meter of the data pins (rdram_meter.h), pages
+ * of the channel as text (rdram_page.h), all under settings (rdram_settings.h).
  * Link with librdram.a. Common to all calls:
  * - A buffer is a pointer and its length in bytes. A null pointer is allowed with length 0. No
  *   alignment is needed. Numbers in buffers have their low byte first.
@@ -19,6 +19,7 @@
 #include "rdram_index.h"
 #include "rdram_meter.h"
 #include "rdram_model.h"
+#include "rdram_page.h"
 #include "rdram_plan_all.h"
 #include "rdram_settings.h"
 #include "rdram_shortest.h"

@@ -21,6 +21,7 @@
 mod index;
 mod meter;
 mod model;
+mod page;
 mod planner;
 pub mod raw;
 mod refusal;
@@ -30,6 +31,7 @@ mod shortest;
 pub use index::{index_add, index_banks, index_check, index_make, index_query};
 pub use meter::Meter;
 pub use model::{Event, Model};
+pub use page::page;
 pub use planner::{Planned, PlannedAll, Planner, Request};
 pub use refusal::Refusal;
 pub use settings::{Core, Settings};
@@ -55,6 +57,10 @@ pub const MODEL_BYTES: usize = 792;
 pub const METER_BYTES: usize = 136;
 /// Bytes of a word of an index.
 pub const INDEX_WORD_BYTES: usize = 4;
+/// Bytes of a page: four lines of 72 characters and a line feed.
+pub const PAGE_BYTES: usize = 292;
+/// Cycles of a page.
+pub const PAGE_CYCLES: u32 = 64;
 /// Bytes of a dualoct.
 pub const DUALOCT_BYTES: usize = 16;
 /// The mask of a COL packet that is sent without one (M = 0).

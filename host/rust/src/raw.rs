@@ -39,7 +39,7 @@ pub struct Copied {
     pub count: u64,
 }
 
-/// The answer of [`rdram_check`] and [`rdram_check_log`].
+/// The answer of [`rdram_check`], [`rdram_check_log`] and [`rdram_page`].
 #[repr(C)]
 #[derive(Clone, Copy, Debug, PartialEq, Eq)]
 pub struct Judged {
@@ -207,6 +207,16 @@ extern "C" {
         list: *const u8,
         list_len: usize,
     ) -> Shortest;
+
+    pub fn rdram_page(
+        settings: *const u8,
+        settings_len: usize,
+        list: *const u8,
+        list_len: usize,
+        start: u32,
+        room: *mut u8,
+        room_len: usize,
+    ) -> Judged;
 
     pub fn rdram_planner_fresh(planner: *mut u8, planner_len: usize) -> u32;
 

@@ -20,7 +20,7 @@ pub enum Refusal {
     /// 6: a column that is not below the settings' columns.
     Column,
     /// 7: a packet, its data, a PRER that it implies or now would pass instant 1,000,000,000, or an
-    /// instant that is fed to a meter is outside 4 to that.
+    /// instant that is fed to a meter is outside 4 to that, or a page would start after it.
     Horizon,
     /// 8: the buffer for the answer is too short.
     Full,
@@ -160,6 +160,14 @@ impl Refusal {
         match number {
             4 => Refusal::Bank,
             14 => Refusal::Index { place },
+            number => Refusal::of_check(number, rule, place),
+        }
+    }
+
+    /// The refusal of a page.
+    pub(crate) fn of_page(number: u32, rule: u32, place: u64) -> Refusal {
+        match number {
+            7 => Refusal::Horizon,
             number => Refusal::of_check(number, rule, place),
         }
     }

@@ -16,6 +16,7 @@ mod model;
 mod model_calls;
 mod model_runs;
 mod model_states;
+mod page;
 mod plan;
 mod plan_all;
 mod plan_calls;
