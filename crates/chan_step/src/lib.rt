@@ -187,6 +187,19 @@ pub fn implied_lasts(at: PacketAt, l: LastInstants) -> LastInstants
     }
 }
 
+// The same write, field by field: a copy of the whole takes the bytes between its fields along.
+fn same_write(w: Write) -> Write
+    ensures { λ r. ⌜ r ≡ w ⌝ }
+{
+    let at = w.at;
+    Write {
+        bank: w.bank,
+        column: w.column,
+        at: at,
+        close: w.close,
+    }
+}
+
 // The write buffer once the older write has left, if it does: the newer one becomes the older.
 fn left(leaves: bool, b: Buffer) -> Buffer
     ensures { λ r. ⌜ r ≡ leftBuffer leaves b ⌝ }
@@ -195,7 +208,7 @@ fn left(leaves: bool, b: Buffer) -> Buffer
         match b {
             Buffer::Empty => Buffer::Empty,
             Buffer::One(_) => Buffer::Empty,
-            Buffer::Two(_, y) => Buffer::One(y),
+            Buffer::Two(_, y) => Buffer::One(same_write(y)),
         }
     } else {
         b
@@ -208,7 +221,7 @@ fn joined(b: Buffer, w: Write) -> Buffer
 {
     match b {
         Buffer::Empty => Buffer::One(w),
-        Buffer::One(x) => Buffer::Two(x, w),
+        Buffer::One(x) => Buffer::Two(same_write(x), w),
         Buffer::Two(x, _) => Buffer::Two(x, w),
     }
 }

@@ -1,6 +1,6 @@
 -- One turn of the walk: what the record that is read, the quick test and the stores say.
 -- Assumes nothing.
-use Prim.Native.Nat.{ℕ, _+_, _<_}
+use Prim.Native.Nat.{ℕ, _+_, _<_, max}
 use mathlib.Core.Path.{_≡_, refl, sym, _∙_, ap, ap₂}
 use mathlib.Core.Bool.{Bool, true, false, _||_, cond, and-false}
 use mathlib.Core.List.{List}
@@ -218,9 +218,9 @@ module _ {s : Settings} {r : Record} {banks : List BankTrack} {lasts : LastInsta
         go true = closes-opened s (latest .opened) banks (t .size) (t .top) (impliedAt s v) (centreOf s h v)
         go false = t .top
 
-    -- the stores and the waiting writes, by the way that the turn took
-    abbrev pub Stored : List BankTrack → Buffer → Type 0
-    Stored n c = (n ≡ ownStores v x y z w (leaves s h v) m) × (c ≡ bufferNext r (leaves s h v) buffer)
+    -- the stores, the waiting writes and the newest ACT or REFA, by the way that the turn took
+    abbrev pub Stored : List BankTrack → Buffer → ℕ → Type 0
+    Stored n c g = (n ≡ ownStores v x y z w (leaves s h v) m) × (c ≡ bufferNext r (leaves s h v) buffer) × (g ≡ newestNext v (latest .opened))
 
     kept-here : (c : Buffer) → v .other ≡ false → c ≡ buffer → c ≡ bufferNext r (leaves s h v) buffer
     kept-here c e cq = rw (cq, e, and-false (h .waits)) (sym (buffer-same r buffer (sym (ap (λ (u : View). u .other) (t .view)) ∙ e)))
@@ -228,22 +228,24 @@ module _ {s : Settings} {r : Record} {banks : List BankTrack} {lasts : LastInsta
     alone-here : (c : Buffer) → v .opens || (v .precharges || v .reads) ≡ true → c ≡ buffer → c ≡ bufferNext r (leaves s h v) buffer
     alone-here c e cq = kept-here c (rw (t .view) (changes-alone r (rw (t .view) at e))) cq
 
-    pub open-here : (n : List BankTrack) (c : Buffer) (a : BankTrack) → v .opens ≡ true → a ≡ openedTrack v (getD m x idle) → n ≡ set m x a → c ≡ buffer → Stored n c
-    open-here n c a e aq q cq = (rw (q, aq, e), alone-here c (rw e) cq)
+    pub open-here : (n : List BankTrack) (c : Buffer) (g : ℕ) (a : BankTrack) → v .opens ≡ true → a ≡ openedTrack v (getD m x idle) → n ≡ set m x a → c ≡ buffer
+        → g ≡ max (latest .opened) (v .at .0) → Stored n c g
+    open-here n c g a e aq q cq gq = (rw (q, aq, e), alone-here c (rw e) cq, rw e gq)
 
-    pub close-here : (n : List BankTrack) (c : Buffer) (a b d : BankTrack) → v .opens ≡ false → v .precharges ≡ true → a ≡ prerTrack (v .at) (getD m x idle)
-        → b ≡ sideTrack (v .at) (getD (set m x a) y idle) → d ≡ sideTrack (v .at) (getD (set (set m x a) y b) z idle) → n ≡ set (set (set m x a) y b) z d → c ≡ buffer → Stored n c
-    close-here n c a b d e f aq bq dq q cq = (rw (q, dq, bq, aq, e, f), alone-here c (rw (e, f)) cq)
+    pub close-here : (n : List BankTrack) (c : Buffer) (g : ℕ) (a b d : BankTrack) → v .opens ≡ false → v .precharges ≡ true → a ≡ prerTrack (v .at) (getD m x idle)
+        → b ≡ sideTrack (v .at) (getD (set m x a) y idle) → d ≡ sideTrack (v .at) (getD (set (set m x a) y b) z idle) → n ≡ set (set (set m x a) y b) z d → c ≡ buffer → g ≡ latest .opened → Stored n c g
+    close-here n c g a b d e f aq bq dq q cq gq = (rw (q, dq, bq, aq, e, f), alone-here c (rw (e, f)) cq, rw e gq)
 
-    pub read-here : (n : List BankTrack) (c : Buffer) → v .opens ≡ false → v .precharges ≡ false → v .reads ≡ true → n ≡ set m x (withRd (v .at .0) (getD m x idle)) → c ≡ buffer → Stored n c
-    read-here n c e f g q cq = (rw (q, e, f, g), alone-here c (rw (e, f, g)) cq)
+    pub read-here : (n : List BankTrack) (c : Buffer) (g : ℕ) → v .opens ≡ false → v .precharges ≡ false → v .reads ≡ true → n ≡ set m x (withRd (v .at .0) (getD m x idle)) → c ≡ buffer → g ≡ latest .opened → Stored n c g
+    read-here n c g d e f q cq gq = (rw (q, d, e, f), alone-here c (rw (d, e, f)) cq, rw d gq)
 
-    pub left-here : (n : List BankTrack) (c : Buffer) (out : Bool) (retire : ℕ) (b : Buffer) → v .opens ≡ false → v .precharges ≡ false → v .reads ≡ false → v .other ≡ true → out ≡ leaves s h v
-        → retire ≡ cond out (v .at .0) (getD m w idle .retire .0) → b ≡ bufferNext r (leaves s h v) buffer → n ≡ set m w (withRetire retire (getD m w idle)) → c ≡ b → Stored n c
-    left-here n c out retire b d e f g oq rq bq q cq = (rw (q, rq, oq, d, e, f, g), cq ∙ bq)
+    pub left-here : (n : List BankTrack) (c : Buffer) (g : ℕ) (out : Bool) (retire : ℕ) (b : Buffer) → v .opens ≡ false → v .precharges ≡ false → v .reads ≡ false → v .other ≡ true → out ≡ leaves s h v
+        → retire ≡ cond out (v .at .0) (getD m w idle .retire .0) → b ≡ bufferNext r (leaves s h v) buffer → n ≡ set m w (withRetire retire (getD m w idle)) → c ≡ b
+        → g ≡ latest .opened → Stored n c g
+    left-here n c g out retire b d e f i oq rq bq q cq gq = (rw (q, rq, oq, d, e, f, i), cq ∙ bq, rw d gq)
 
-    pub none-here : (n : List BankTrack) (c : Buffer) → v .opens ≡ false → v .precharges ≡ false → v .reads ≡ false → v .other ≡ false → n ≡ m → c ≡ buffer → Stored n c
-    none-here n c d e f g q cq = (rw (q, d, e, f, g), kept-here c g cq)
+    pub none-here : (n : List BankTrack) (c : Buffer) (g : ℕ) → v .opens ≡ false → v .precharges ≡ false → v .reads ≡ false → v .other ≡ false → n ≡ m → c ≡ buffer → g ≡ latest .opened → Stored n c g
+    none-here n c g d e f i q cq gq = (rw (q, d, e, f, i), kept-here c i cq, rw d gq)
 
     -- the banks after the packet and its retire
     abbrev next : List BankTrack

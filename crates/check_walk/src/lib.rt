@@ -9,8 +9,8 @@ ghost use Rattle.check_walk.specs.form.Walk.{placeIn, stopOf};
 use crate::turn::banks_implied;
 use crate::turn::buffer_next;
 use crate::turn::channel_of;
+use crate::turn::larger;
 use crate::turn::lasts_implied;
-use crate::turn::latest_after;
 use crate::turn::next_slot;
 use crate::turn::no_lasts;
 use crate::turn::opened_track;
@@ -94,6 +94,7 @@ pub fn walk(s: Settings, b: &[u8], n: usize, blocks: bool) -> Stop
         }
         if v.opens {
             banks[x] = opened_track(v, banks[x]);
+            latest.opened = larger(latest.opened, v.at.0);
         } else if v.precharges {
             banks[x] = closed_track(v.at, banks[x]);
             banks[y] = side_track(v.at, banks[y]);
@@ -105,7 +106,7 @@ pub fn walk(s: Settings, b: &[u8], n: usize, blocks: bool) -> Stop
             buffer = buffer_next(s, r, v, h, buffer);
         }
         l = lasts_after(r, l);
-        latest = latest_after(v, latest);
+        latest.due = v.writes;
     }
     Stop { at: n, rule: 0 }
 }

@@ -5,8 +5,7 @@ ghost use Prim.Native.Nat.{_+_, _<_, _^_, max};
 ghost use Rattle.chan_view.specs.form.Beside.{slotOf};
 ghost use Rattle.chan_view.specs.form.View.{seenOf, heldOf, leaves, impliesBy};
 ghost use Rattle.chan_step.specs.form.Lasts.{bufferNext};
-ghost use Rattle.check_walk.specs.form.Turn.{viewIn, tracksWith, noLasts, channelOf, openedTrack, latestNext, closedNear, impliedStores, lastsImplied};
-use crate::Latest;
+ghost use Rattle.check_walk.specs.form.Turn.{viewIn, tracksWith, noLasts, channelOf, openedTrack, closedNear, impliedStores, lastsImplied};
 use chan_step::buffer_after;
 use chan_step::implied_at;
 use chan_step::implied_lasts;
@@ -126,20 +125,10 @@ pub(crate) fn pick(first: bool, a: u32, b: u32) -> u32
 }
 
 // The larger of two numbers.
-fn larger(a: u32, b: u32) -> u32
+pub(crate) fn larger(a: u32, b: u32) -> u32
     ensures { λ r. ⌜ r ≡ max a b ⌝ }
 {
     if a < b { b } else { a }
-}
-
-// After a record.
-pub(crate) fn latest_after(v: View, k: Latest) -> Latest
-    ensures { λ r. ⌜ r ≡ latestNext v k ⌝ }
-{
-    Latest {
-        opened: pick(v.opens, larger(k.opened, v.at.0), k.opened),
-        due: v.writes,
-    }
 }
 
 // A bank after an ACT or REFA.

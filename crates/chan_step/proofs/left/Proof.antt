@@ -17,11 +17,11 @@ returns-2 c = rw (c .before .before .if1 .taken, c .enum-told2 .given .1)
 
 returns-3 : tie.Need-returns-3
 unfolding leftBuffer waitingOf bufferOf
-returns-3 c = rw (c .before .before .before .if1 .taken, c .before .b .given .1)
+returns-3 c = rw (c .same-write .ensures, c .before .before .before .before .if1 .taken, c .before .before .b .given .1)
 
 returns-4 : tie.Need-returns-4
 unfolding leftBuffer
 returns-4 c = rw (c .if1 .left) (sym (buffer-same (c .before .args .b)))
 
 pub left-spec : {M : Type 1} → statement M
-left-spec = tie.close (tie.spec (λ c. search needs) (λ c. search needs) (λ c. search needs) returns returns-2 returns-3 returns-4)
+left-spec = tie.close (tie.spec (λ c. search needs) (λ c. search needs) (λ c. search needs) (λ c κs. search needs) returns returns-2 returns-3 returns-4)

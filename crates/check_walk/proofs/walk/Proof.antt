@@ -11,6 +11,7 @@ use Rattle.spec_rules.specs.declared.Channel.{Channel}
 use Rattle.spec_rules.specs.Neighbour.{bankCount, contextOf}
 use Rattle.spec_rules.specs.Channel.{idle, fresh}
 use Rattle.spec_rules.specs.Checks.{judged, channelAfter}
+use Rattle.check_walk.specs.declared.Latest.{Latest}
 use Rattle.check_walk.specs.form.Turn.{channelOf}
 use Rattle.check_walk.specs.form.Walk.{recordsVia}
 use Rattle.check_walk.proofs.StopLaws.{holds, stop-end, stop-bad, stop-broken}
@@ -154,17 +155,20 @@ way-write-given-banks-2 c = let e = c .before .before .before .before .before .b
 
 add-i : tie.Need-add-i Inv-loop μ-loop
 add-i c =
-    let l = c .before .before .before .before .before .before .before .before .before .before .before .before .before .before .before .before .before .before .before .before .before .before .before .loop-test .taken in
-    let p = c .before .before .before .before .before .before .before .before .before .before .before .before .before .before .before .before .before .before .before .before .before .before .before .before .before .before .before .before .pre .0 in
+    let l = c .before .before .before .before .before .before .before .before .before .before .before .before .before .before .before .before .before .before .before .before .before .before .loop-test .taken in
+    let p = c .before .before .before .before .before .before .before .before .before .before .before .before .before .before .before .before .before .before .before .before .before .before .before .before .before .before .before .pre .0 in
     omega arith
 
 loop-less : tie.Need-loop-less Inv-loop μ-loop
 loop-less c =
-    let l = c .before .before .before .before .before .before .before .before .before .before .before .before .before .before .before .before .before .before .before .before .before .before .before .loop-test .taken in omega arith
+    let l = c .before .before .before .before .before .before .before .before .before .before .before .before .before .before .before .before .before .before .before .before .before .before .loop-test .taken in omega arith
+
+opened-by : {a b : Latest} → a ≡ b → a .opened ≡ b .opened
+opened-by e = ap (λ (k : Latest). k .opened) e
 
 loop-again : tie.Need-loop-again Inv-loop μ-loop
 loop-again c =
-    let g = c .before .before .before .before .before .before .before .before .before .before .before .before in
+    let g = c .before .before .before .before .before .before .before .before .before .before .before in
     let a = g .before .before .before .before .before .before .before .before .before .before .before .before .before .before .before .before .args in
     let k = g .before .before .before .before .before .before .before .before .before .before .before .before .loop in
     let lt = g .before .before .before .before .before .before .before .before .before .before .before .loop-test .taken in
@@ -173,7 +177,7 @@ loop-again c =
     let ch : Channel = channelOf (k .banks) (k .l) (k .buffer) (k .latest .due) in
     let v = g .before .before .before .before .before .view-of .result in
     let h = g .before .before .before .before .held-of .result in
-    let o = c .before .before .before .before .before .before .before .next-slot in
+    let o = c .before .before .before .before .before .before .next-slot in
     let t : Turn (a .s) r (k .banks) (k .l) (k .buffer) (k .latest) v h (g .before .before .before .slot-of .result) (g .before .before .first-near .result) (g .before .last-near .result) (g .slot-of2 .result) (o .result) =
     record {
       size = k .inv .2;
@@ -188,32 +192,33 @@ loop-again c =
       waiting = g .slot-of2 .ensures .0;
       second = o .ensures .0;
     } in
-    let tracks = c .before .before .before .before .before .tracks-of .ensures in
-    let test = c .before .before .before .before .passes .ensures in
+    let tracks = c .before .before .before .before .tracks-of .ensures in
+    let test = c .before .before .before .passes .ensures in
     let zero : judged (contextOf (a .s)) ch r ≡ 0 =
-    ⊎-elim (λ o. sym (o .2 .ensures ∙ ap (λ (n : Channel). judged (contextOf (a .s)) n r) (o .1 .ensures)) ∙ o .3 .left) (λ o. quick-here t _ _ tracks test (not-false _ (o .0 .left))) (c .before .before .before .if1 .came)
+    ⊎-elim (λ o. sym (o .2 .ensures ∙ ap (λ (n : Channel). judged (contextOf (a .s)) n r) (o .1 .ensures)) ∙ o .3 .left) (λ o. quick-here t _ _ tracks test (not-false _ (o .0 .left))) (c .before .before .if1 .came)
     in
-    let m = c .before .before .before .if1 .banks in
-    let p = c .before .before .before .if1 .l in
+    let m = c .before .before .if1 .banks in
+    let p = c .before .before .if1 .l in
     let implied : Implied t m p =
-    ⊎-elim (λ o. slow-here t m p (o .6 ∙ o .4 .ensures) (o .7 ∙ o .5 .ensures)) (λ o. plain-here t m p (quick-plain t _ _ tracks test (not-false _ (o .0 .left))) (o .1) (o .2)) (c .before .before .before .if1 .came)
+    ⊎-elim (λ o. slow-here t m p (o .6 ∙ o .4 .ensures) (o .7 ∙ o .5 .ensures)) (λ o. plain-here t m p (quick-plain t _ _ tracks test (not-false _ (o .0 .left))) (o .1) (o .2)) (c .before .before .if1 .came)
     in
-    let n = c .before .before .if3 .banks in
-    let q = c .before .before .if3 .buffer in
-    let stored : Stored t m p implied n q =
-    ⊎-elim (λ o. open-here t m p implied n q _ (o .0 .taken) (o .2 .ensures) (o .3) (o .4))
-    (⊎-elim (λ o. close-here t m p implied n q _ _ _ (o .0 .left) (o .1 .taken) (o .3 .ensures) (o .5 .ensures) (o .7 .ensures) (o .8) (o .9))
-    (⊎-elim (λ o. read-here t m p implied n q (o .0 .left) (o .1 .left) (o .2 .taken) (o .4) (o .5))
-    (⊎-elim (λ o. left-here t m p implied n q _ _ _ (o .0 .left) (o .1 .left) (o .2 .left) (o .3 .taken) (o .4 .ensures) (o .5 .ensures) (o .7 .ensures) (o .8) (o .9))
-    (λ o. none-here t m p implied n q (o .0 .left) (o .1 .left) (o .2 .left) (o .3 .left) (o .4) (o .5)))))
-    (c .before .before .if3 .came)
+    let n = c .before .if3 .banks in
+    let q = c .before .if3 .buffer in
+    let newest = c .before .if3 .latest .opened in
+    let stored : Stored t m p implied n q newest =
+    ⊎-elim (λ o. open-here t m p implied n q newest _ (o .0 .taken) (o .2 .ensures) (o .4) (o .5) (opened-by (o .6) ∙ o .3 .ensures))
+    (⊎-elim (λ o. close-here t m p implied n q newest _ _ _ (o .0 .left) (o .1 .taken) (o .3 .ensures) (o .5 .ensures) (o .7 .ensures) (o .8) (o .9) (opened-by (o .10)))
+    (⊎-elim (λ o. read-here t m p implied n q newest (o .0 .left) (o .1 .left) (o .2 .taken) (o .4) (o .5) (opened-by (o .6)))
+    (⊎-elim (λ o. left-here t m p implied n q newest _ _ _ (o .0 .left) (o .1 .left) (o .2 .left) (o .3 .taken) (o .4 .ensures) (o .5 .ensures) (o .7 .ensures) (o .8) (o .9) (opened-by (o .10)))
+    (λ o. none-here t m p implied n q newest (o .0 .left) (o .1 .left) (o .2 .left) (o .3 .left) (o .4) (o .5) (opened-by (o .6))))))
+    (c .before .if3 .came)
     in
     let banks = banks-here t m p implied n (stored .0) in (
       omega arith,
-      rw (c .latest-after .ensures, c .before .lasts-after .ensures, banks, stored .1)
+      rw (c .lasts-after .ensures, banks, stored .1)
           (state-here t m p implied ∙ after-here (a .s) (a .blocks) (a .b .now) (a .n) (k .i) lt r e ch (k .inv .1)),
       ap length banks ∙ length-here t m p implied,
-      rw (c .latest-after .ensures) (opened-same _ _ _ banks (opened-here t m p implied)),
+      rw (stored .2) (opened-same _ _ _ banks (opened-here t m p implied)),
       within-here t q (stored .1),
       below-more _ _ (k .inv .5) (holds-here (a .s) (a .blocks) (a .b .now) (a .n) (k .i) lt r e ch (k .inv .1) zero),
     )
@@ -268,6 +273,7 @@ walk-spec =
     (λ c κs. search needs)
     mul-banks
     array-set-from-banks
+    (λ c κs. search needs)
     mul-closed-track
     array-copy-out-closed-track
     (λ c κs. search needs)
@@ -291,7 +297,6 @@ walk-spec =
     (λ c κs. search needs)
     mul-banks-6
     way-write-given-banks-2
-    (λ c κs. search needs)
     (λ c κs. search needs)
     (λ c κs. search needs)
     add-i

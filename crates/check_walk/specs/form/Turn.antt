@@ -20,7 +20,6 @@ use Rattle.chan_view.specs.form.Beside.{firstNear, lastNear, slotOf}
 use Rattle.chan_view.specs.form.View.{plain, impliesBy, centreOf}
 use Rattle.chan_step.specs.form.Banks.{prerTrack, sideTrack}
 use Rattle.chan_step.specs.form.Lasts.{impliedLasts}
-use Rattle.check_walk.specs.declared.Latest.{Latest}
 
 -- a record as flags: data name no bank and change none
 unfoldable pub viewIn : Seen → View
@@ -45,10 +44,6 @@ openedTrack v k =
 -- the newest ACT or REFA after a record
 abbrev pub newestNext : View → ℕ → ℕ
 newestNext v newest = cond (v .opens) (max newest (v .at .0)) newest
-
--- after a record
-abbrev pub latestNext : View → Latest → Latest
-latestNext v k = record { opened = newestNext v (k .opened); due = v .writes }
 
 -- no instant of any packet
 abbrev pub noLasts : LastInstants
