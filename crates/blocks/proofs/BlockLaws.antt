@@ -14,18 +14,26 @@ use Rattle.num.proofs.SpliceLaws.{length-zeros}
 use Rattle.num.proofs.PartLaws.{length-part-le}
 use Rattle.blocks.specs.Block.{wordAt, wordSum, blockBody, block, logUpTo, listUpTo, blockAt, used, blockRight, blocksIn}
 
-pub length-body : (k : ℕ) (recs : List ℕ) → length recs ≤ 480 → length (blockBody k recs) ≡ 508
+pub length-body : (stamp : List ℕ) (k : ℕ) (recs : List ℕ) → length recs + length stamp ≤ 480 → length (blockBody stamp k recs) ≡ 508
 unfolding blockBody
-length-body k recs h = simp (length-append, length-zeros, length-bytes) (omega arith)
+length-body stamp k recs h = simp (length-append, length-zeros, length-bytes) (omega arith)
 
-pub length-block : (k : ℕ) (recs : List ℕ) → length recs ≤ 480 → length (block k recs) ≡ 512
+pub length-block : (stamp : List ℕ) (k : ℕ) (recs : List ℕ) → length recs + length stamp ≤ 480 → length (block stamp k recs) ≡ 512
 unfolding block
-length-block k recs h = simp (length-append, length-body k recs h, length-bytes)
+length-block stamp k recs h = simp (length-append, length-body stamp k recs h, length-bytes)
 
-pub length-log : (l : List ℕ) (n : ℕ) → length (logUpTo l n) ≡ 512 * n
+-- the records of block k of a list
+abbrev pub partOf : ℕ → List ℕ → ℕ → List ℕ
+partOf per l k = part l (32 * (per * k)) (32 * per)
+
+pub part-fits : (per : ℕ) (stamp l : List ℕ) (k : ℕ) → 32 * per + length stamp ≡ 480 → length (partOf per l k) + length stamp ≤ 480
+part-fits per stamp l k h = let e = length-part-le l (32 * (per * k)) (32 * per) in omega arith
+
+pub length-log : (per : ℕ) (stamp l : List ℕ) (n : ℕ) → 32 * per + length stamp ≡ 480 → length (logUpTo per stamp l n) ≡ 512 * n
 unfolding logUpTo
-length-log l zero = refl
-length-log l (suc n) = simp (length-append, length-log l n, length-block n (part l (480 * n) 480) (length-part-le l (480 * n) 480)) (omega arith)
+length-log per stamp l zero h = refl
+length-log per stamp l (suc n) h =
+    simp (length-append, length-log per stamp l n h, length-block stamp n (partOf per l n) (part-fits per stamp l n h)) (omega arith)
 
 pub sum-next : (b : List ℕ) (n : ℕ) → wordSum b (n + 1) ≡ wordSum b n + wordAt b n
 unfolding wordSum
@@ -37,14 +45,14 @@ unfolding wordSum
 sum-same b d zero h = refl
 sum-same b d (suc n) h = ap₂ _+_ (sum-same b d n (λ k l. h k (omega arith))) (h n (omega arith))
 
-pub log-next : (l : List ℕ) (n : ℕ) → logUpTo l (n + 1) ≡ logUpTo l n ++ block n (part l (480 * n) 480)
+pub log-next : (per : ℕ) (stamp l : List ℕ) (n : ℕ) → logUpTo per stamp l (n + 1) ≡ logUpTo per stamp l n ++ block stamp n (partOf per l n)
 unfolding logUpTo
-log-next l n = rw add-one
+log-next per stamp l n = rw add-one
 
 pub list-next : (log : List ℕ) (n : ℕ) → listUpTo log (n + 1) ≡ listUpTo log n ++ part (blockAt log n) 0 (32 * used (blockAt log n))
 unfolding listUpTo
 list-next log n = rw add-one
 
 -- whether block k of a log is right there
-abbrev pub rightAt : List ℕ → ℕ → Bool
-rightAt log k = blockRight k (eqb (k + 1) (blocksIn log)) (blockAt log k)
+abbrev pub rightAt : ℕ → List ℕ → ℕ → Bool
+rightAt per log k = blockRight per k (eqb (k + 1) (blocksIn log)) (blockAt log k)

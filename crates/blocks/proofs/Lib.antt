@@ -1,3 +1,4 @@
+pub mod CountLaws
 pub mod BlockLaws
 pub mod WriteLaws
 pub mod ReadLaws

@@ -9,9 +9,9 @@ use lib.ListN.{length, drop, length-append}
 use lib.Seq.{take-take}
 use Rattle.num.specs.Bytes.{part, splice}
 use Rattle.num.proofs.SpliceLaws.{length-splice, splice-next}
-use Rattle.blocks.specs.Block.{used, blocksIn, blockAt, firstBadBlock, listUpTo, listOf}
+use Rattle.blocks.specs.Block.{used, blocksIn, blockAt, listUpTo, listOf}
 use Rattle.blocks.proofs.BlockLaws.{list-next}
-use Rattle.blocks.proofs.ListThenLog.{recordsAt, length-upTo}
+use Rattle.blocks.proofs.ListThenLog.{recordsAt}
 
 -- the used records of a block are the bytes of the log from the block's start on
 pub used-part : (log : List ℕ) (k : ℕ) → used (blockAt log k) ≤ 15
@@ -31,12 +31,11 @@ list-within log k h =
     rw e at (grows log k (blocksIn log - k))
 
 -- the used records of one block more
-pub list-turn : (log l : List ℕ) → firstBadBlock log ≡ blocksIn log → length (listOf log) ≤ length l → (k : ℕ) → k < blocksIn log
-    → splice (splice l 0 (listUpTo log k)) (480 * k) (recordsAt log k) ≡ splice l 0 (listUpTo log (k + 1))
-list-turn log l e m k h =
-    let n = length-upTo log e k h in
+pub list-turn : (log l : List ℕ) (n : ℕ) → length (listOf log) ≤ length l → (k : ℕ) → k < blocksIn log → length (listUpTo log k) ≡ n
+    → splice (splice l 0 (listUpTo log k)) n (recordsAt log k) ≡ splice l 0 (listUpTo log (k + 1))
+list-turn log l n m k h e =
     let w = list-within log k (omega arith) in
-    rw (list-next log k) (splice-next l (listUpTo log k) (recordsAt log k) (480 * k) n (omega arith))
+    rw (list-next log k) (splice-next l (listUpTo log k) (recordsAt log k) n e (omega arith))
 
 -- the bytes keep their number
 pub list-held : (log l : List ℕ) → length (listOf log) ≤ length l → (k : ℕ) → k ≤ blocksIn log → length (splice l 0 (listUpTo log k)) ≡ length l

@@ -20,6 +20,6 @@ paper =
     usedRecords ++ (zeros 416 ++ (0x01 ∷ 0x00 ∷ 0x00 ∷ 0x00 ∷ 0x02 ∷ 0x00 ∷ 0x00 ∷ 0x00 ∷ (zeros 20 ++ (0x95 ∷ 0x55 ∷ 0x5B ∷ 0xDC ∷ []))))
 
 -- written; right as the last block, but not as one before the last; read
-pub worked : (block 1 usedRecords ≡ paper) × (blockRight 1 true paper ≡ true) × (blockRight 1 false paper ≡ false) × (part paper 0 (32 * used paper) ≡ usedRecords)
+pub worked : (block [] 1 usedRecords ≡ paper) × (blockRight 15 1 true paper ≡ true) × (blockRight 15 1 false paper ≡ false) × (part paper 0 (32 * used paper) ≡ usedRecords)
 unfolding usedRecords paper rdBytes dataBytes bytes number allUpTo wordSum blockBody checkWord block blockRight
 worked = (refl, refl, refl, refl)

@@ -1,4 +1,4 @@
-// Blocks of 512 bytes (document 01, "Blocks"): whether a block is right, what it keeps, and how it is written.
+// Blocks of 512 bytes (document 01, "Blocks"; document 02 i): whether a block is right, what it keeps, and how it is written.
 pub mod sum;
 pub mod write;
 
@@ -32,32 +32,32 @@ fn number_right(b: &[u8], k: u64) -> bool
     num::wide32(num::u32_at(b, 480)) == k
 }
 
-// Whether 1 to 15 records are used, and 15 in every block but the last.
-fn count_right(b: &[u8], last: bool) -> bool
+// Whether 1 to `per` records are used, and `per` in every block but the last.
+fn count_right(b: &[u8], per: usize, last: bool) -> bool
     requires { ⌜ length (now b) ≡ 512 ⌝ }
-    ensures { λ r. ⌜ r ≡ countRight last (now (b .entry)) ⌝ }
+    ensures { λ r. ⌜ r ≡ countRight per last (now (b .entry)) ⌝ }
 {
-    let n = num::u32_at(b, 484);
+    let n = num::u32_at(b, 484) as usize;
     if n < 1 {
         return false;
     }
-    if 15 < n {
+    if per < n {
         return false;
     }
     if last {
         return true;
     }
-    n == 15
+    n == per
 }
 
 // Whether the zeros after the count and the unused records are zero.
-fn zeros_right(b: &[u8]) -> bool
-    requires { ⌜ (length (now b) ≡ 512) × (used (now b) ≤ 15) ⌝ }
-    ensures { λ r. ⌜ r ≡ zerosRight (now (b .entry)) ⌝ }
+fn zeros_right(b: &[u8], per: usize) -> bool
+    requires { ⌜ (length (now b) ≡ 512) × (used (now b) ≤ per) × (per ≤ 15) ⌝ }
+    ensures { λ r. ⌜ r ≡ zerosRight per (now (b .entry)) ⌝ }
 {
     if all_zero(b, 488, 20) {
         let from = 32 * (num::u32_at(b, 484) as usize);
-        return all_zero(b, from, 480 - from);
+        return all_zero(b, from, 32 * per - from);
     }
     false
 }
@@ -70,29 +70,29 @@ fn sum_right(b: &[u8]) -> bool
     word_sum(b, 128) == 0
 }
 
-// Whether b is block k of a log, and its last block where last says so.
-pub(crate) fn block_right(b: &[u8], k: u64, last: bool) -> bool
-    requires { ⌜ length (now b) ≡ 512 ⌝ }
-    ensures { λ r. ⌜ r ≡ blockRight k last (now (b .entry)) ⌝ }
+// Whether b is block k of a log of blocks of so many records, and its last block where last says so.
+pub(crate) fn block_right(b: &[u8], per: usize, k: u64, last: bool) -> bool
+    requires { ⌜ (length (now b) ≡ 512) × (per ≤ 15) ⌝ }
+    ensures { λ r. ⌜ r ≡ blockRight per k last (now (b .entry)) ⌝ }
 {
     if !number_right(b, k) {
         return false;
     }
-    if !count_right(b, last) {
+    if !count_right(b, per, last) {
         return false;
     }
-    if !zeros_right(b) {
+    if !zeros_right(b, per) {
         return false;
     }
     sum_right(b)
 }
 
 // Whether block k of a log is right there.
-pub fn right_at(log: &[u8], k: usize) -> bool
-    requires { ⌜ k < blocksIn (now log) ⌝ }
-    ensures { λ r. ⌜ r ≡ blockRight k (eqb (k + 1) (blocksIn (now (log .entry)))) (blockAt (now (log .entry)) k) ⌝ }
+pub fn right_at(log: &[u8], per: usize, k: usize) -> bool
+    requires { ⌜ (k < blocksIn (now log)) × (per ≤ 15) ⌝ }
+    ensures { λ r. ⌜ r ≡ blockRight per k (eqb (k + 1) (blocksIn (now (log .entry)))) (blockAt (now (log .entry)) k) ⌝ }
 {
     let at = 512 * k;
     let next = at + 512;
-    block_right(&log[at..next], k as u64, k + 1 == log.len() / 512)
+    block_right(&log[at..next], per, k as u64, k + 1 == log.len() / 512)
 }

@@ -11,6 +11,6 @@ use Rattle.spec_rules.specs.Neighbour.{contextOf}
 use Rattle.spec_check.specs.Check.{recordsOf, ruleAnswer, recordsAnswer, logAnswer}
 use Rattle.index_make.proofs.MakeLaws.{Passed}
 
-pub rules-after : (s : Settings) (log : List ℕ) → length log % 512 ≡ 0 → Passed s log → logAnswer (contextOf s) log ≡ ruleAnswer (contextOf s) (recordsOf s (listOf log))
+pub rules-after : (s : Settings) (log : List ℕ) → length log % 512 ≡ 0 → Passed 15 s log → logAnswer (contextOf s) log ≡ ruleAnswer (contextOf s) (recordsOf s (listOf log))
 unfolding logAnswer recordsAnswer contextOf
 rules-after s log h p = rw (eq-eqb _ 0 h, eq-eqb _ _ (p .right), eq-eqb _ _ (p .good))

@@ -29,14 +29,14 @@ use Rattle.log_index.specs.Answers.{lentAfter, addAnswer, besideAnswer, queryAn
 use Rattle.log_index.proofs.IndexLaws.{length-words, kept-are, kept-most, passes-is}
 use Rattle.log_index.proofs.ListLaws.{length-listed}
 use Rattle.log_index.proofs.QueryLaws.{query-is-scan, scan-lists}
-use Rattle.index_make.proofs.MakeLaws.{pick, added}
+use Rattle.index_make.proofs.MakeLaws.{fifteen, pick, added}
 use Rattle.index_query.proofs.QueryLaws.{Queried, query-passed, beside-passed}
 use Rattle.calls_index.specs.Results.{indexAnswer, IndexResult, indexBy, indexAddCall, indexQueryCall, checkedAnswer, indexCheckCall}
 use Rattle.calls_index.specs.Theorems.{RefusedIndexCalls, IndexCalls}
 
 -- ---- refused calls
 
-kept-by : (lent new : List ℕ) (x : Indexed) → (indexAnswer x .number ≡ 0 → ⊥) → lentAfter x new lent ≡ lent
+pub kept-by : (lent new : List ℕ) (x : Indexed) → (indexAnswer x .number ≡ 0 → ⊥) → lentAfter x new lent ≡ lent
 unfolding indexAnswer lentAfter
 kept-by lent new (Refused why) n = refl
 kept-by lent new (Differs k) n = refl
@@ -148,6 +148,6 @@ module _ (settings : List ℕ) (s : Settings) (says : settingsRead settings ≡ 
         scan = scan;
         lists = λ log index bank out w e.
             let n = asked log index bank out e in
-            scan-lists s log bank w (query-passed s log index bank (length out) (n .0) (n .1) .beside .passed .right);
+            scan-lists s 15 fifteen log bank w (query-passed s log index bank (length out) (n .0) (n .1) .beside .passed .right);
         passes = passes;
       }

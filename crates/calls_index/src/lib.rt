@@ -17,7 +17,7 @@ pub struct IndexAnswer {
     pub count: u64,
 }
 
-fn index_answer(x: Indexed) -> IndexAnswer
+pub fn index_answer(x: Indexed) -> IndexAnswer
     ensures { λ r. ⌜ r ≡ indexAnswer x ⌝ }
 {
     match x {

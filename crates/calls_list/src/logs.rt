@@ -6,7 +6,7 @@ use record::Refusal;
 use settings::SettingsRead;
 use spec_calls::CopyAnswer;
 
-fn copy_answer(c: Copied) -> CopyAnswer
+pub fn copy_answer(c: Copied) -> CopyAnswer
     ensures { λ r. ⌜ r ≡ copyAnswer c ⌝ }
 {
     match c {
@@ -32,7 +32,13 @@ pub fn encode_by(settings: &[u8], list: &[u8], log: &mut [u8]) -> CopyAnswer
 {
     match settings::read::read_settings(settings) {
         SettingsRead::Refused => copy_answer(Copied::Refused(Refusal::Settings)),
-        SettingsRead::Accepted(s) => copy_answer(log::copy::encode(s, list, log)),
+        SettingsRead::Accepted(s) => copy_answer(log::copy::encode(
+            s,
+            15,
+            &settings[0..0],
+            list,
+            log,
+        )),
     }
 }
 
@@ -42,6 +48,6 @@ pub fn decode_by(settings: &[u8], log: &[u8], list: &mut [u8]) -> CopyAnswer
 {
     match settings::read::read_settings(settings) {
         SettingsRead::Refused => copy_answer(Copied::Refused(Refusal::Settings)),
-        SettingsRead::Accepted(s) => copy_answer(log::copy::decode(s, log, list)),
+        SettingsRead::Accepted(s) => copy_answer(log::copy::decode(s, log, 15, list)),
     }
 }

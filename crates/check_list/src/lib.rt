@@ -1,5 +1,5 @@
 // The checker of whole lists and whole logs.
-mod walked;
+pub mod walked;
 
 ghost use mathlib.Core.Path.{_≡_};
 ghost use Rattle.spec_rules.specs.Neighbour.{contextOf};
@@ -19,7 +19,7 @@ pub fn check_list(s: Settings, list: &[u8]) -> Judged
         return Judged::Refused(Refusal::Length);
     }
     let n = list.len() / 32;
-    let stop = walk(s, list, n, false);
+    let stop = walk(s, list, n, 0);
     let at = stop.at;
     if at == n {
         return Judged::Passed;
@@ -41,15 +41,15 @@ pub fn check_log(s: Settings, log: &[u8]) -> Judged
     if log.len() % 512 != 0 {
         return Judged::Refused(Refusal::Length);
     }
-    let found = log::copy::faults(s, log);
+    let found = log::copy::faults(s, log, 15);
     let block = found.block;
     if block != log.len() / 512 {
         return Judged::Refused(Refusal::Block(block as u64));
     }
-    let n = kept::records_in(log);
+    let n = kept::records_in(log, 15);
     let bad = found.record;
     if bad != n {
         return Judged::Refused(Refusal::Word(bad as u64));
     }
-    judge_all(s, log, n, true)
+    judge_all(s, log, n, 15)
 }

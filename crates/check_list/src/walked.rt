@@ -13,14 +13,14 @@ use record::Refusal;
 use settings::Settings;
 use spec_check::Judged;
 
-// The first broken rule of n well formed records of a list, or of a log where blocks says so.
-pub(crate) fn judge_all(s: Settings, b: &[u8], n: usize, blocks: bool) -> Judged
-    requires { ⌜ n < 2 ^ 58 ⌝ }
-    requires { ⌜ ((i : ℕ) → i < n → placeIn blocks i + 32 ≤ length (now b)) ⌝ }
-    requires { ⌜ ((i : ℕ) → i < n → wellFormed s (part (now b) (placeIn blocks i) 32) ≡ true) ⌝ }
-    ensures { λ r. ⌜ r ≡ ruleAnswer (contextOf s) (recordsVia s blocks (now (b .entry)) n) ⌝ }
+// The first broken rule of n well formed records of a log of blocks of so many records.
+pub fn judge_all(s: Settings, b: &[u8], n: usize, per: usize) -> Judged
+    requires { ⌜ (n < 2 ^ 58) × (per ≤ 15) × (1 ≤ per → 14 ≤ per) ⌝ }
+    requires { ⌜ ((i : ℕ) → i < n → placeIn per i + 32 ≤ length (now b)) ⌝ }
+    requires { ⌜ ((i : ℕ) → i < n → wellFormed s (part (now b) (placeIn per i) 32) ≡ true) ⌝ }
+    ensures { λ r. ⌜ r ≡ ruleAnswer (contextOf s) (recordsVia s per (now (b .entry)) n) ⌝ }
 {
-    let stop = walk(s, b, n, blocks);
+    let stop = walk(s, b, n, per);
     let at = stop.at;
     if at == n {
         return Judged::Passed;

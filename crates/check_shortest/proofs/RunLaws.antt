@@ -44,18 +44,18 @@ col-opens t (Rd b c m x) = refl
 
 module _ (s : Settings) (l : List ℕ) where
   pub length-records : length (recordsOf s l) ≡ recordsIn l
-  length-records = ap length (sym (list-via s l)) ∙ length-via s false l (recordsIn l)
+  length-records = ap length (sym (list-via s l)) ∙ length-via s 0 l (recordsIn l)
 
   pub record-known : (i : ℕ) → i < recordsIn l → (d : Record) → getD (recordsOf s l) i d ≡ known (recordRead s (recordAt l i))
   unfolding placeIn
-  record-known i h d = ap (λ (rs : List Record). getD rs i d) (sym (list-via s l)) ∙ via-at s false l (recordsIn l) i d h
+  record-known i h d = ap (λ (rs : List Record). getD rs i d) (sym (list-via s l)) ∙ via-at s 0 l (recordsIn l) i d h
 
   -- the records that the walk meets on the bytes of a run
   module _ (i j : ℕ) (k : i ≤ j) (h : j < recordsIn l) where
     abbrev bytes : List ℕ
     bytes = part l (32 * i) (32 * j + 32 - 32 * i)
 
-    record-via : (x : ℕ) (d : Record) → x < j - i + 1 → recordVia s false bytes x ≡ getD (run (recordsOf s l) i j) x d
+    record-via : (x : ℕ) (d : Record) → x < j - i + 1 → recordVia s 0 bytes x ≡ getD (run (recordsOf s l) i j) x d
     unfolding placeIn
     record-via x d m =
         let e : 32 * i + 32 * x ≡ 32 * (i + x) = omega arith in
@@ -65,16 +65,16 @@ module _ (s : Settings) (l : List ℕ) where
         ∙ sym (getD-take (j + 1) (recordsOf s l) (i + x) d (omega arith))
         ∙ sym (getD-drop i (take (j + 1) (recordsOf s l)) x d)
 
-    pub run-via : recordsVia s false bytes (j - i + 1) ≡ run (recordsOf s l) i j
+    pub run-via : recordsVia s 0 bytes (j - i + 1) ≡ run (recordsOf s l) i j
     run-via =
         let d : Record = known (recordRead s (recordAt l 0)) in
         let e = length-records in
-        let a = length-via s false bytes (j - i + 1) in
+        let a = length-via s 0 bytes (j - i + 1) in
         let c : length (run (recordsOf s l) i j) ≡ j + 1 - i = length-slice i (j + 1) (recordsOf s l) (omega arith) in
-        ext-getD d (recordsVia s false bytes (j - i + 1)) (run (recordsOf s l) i j) (omega arith)
-        (λ x m. let y : x < j - i + 1 = omega arith in via-at s false bytes (j - i + 1) x d y ∙ record-via x d y)
+        ext-getD d (recordsVia s 0 bytes (j - i + 1)) (run (recordsOf s l) i j) (omega arith)
+        (λ x m. let y : x < j - i + 1 = omega arith in via-at s 0 bytes (j - i + 1) x d y ∙ record-via x d y)
 
-    pub formed-via : ((x : ℕ) → x < recordsIn l → wellFormed s (recordAt l x) ≡ true) → (x : ℕ) → x < j - i + 1 → formedVia s false bytes x ≡ true
+    pub formed-via : ((x : ℕ) → x < recordsIn l → wellFormed s (recordAt l x) ≡ true) → (x : ℕ) → x < j - i + 1 → formedVia s 0 bytes x ≡ true
     unfolding placeIn
     formed-via f x m =
         let e : 32 * i + 32 * x ≡ 32 * (i + x) = omega arith in
@@ -93,9 +93,9 @@ module _ (s : Settings) (l : List ℕ) where
     records-run =
         let e = length-bytes in
         let n : recordsIn bytes ≡ j - i + 1 = omega arith in
-        ap (recordsOf s) (sym same-bytes) ∙ sym (list-via s bytes) ∙ ap (recordsVia s false bytes) n ∙ run-via
+        ap (recordsOf s) (sym same-bytes) ∙ sym (list-via s bytes) ∙ ap (recordsVia s 0 bytes) n ∙ run-via
 
-    pub run-within : (x : ℕ) → x < j - i + 1 → placeIn false x + 32 ≤ length bytes
+    pub run-within : (x : ℕ) → x < j - i + 1 → placeIn 0 x + 32 ≤ length bytes
     unfolding placeIn
     run-within x m = rw (length-part l (32 * i) (32 * j + 32 - 32 * i) (omega arith)) (omega arith)
 
@@ -121,28 +121,28 @@ run-breach cx l i j n k h f =
 
 -- ---- where the walk stops
 
-module _ (cx : Context) (ns : Neighbours cx) (b : List ℕ) (n : ℕ) (f : (x : ℕ) → x < n → formedVia (cx .settings) false b x ≡ true) where
+module _ (cx : Context) (ns : Neighbours cx) (b : List ℕ) (n : ℕ) (f : (x : ℕ) → x < n → formedVia (cx .settings) 0 b x ≡ true) where
   abbrev met : List Record
-  met = recordsVia (cx .settings) false b n
+  met = recordsVia (cx .settings) 0 b n
 
-  right : (firstFound cx met ≡ firstBroken cx met) × (firstFound cx met < length met → foundVia cx false b n (firstFound cx met) ≡ ruleAt cx met (firstFound cx met))
-  right = checker-right cx ns met (via-fits (cx .settings) false b n f)
+  right : (firstFound cx met ≡ firstBroken cx met) × (firstFound cx met < length met → foundVia cx 0 b n (firstFound cx met) ≡ ruleAt cx met (firstFound cx met))
+  right = checker-right cx ns met (via-fits (cx .settings) 0 b n f)
 
-  stop-found : stopAt cx false b n ≡ firstFound cx met
+  stop-found : stopAt cx 0 b n ≡ firstFound cx met
   unfolding firstFound
   stop-found =
-      first-same _ (λ x. eqb (foundVia cx false b n x) 0) n (λ x m. ap (λ (t : Bool). t && eqb (foundVia cx false b n x) 0) (f x m))
-      ∙ ap (firstFalse (λ x. eqb (foundVia cx false b n x) 0)) (sym (length-via (cx .settings) false b n))
+      first-same _ (λ x. eqb (foundVia cx 0 b n x) 0) n (λ x m. ap (λ (t : Bool). t && eqb (foundVia cx 0 b n x) 0) (f x m))
+      ∙ ap (firstFalse (λ x. eqb (foundVia cx 0 b n x) 0)) (sym (length-via (cx .settings) 0 b n))
 
-  pub stop-broken : stopOf cx false b n .at ≡ firstBroken cx met
+  pub stop-broken : stopOf cx 0 b n .at ≡ firstBroken cx met
   unfolding stopOf
   stop-broken = stop-found ∙ right .0
 
-  pub stop-rule : firstBroken cx met < n → stopOf cx false b n .rule ≡ ruleAt cx met (firstBroken cx met)
+  pub stop-rule : firstBroken cx met < n → stopOf cx 0 b n .rule ≡ ruleAt cx met (firstBroken cx met)
   unfolding stopOf
   stop-rule m =
       let e = stop-broken in
-      let l = length-via (cx .settings) false b n in
+      let l = length-via (cx .settings) 0 b n in
       let g = right in
       rw (stop-found, lt-ltb (firstFound cx met) n (omega arith), f (firstFound cx met) (omega arith)) (g .1 (omega arith) ∙ ap (ruleAt cx met) (g .0))
 
@@ -150,7 +150,7 @@ module _ (cx : Context) (ns : Neighbours cx) (b : List ℕ) (n : ℕ) (f : (x : 
 module _ (cx : Context) (ns : Neighbours cx) (l : List ℕ) (i j : ℕ) (k : i ≤ j) (h : j < recordsIn l)
     (good : (x : ℕ) → x < recordsIn l → wellFormed (cx .settings) (recordAt l x) ≡ true) where
   abbrev stop : Stop
-  stop = stopOf cx false (part l (32 * i) (32 * j + 32 - 32 * i)) (j - i + 1)
+  stop = stopOf cx 0 (part l (32 * i) (32 * j + 32 - 32 * i)) (j - i + 1)
 
   stop-at : stop .at ≡ firstBroken cx (run (recordsOf (cx .settings) l) i j)
   stop-at = stop-broken cx ns _ (j - i + 1) (formed-via (cx .settings) l i j k h good) ∙ ap (firstBroken cx) (run-via (cx .settings) l i j k h)

@@ -73,7 +73,7 @@ fn try_from(s: Settings, list: &[u8], rule: u32, i: usize, j: usize) -> Tried
     let at = 32 * i;
     let end = 32 * j + 32;
     let last = j - i;
-    let stop = walk(s, &list[at..end], last + 1, false);
+    let stop = walk(s, &list[at..end], last + 1, 0);
     let stopped = stop.at;
     Tried {
         found: (stopped == last) & (stop.rule == rule),

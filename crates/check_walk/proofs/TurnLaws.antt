@@ -50,34 +50,34 @@ use Rattle.check_walk.proofs.ImpliedLaws.{plain-implies, data-implies, 
 
 -- ---- the record that is read
 
-module _ (s : Settings) (blocks : Bool) (b : List ℕ) (n i : ℕ) (h : i < n) (r : Record) (e : recordRead s (part b (placeIn blocks i) 32) ≡ Known r) where
+module _ (s : Settings) (per : ℕ) (b : List ℕ) (n i : ℕ) (h : i < n) (r : Record) (e : recordRead s (part b (placeIn per i) 32) ≡ Known r) where
   abbrev records : List Record
-  records = recordsVia (contextOf s .settings) blocks b n
+  records = recordsVia (contextOf s .settings) per b n
 
   met-here : recordIn records i ≡ r
   unfolding known contextOf
-  met-here = via-at s blocks b n i _ h ∙ ap known e
+  met-here = via-at s per b n i _ h ∙ ap known e
 
-  pub formed-here : formedVia (contextOf s .settings) blocks b i ≡ true
+  pub formed-here : formedVia (contextOf s .settings) per b i ≡ true
   unfolding wellFormed isKnown contextOf
   formed-here = ap isKnown e
 
   pub bank-here : viewIn (seenOf r) .bank < 32
-  bank-here = fits-bank s r (record-read-fits s (part b (placeIn blocks i) 32) r e)
+  bank-here = fits-bank s r (record-read-fits s (part b (placeIn per i) 32) r e)
 
   module _ (ch : Channel) (q : ch ≡ channelAfter (contextOf s) records i) where
-    pub found-here : foundVia (contextOf s) blocks b n i ≡ judged (contextOf s) ch r
+    pub found-here : foundVia (contextOf s) per b n i ≡ judged (contextOf s) ch r
     found-here = ap₂ (judged (contextOf s)) (sym q) met-here
 
     pub after-here : after (contextOf s) ch r ≡ channelAfter (contextOf s) records (i + 1)
     after-here = ap (λ (x : Channel). after (contextOf s) x r) q ∙ channel-next (contextOf s) records i r met-here
 
-    pub holds-here : judged (contextOf s) ch r ≡ 0 → holds (contextOf s) blocks b n i ≡ true
+    pub holds-here : judged (contextOf s) ch r ≡ 0 → holds (contextOf s) per b n i ≡ true
     holds-here z = rw (formed-here, found-here, eq-eqb (judged (contextOf s) ch r) 0 z)
 
-pub unformed : (s : Settings) (blocks : Bool) (b : List ℕ) (i : ℕ) → recordRead s (part b (placeIn blocks i) 32) ≡ NoRecord → formedVia (contextOf s .settings) blocks b i ≡ false
+pub unformed : (s : Settings) (per : ℕ) (b : List ℕ) (i : ℕ) → recordRead s (part b (placeIn per i) 32) ≡ NoRecord → formedVia (contextOf s .settings) per b i ≡ false
 unfolding wellFormed isKnown contextOf
-unformed s blocks b i e = ap isKnown e
+unformed s per b i e = ap isKnown e
 
 -- data change none of these
 data-same : (s : Settings) (r : Record) (d : DataAt) → seenOf r ≡ Data d → (banks : List BankTrack) (l : LastInstants) (out : Bool) (b : Buffer)

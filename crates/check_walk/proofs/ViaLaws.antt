@@ -18,19 +18,19 @@ use Rattle.spec_rules.specs.Channel.{after}
 use Rattle.spec_rules.specs.Checks.{channelAfter}
 use Rattle.check_walk.specs.form.Walk.{recordVia, recordsVia}
 
-pub length-via : (s : Settings) (blocks : Bool) (b : List ℕ) (n : ℕ) → length (recordsVia s blocks b n) ≡ n
+pub length-via : (s : Settings) (per : ℕ) (b : List ℕ) (n : ℕ) → length (recordsVia s per b n) ≡ n
 unfolding recordsVia
-length-via s blocks b zero = refl
-length-via s blocks b (suc n) = simp (length-append, length-via s blocks b n) (omega arith)
+length-via s per b zero = refl
+length-via s per b (suc n) = simp (length-append, length-via s per b n) (omega arith)
 
 -- record i of the first n
-pub via-at : (s : Settings) (blocks : Bool) (b : List ℕ) (n i : ℕ) (d : Record) → i < n → getD (recordsVia s blocks b n) i d ≡ recordVia s blocks b i
+pub via-at : (s : Settings) (per : ℕ) (b : List ℕ) (n i : ℕ) (d : Record) → i < n → getD (recordsVia s per b n) i d ≡ recordVia s per b i
 unfolding recordsVia
-via-at s blocks b zero i d h = absurd (omega arith)
-via-at s blocks b (suc n) i d h =
+via-at s per b zero i d h = absurd (omega arith)
+via-at s per b (suc n) i d h =
     ⊎-elim
-    (λ (e : i ≡ n). rw e (getD-at (recordsVia s blocks b n) (recordVia s blocks b n) [] d n (length-via s blocks b n)))
-    (λ (m : i < n). List·getD-append (recordsVia s blocks b n) _ d i (rw length-via m) ∙ via-at s blocks b n i d m)
+    (λ (e : i ≡ n). rw e (getD-at (recordsVia s per b n) (recordVia s per b n) [] d n (length-via s per b n)))
+    (λ (m : i < n). List·getD-append (recordsVia s per b n) _ d i (rw length-via m) ∙ via-at s per b n i d m)
     (eq-or-lt-of-le (le-of-suc-le-suc h))
 
 -- the state after one record more

@@ -1,4 +1,4 @@
-// A walk over the records of a list or of a log: the first that is none or breaks a rule.
+// A walk over the records of a list or of a log of either form: the first that is none or breaks a rule.
 mod turn;
 
 ghost use mathlib.Core.Path.{_≡_};
@@ -46,25 +46,28 @@ pub struct Latest {
     pub due: bool,
 }
 
-// Where record i stands, in a log or in a list.
-fn place_of(blocks: bool, i: usize) -> usize
-    requires { ⌜ i < 2 ^ 58 ⌝ }
-    ensures { λ r. ⌜ r ≡ placeIn blocks i ⌝ }
+// Where record i stands, in a log of blocks of 15 or 14 records or, where per is 0, in a list. The divisors are constants, so that no
+// division is made.
+pub fn place_of(per: usize, i: usize) -> usize
+    requires { ⌜ (i < 2 ^ 58) × (per ≤ 15) × (1 ≤ per → 14 ≤ per) ⌝ }
+    ensures { λ r. ⌜ r ≡ placeIn per i ⌝ }
 {
-    if blocks {
-        512 * (i / 15) + 32 * (i % 15)
-    } else {
-        32 * i
+    if per == 0 {
+        return 32 * i;
     }
+    if per == 15 {
+        return 512 * (i / 15) + 32 * (i % 15);
+    }
+    512 * (i / 14) + 32 * (i % 14)
 }
 
 // The first of n records that is none or breaks a rule. The state of the channel stands in locals: only a record that fails the
 // quick test is judged by all of it. So does every one that implies a PRER; that PRER may be stored before the packet itself, which
 // changes other parts of the state.
-pub fn walk(s: Settings, b: &[u8], n: usize, blocks: bool) -> Stop
-    requires { ⌜ n < 2 ^ 58 ⌝ }
-    requires { ⌜ ((i : ℕ) → i < n → placeIn blocks i + 32 ≤ length (now b)) ⌝ }
-    ensures { λ r. ⌜ r ≡ stopOf (contextOf s) blocks (now (b .entry)) n ⌝ }
+pub fn walk(s: Settings, b: &[u8], n: usize, per: usize) -> Stop
+    requires { ⌜ (n < 2 ^ 58) × (per ≤ 15) × (1 ≤ per → 14 ≤ per) ⌝ }
+    requires { ⌜ ((i : ℕ) → i < n → placeIn per i + 32 ≤ length (now b)) ⌝ }
+    ensures { λ r. ⌜ r ≡ stopOf (contextOf s) per (now (b .entry)) n ⌝ }
 {
     let mut banks = [unused(); 32];
     let mut l = no_lasts();
@@ -74,7 +77,7 @@ pub fn walk(s: Settings, b: &[u8], n: usize, blocks: bool) -> Stop
         due: false,
     };
     for i in 0..n {
-        let RecordRead::Known(r) = read_record(s, b, place_of(blocks, i)) else {
+        let RecordRead::Known(r) = read_record(s, b, place_of(per, i)) else {
             return Stop { at: i, rule: 0 };
         };
         let v = view_of(r);

@@ -18,6 +18,7 @@ use Rattle.record.specs.declared.Refusal.{Refusal}
 use Rattle.record.specs.declared.Refusal.the-variants.{Full, Word, Block, Length}
 use Rattle.record.specs.Record.{firstBad, recordsIn}
 use Rattle.blocks.specs.Block.{blocksIn, blockAt, firstBadBlock, listOf}
+use Rattle.blocks.proofs.CountLaws.{Records}
 use Rattle.log.specs.declared.Copied.{Copied}
 use Rattle.log.specs.declared.Copied.the-variants.{Refused as CopyRefused, Count as CopyCount}
 use Rattle.log_right.specs.Right.{rightLog}
@@ -46,9 +47,13 @@ module _ (word : List ℕ → ℕ) (log l : List ℕ) where
 
 -- ---- the tests of a log
 
--- a log that passes 12 and 10
-pub record Passed (s : Settings) (log : List ℕ) : Type 0 where
-  pub right : firstBadBlock log ≡ blocksIn log
+-- document 01's form
+pub fifteen : Records 15
+fifteen = (omega arith, omega arith)
+
+-- a log of blocks of so many records that passes 12 and 10
+pub record Passed (per : ℕ) (s : Settings) (log : List ℕ) : Type 0 where
+  pub right : firstBadBlock per log ≡ blocksIn log
   pub good : firstBad s (listOf log) ≡ recordsIn (listOf log)
 
 -- an accepted call passed each test on its way
@@ -56,39 +61,39 @@ pick-copy : (t : Bool) (x : Copied) (r : Refusal) (n : ℕ) → cond t x (CopyRe
 pick-copy true x r n e = (refl, e)
 pick-copy false x r n e = absurd (let z : _≡_ {A = ℕ} 0 1 = cc in omega arith)
 
-pub right-passed : (s : Settings) (log : List ℕ) (m n : ℕ) → rightLog CopyRefused s log (CopyCount m) ≡ CopyCount n → Passed s log
+pub right-passed : (s : Settings) (log : List ℕ) (m n : ℕ) → rightLog CopyRefused 15 s log (CopyCount m) ≡ CopyCount n → Passed 15 s log
 right-passed s log m n e =
-    let a = pick-copy (eqb (firstBadBlock log) (blocksIn log)) _ (Block (firstBadBlock log)) n e in
+    let a = pick-copy (eqb (firstBadBlock 15 log) (blocksIn log)) _ (Block (firstBadBlock 15 log)) n e in
     let b = pick-copy (eqb (firstBad s (listOf log)) (recordsIn (listOf log))) (CopyCount m) (Word (firstBad s (listOf log))) n (a .1) in
     record { right = eqb-true _ _ (a .0); good = eqb-true _ _ (b .0) }
 
 -- the same refusal, whatever comes of it
-pub right-refused : (s : Settings) (log : List ℕ) (m : ℕ) (why : Refusal) (next : Indexed) → rightLog CopyRefused s log (CopyCount m) ≡ CopyRefused why
-    → rightLog Refused s log next ≡ Refused why
-right-refused s log m why next = go (eqb (firstBadBlock log) (blocksIn log)) (eqb (firstBad s (listOf log)) (recordsIn (listOf log)))
+pub right-refused : (s : Settings) (log : List ℕ) (m : ℕ) (why : Refusal) (next : Indexed) → rightLog CopyRefused 15 s log (CopyCount m) ≡ CopyRefused why
+    → rightLog Refused 15 s log next ≡ Refused why
+right-refused s log m why next = go (eqb (firstBadBlock 15 log) (blocksIn log)) (eqb (firstBad s (listOf log)) (recordsIn (listOf log)))
   where
     go : (a b : Bool)
-        → cond a (cond b (CopyCount m) (CopyRefused (Word (firstBad s (listOf log))))) (CopyRefused (Block (firstBadBlock log))) ≡ CopyRefused why
-        → cond a (cond b next (Refused (Word (firstBad s (listOf log))))) (Refused (Block (firstBadBlock log))) ≡ Refused why
+        → cond a (cond b (CopyCount m) (CopyRefused (Word (firstBad s (listOf log))))) (CopyRefused (Block (firstBadBlock 15 log))) ≡ CopyRefused why
+        → cond a (cond b next (Refused (Word (firstBad s (listOf log))))) (Refused (Block (firstBadBlock 15 log))) ≡ Refused why
     go true true e = absurd (let z : _≡_ {A = ℕ} 0 1 = cc in omega arith)
     go true false e = cc
     go false b e = cc
 
-pub right-next : (s : Settings) (log : List ℕ) (next : Indexed) → Passed s log → rightLog Refused s log next ≡ next
+pub right-next : (s : Settings) (log : List ℕ) (next : Indexed) → Passed 15 s log → rightLog Refused 15 s log next ≡ next
 right-next s log next p = rw (eq-eqb _ _ (p .right), eq-eqb _ _ (p .good))
 
 -- ---- words read from the fields
 
-module _ (s : Settings) (log : List ℕ) (w : Bytes log) (p : Passed s log) where
+module _ (s : Settings) (per : ℕ) (form : Records per) (log : List ℕ) (w : Bytes log) (p : Passed per s log) where
   pub words-said : wordsUpTo fieldsWord log (blocksIn log) ≡ indexOf s log
   unfolding indexOf
-  words-said = words-by fieldsWord (touchedWord s) log (blocksIn log) (λ k h. word-said s log w (p .right) (p .good) k h)
+  words-said = words-by fieldsWord (touchedWord s) log (blocksIn log) (λ k h. word-said s per form log (p .right) (p .good) w k h)
 
   pub wrong-said : (index : List ℕ) (n : ℕ) → firstFalse (wordRight fieldsWord log index) n ≡ firstWrong s log index n
   unfolding firstWrong
   wrong-said index n =
       first-same (wordRight fieldsWord log index) (wordRight (touchedWord s) log index) n
-      (λ k h. right-by fieldsWord (touchedWord s) log index k (λ l. word-said s log w (p .right) (p .good) k l))
+      (λ k h. right-by fieldsWord (touchedWord s) log index k (λ l. word-said s per form log (p .right) (p .good) w k l))
 
   pub room-said : (kept : ℕ) (index : List ℕ) → roomAnswer log kept index ≡ indexRight s log index kept (countOrFull (blocksIn log) (length index))
   unfolding roomAnswer
@@ -106,7 +111,7 @@ pick-same false x k n e = absurd (let z : _≡_ {A = ℕ} 0 1 = cc in omega arit
 
 pub record Added (s : Settings) (log : List ℕ) (kept : ℕ) (index : List ℕ) (n : ℕ) : Type 0 where
   pub whole : length log % 512 ≡ 0
-  pub passed : Passed s log
+  pub passed : Passed 15 s log
   pub same : firstWrong s log index kept ≡ kept
   pub room-enough : 4 * blocksIn log ≤ length index
   pub count-is : n ≡ blocksIn log
@@ -115,7 +120,7 @@ pub added : (s : Settings) (log : List ℕ) (kept : ℕ) (index : List ℕ) (n :
 unfolding addAnswer
 added s log kept index n e =
     let a = pick (eqb (length log % 512) 0) _ Length n e in
-    let b = pick (eqb (firstBadBlock log) (blocksIn log)) _ (Block (firstBadBlock log)) n (a .1) in
+    let b = pick (eqb (firstBadBlock 15 log) (blocksIn log)) _ (Block (firstBadBlock 15 log)) n (a .1) in
     let c = pick (eqb (firstBad s (listOf log)) (recordsIn (listOf log))) _ (Word (firstBad s (listOf log))) n (b .1) in
     let d = pick-same (eqb (firstWrong s log index kept) kept) _ (firstWrong s log index kept) n (c .1) in
     let f = pick (leb (blocksIn log) (length index / 4)) (Count (blocksIn log)) Full n (d .1) in
@@ -129,9 +134,9 @@ added s log kept index n e =
     }
 
 -- the words that are kept, as the fields say them
-pub kept-said : (s : Settings) (log : List ℕ) (kept : ℕ) (index : List ℕ) (n : ℕ) → Bytes log → Bytes index → Added s log kept index n
-    → part index 0 (4 * kept) ≡ wordsUpTo fieldsWord log kept
-kept-said s log kept index n w v a =
-    let m = kept-most s log index kept (a .same) in
-    kept-are s log index kept v (a .same)
-    ∙ sym (words-by fieldsWord (touchedWord s) log kept (λ k h. word-said s log w (a .passed .right) (a .passed .good) k (omega arith)))
+pub kept-said : (s : Settings) (per : ℕ) → Records per → (log : List ℕ) (kept : ℕ) (index : List ℕ) → Bytes log → Bytes index → Passed per s log
+    → firstWrong s log index kept ≡ kept → part index 0 (4 * kept) ≡ wordsUpTo fieldsWord log kept
+kept-said s per form log kept index w v p same =
+    let m = kept-most s log index kept same in
+    kept-are s log index kept v same
+    ∙ sym (words-by fieldsWord (touchedWord s) log kept (λ k h. word-said s per form log (p .right) (p .good) w k (omega arith)))

@@ -1,10 +1,10 @@
 // Makes the index of a log, and compares an index with its log.
 ghost use mathlib.Core.Path.{_≡_};
-ghost use Prim.Native.Nat.{_+_, _*_, _<_, _≤_};
+ghost use Prim.Native.Nat.{ℕ, _+_, _*_, _<_, _≤_};
 ghost use lib.ListN.{length};
 ghost use Rattle.num.specs.Bytes.{bytes, part, splice};
 ghost use Rattle.num.specs.Search.{firstFalse};
-ghost use Rattle.blocks.specs.Block.{blocksIn, blockAt, firstBadBlock};
+ghost use Rattle.blocks.specs.Block.{used, blocksIn, blockAt};
 ghost use Rattle.log.specs.declared.Copied.the-variants.{Refused, Count};
 ghost use Rattle.log_right.specs.Right.{rightLog};
 ghost use Rattle.log_index.specs.Index.{wordsUpTo, wordRight, indexOf};
@@ -16,9 +16,10 @@ use log_index::Indexed;
 use record::Refusal;
 use settings::Settings;
 
-// Whether word k of an index is that of block k of a log of right blocks.
+// Whether word k of an index is that of block k of a log of right blocks. This and what follows asks of the blocks only that none uses more
+// than 15 records, so that they may be of either form.
 fn word_right(log: &[u8], index: &[u8], k: usize) -> bool
-    requires { ⌜ firstBadBlock (now log) ≡ blocksIn (now log) ⌝ }
+    requires { ⌜ ((k : ℕ) → k < blocksIn (now log) → used (blockAt (now log) k) ≤ 15) ⌝ }
     ensures { λ r. ⌜ r ≡ wordRight fieldsWord (now (log .entry)) (now (index .entry)) k ⌝ }
 {
     if k >= index.len() / 4 {
@@ -32,7 +33,7 @@ fn word_right(log: &[u8], index: &[u8], k: usize) -> bool
 
 // The first of the words below n that is not right, or n.
 pub fn first_wrong(log: &[u8], index: &[u8], n: usize) -> usize
-    requires { ⌜ firstBadBlock (now log) ≡ blocksIn (now log) ⌝ }
+    requires { ⌜ ((k : ℕ) → k < blocksIn (now log) → used (blockAt (now log) k) ≤ 15) ⌝ }
     ensures { λ r. ⌜ r ≡ firstFalse (wordRight fieldsWord (now (log .entry)) (now (index .entry))) n ⌝ }
 {
     let mut k = 0;
@@ -47,7 +48,7 @@ pub fn first_wrong(log: &[u8], index: &[u8], n: usize) -> usize
 
 // Puts the word of block k of a log of right blocks into its place in an index.
 fn put_word(log: &[u8], k: usize, index: &mut [u8])
-    requires { ⌜ (k < blocksIn (now log)) × (firstBadBlock (now log) ≡ blocksIn (now log)) ⌝ }
+    requires { ⌜ (k < blocksIn (now log)) × (used (blockAt (now log) k) ≤ 15) ⌝ }
     requires { ⌜ 4 * k + 4 ≤ length (now index) ⌝ }
     ensures { λ _. ⌜ now (index .exit) ≡ splice (now (index .entry)) (4 * k) (bytes 4 (fieldsWord (blockAt (now (log .entry)) k))) ⌝ }
 {
@@ -57,7 +58,7 @@ fn put_word(log: &[u8], k: usize, index: &mut [u8])
 
 // Makes the index of a log of right blocks whose first words are there already.
 pub fn write_index(log: &[u8], kept: usize, index: &mut [u8])
-    requires { ⌜ (firstBadBlock (now log) ≡ blocksIn (now log)) × (kept ≤ blocksIn (now log)) × (4 * blocksIn (now log) ≤ length (now index)) ⌝ }
+    requires { ⌜ ((k : ℕ) → k < blocksIn (now log) → used (blockAt (now log) k) ≤ 15) × (kept ≤ blocksIn (now log)) × (4 * blocksIn (now log) ≤ length (now index)) ⌝ }
     requires { ⌜ part (now index) 0 (4 * kept) ≡ wordsUpTo fieldsWord (now log) kept ⌝ }
     ensures { λ _. ⌜ now (index .exit) ≡ splice (now (index .entry)) 0 (wordsUpTo fieldsWord (now (log .entry)) (blocksIn (now (log .entry)))) ⌝ }
 {
@@ -71,22 +72,22 @@ pub fn write_index(log: &[u8], kept: usize, index: &mut [u8])
 
 // Tests a log of whole blocks for 12, then for 10: a refusal, or the number of its blocks.
 pub fn right(s: Settings, log: &[u8]) -> Copied
-    ensures { λ r. ⌜ r ≡ rightLog Refused s (now (log .entry)) (Count (blocksIn (now (log .entry)))) ⌝ }
+    ensures { λ r. ⌜ r ≡ rightLog Refused 15 s (now (log .entry)) (Count (blocksIn (now (log .entry)))) ⌝ }
 {
     let n = log.len() / 512;
-    let found = log::copy::faults(s, log);
+    let found = log::copy::faults(s, log, 15);
     if found.block != n {
         return Copied::Refused(Refusal::Block(found.block as u64));
     }
-    if found.record != kept::records_in(log) {
+    if found.record != kept::records_in(log, 15) {
         return Copied::Refused(Refusal::Word(found.record as u64));
     }
     Copied::Count(n as u64)
 }
 
 // What is answered of a log that passes 13, 12 and 10: 14 for the words that are there already, then 8.
-fn room_answer(log: &[u8], kept: usize, index: &[u8]) -> Indexed
-    requires { ⌜ firstBadBlock (now log) ≡ blocksIn (now log) ⌝ }
+pub fn room_answer(log: &[u8], kept: usize, index: &[u8]) -> Indexed
+    requires { ⌜ ((k : ℕ) → k < blocksIn (now log) → used (blockAt (now log) k) ≤ 15) ⌝ }
     ensures { λ r. ⌜ r ≡ roomAnswer (now (log .entry)) kept (now (index .entry)) ⌝ }
 {
     let wrong = first_wrong(log, index, kept);

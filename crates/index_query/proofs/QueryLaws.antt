@@ -16,6 +16,7 @@ use Rattle.record.specs.declared.Refusal.the-variants.{Full, Word, Block, Lengt
 use Rattle.record.specs.Record.{firstBad, recordsIn}
 use Rattle.marks.specs.Marks.{countUpTo}
 use Rattle.blocks.specs.Block.{blocksIn, firstBadBlock, listOf}
+use Rattle.blocks.proofs.CountLaws.{Records}
 use Rattle.log_right.specs.Right.{rightLog}
 use Rattle.log_index.specs.declared.Indexed.{Indexed}
 use Rattle.log_index.specs.declared.Indexed.the-variants.{Refused, Differs, Count}
@@ -49,8 +50,8 @@ module _ (s : Settings) (log index : List ℕ) (m : ℕ) (next : Indexed) where
 
   beside-same : (answer : Indexed) → ((x : ℕ) → answer ≡ Count x → ⊥) → rightBeside s log index (Count m) ≡ answer → rightBeside s log index next ≡ answer
   beside-same answer other e =
-      beside-tests (eqb (firstBadBlock log) (blocksIn log)) (eqb (firstBad s (listOf log)) (recordsIn (listOf log))) (eqb (firstWrong s log index (wordsOf log index)) (wordsOf log index))
-      (firstWrong s log index (wordsOf log index)) (firstBad s (listOf log)) (firstBadBlock log) answer other e
+      beside-tests (eqb (firstBadBlock 15 log) (blocksIn log)) (eqb (firstBad s (listOf log)) (recordsIn (listOf log))) (eqb (firstWrong s log index (wordsOf log index)) (wordsOf log index))
+      (firstWrong s log index (wordsOf log index)) (firstBad s (listOf log)) (firstBadBlock 15 log) answer other e
 
   pub beside-refused : (why : Refusal) → rightBeside s log index (Count m) ≡ Refused why → rightBeside s log index next ≡ Refused why
   beside-refused why e = beside-same (Refused why) (λ x q. absurd (let z : _≡_ {A = ℕ} 0 1 = cc in omega arith)) e
@@ -60,12 +61,12 @@ module _ (s : Settings) (log index : List ℕ) (m : ℕ) (next : Indexed) where
 
 -- an index beside its log that passes
 pub record Beside (s : Settings) (log index : List ℕ) : Type 0 where
-  pub passed : Passed s log
+  pub passed : Passed 15 s log
   pub same : firstWrong s log index (wordsOf log index) ≡ wordsOf log index
 
 pub beside-passed : (s : Settings) (log index : List ℕ) (x : Indexed) (n : ℕ) → rightBeside s log index x ≡ Count n → Beside s log index × (x ≡ Count n)
 beside-passed s log index x n e =
-    let b = pick (eqb (firstBadBlock log) (blocksIn log)) _ (Block (firstBadBlock log)) n e in
+    let b = pick (eqb (firstBadBlock 15 log) (blocksIn log)) _ (Block (firstBadBlock 15 log)) n e in
     let c = pick (eqb (firstBad s (listOf log)) (recordsIn (listOf log))) _ (Word (firstBad s (listOf log))) n (b .1) in
     let d = pick-same (eqb (firstWrong s log index (wordsOf log index)) (wordsOf log index)) x (firstWrong s log index (wordsOf log index)) n (c .1) in
     (record { passed = record { right = eqb-true _ _ (b .0); good = eqb-true _ _ (c .0) }; same = eqb-true _ _ (d .0) }, d .1)
@@ -73,10 +74,10 @@ beside-passed s log index x n e =
 pub beside-next : (s : Settings) (log index : List ℕ) (next : Indexed) → Beside s log index → rightBeside s log index next ≡ next
 beside-next s log index next b = rw (eq-eqb _ _ (b .passed .right), eq-eqb _ _ (b .passed .good), eq-eqb _ _ (b .same))
 
-pub beside-said : (s : Settings) (log index : List ℕ) → Bytes log → Passed s log
+pub beside-said : (s : Settings) (per : ℕ) → Records per → (log index : List ℕ) → Bytes log → Passed per s log
     → besideFields log index ≡ indexRight s log index (wordsOf log index) (Count (indexWords index))
 unfolding besideFields
-beside-said s log index w p = rw (wrong-said s log w p index (wordsOf log index))
+beside-said s per form log index w p = rw (wrong-said s per form log w p index (wordsOf log index))
 
 -- a query that is accepted
 pub record Queried (s : Settings) (log index : List ℕ) (bank room n : ℕ) : Type 0 where

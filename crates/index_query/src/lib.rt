@@ -2,11 +2,11 @@
 ghost use mathlib.Core.Path.{_≡_};
 ghost use mathlib.Core.Bool.{cond};
 ghost use mathlib.Core.List.{[]};
-ghost use Prim.Native.Nat.{_+_, _*_, _<_, _≤_, max};
+ghost use Prim.Native.Nat.{ℕ, _+_, _*_, _<_, _≤_, max};
 ghost use lib.ListN.{length};
 ghost use Rattle.num.specs.Bytes.{bytes, splice};
 ghost use Rattle.marks.specs.Marks.{countUpTo};
-ghost use Rattle.blocks.specs.Block.{blocksIn, firstBadBlock};
+ghost use Rattle.blocks.specs.Block.{used, blocksIn, blockAt};
 ghost use Rattle.log_index.specs.declared.Indexed.the-variants.{Count};
 ghost use Rattle.log_index.specs.Index.{indexWords};
 ghost use Rattle.log_index.specs.Query.{hasBit, queried};
@@ -36,7 +36,7 @@ fn one_at(index: &[u8], bank: u32, k: usize) -> usize
 }
 
 // How many words of an index have the bit of a bank.
-fn found(index: &[u8], bank: u32) -> usize
+pub fn found(index: &[u8], bank: u32) -> usize
     requires { ⌜ bank < 32 ⌝ }
     ensures { λ r. ⌜ r ≡ countUpTo (hasBit (now (index .entry)) bank) (indexWords (now (index .entry))) ⌝ }
 {
@@ -63,7 +63,7 @@ fn put_found(index: &[u8], bank: u32, k: usize, n: usize, out: &mut [u8]) -> usi
 }
 
 // Lists the blocks whose words have the bit of a bank.
-fn list_found(index: &[u8], bank: u32, out: &mut [u8])
+pub fn list_found(index: &[u8], bank: u32, out: &mut [u8])
     requires { ⌜ (bank < 32) × (4 * countUpTo (hasBit (now index) bank) (indexWords (now index)) ≤ length (now out)) ⌝ }
     ensures { λ _. ⌜ now (out .exit) ≡ splice (now (out .entry)) 0 (queried (now (index .entry)) bank) ⌝ }
 {
@@ -77,7 +77,7 @@ fn list_found(index: &[u8], bank: u32, out: &mut [u8])
 }
 
 // The greater of two numbers.
-fn greater(a: usize, b: usize) -> usize
+pub fn greater(a: usize, b: usize) -> usize
     ensures { λ r. ⌜ r ≡ max a b ⌝ }
 {
     if a < b { b } else { a }
@@ -85,7 +85,7 @@ fn greater(a: usize, b: usize) -> usize
 
 // 14 of a log of right blocks and an index, or the number of words.
 fn compared(log: &[u8], index: &[u8]) -> Indexed
-    requires { ⌜ firstBadBlock (now log) ≡ blocksIn (now log) ⌝ }
+    requires { ⌜ ((k : ℕ) → k < blocksIn (now log) → used (blockAt (now log) k) ≤ 15) ⌝ }
     ensures { λ r. ⌜ r ≡ besideFields (now (log .entry)) (now (index .entry)) ⌝ }
 {
     let words = index.len() / 4;
@@ -110,7 +110,7 @@ pub fn beside(s: Settings, log: &[u8], index: &[u8]) -> Indexed
 }
 
 // So many words into so many bytes: 8, or their number.
-fn fits(n: usize, room: usize) -> Indexed
+pub fn fits(n: usize, room: usize) -> Indexed
     ensures { λ r. ⌜ r ≡ countOrFull n room ⌝ }
 {
     if n <= room / 4 {

@@ -27,7 +27,8 @@ use Rattle.record.specs.Record.{isKnown, rowRecord, colRecord, recordOf, record
 use Rattle.record.proofs.RecordLaws.{field-in, head-in}
 use Rattle.marks.proofs.BitLaws.{word-same}
 use Rattle.blocks.specs.Block.{used, blocksIn, blockAt, firstBadBlock, listOf}
-use Rattle.blocks.proofs.ListThenLog.{used-most, length-next, part-list}
+use Rattle.blocks.proofs.CountLaws.{Records}
+use Rattle.blocks.proofs.ListThenLog.{used-most, used-few, length-next, part-list}
 use Rattle.blocks.proofs.ReadLaws.{list-within}
 use Rattle.log_index.specs.Touched.{someUpTo, rowNames, colNames, names, saidNames, touches, touchedWord}
 use Rattle.index_words.specs.form.Fields.{fieldsName, bankField, fieldsAt, fieldsUpTo, fieldsWord}
@@ -151,28 +152,29 @@ block-said s block l w u formed =
     (λ b h. some-same (λ i. fieldsAt block (32 * i) b) (λ i. saidNames (recordRead s (recordAt block i)) b) (used block)
     (λ i m. sym (fields-said s block (32 * i) b (omega arith) (byte-at block w (32 * i + 4)) (formed i m))))
 
--- record i of block k is record 15 × k + i of the list that a right log keeps
-formed-at : (s : Settings) (log : List ℕ) → firstBadBlock log ≡ blocksIn log → firstBad s (listOf log) ≡ recordsIn (listOf log)
-    → (k : ℕ) → k < blocksIn log → (i : ℕ) → i < used (blockAt log k) → wellFormed s (recordAt (blockAt log k) i) ≡ true
-unfolding firstBad
-formed-at s log right good k h i m =
-    let u = used-most log right k h in
-    let n = length-next log right k h in
-    let w = list-within log (k + 1) (omega arith) in
-    let f = first-before (λ j. wellFormed s (recordAt (listOf log) j)) (recordsIn (listOf log)) (15 * k + i) (omega arith) in
-    let a : 32 * (15 * k + i) ≡ 480 * k + 32 * i = omega arith in
-    let z : 0 + 32 * i ≡ 32 * i = omega arith in
-    let e : recordAt (listOf log) (15 * k + i) ≡ recordAt (blockAt log k) i =
-    ap (λ (x : ℕ). part (listOf log) x 32) a
-    ∙ sym (part-part (listOf log) (480 * k) 480 (32 * i) 32 (omega arith))
-    ∙ ap (λ (x : List ℕ). part x (32 * i) 32) (part-list log right k h)
-    ∙ part-part (blockAt log k) 0 (32 * used (blockAt log k)) (32 * i) 32 (omega arith)
-    ∙ ap (λ (x : ℕ). part (blockAt log k) x 32) z
-    in
-    sym (ap (wellFormed s) e) ∙ f
+-- of a log of blocks of so many records
+module _ (s : Settings) (per : ℕ) (form : Records per) (log : List ℕ) (right : firstBadBlock per log ≡ blocksIn log)
+    (good : firstBad s (listOf log) ≡ recordsIn (listOf log)) where
+  -- record i of block k is record per × k + i of the list that a right log keeps
+  formed-at : (k : ℕ) → k < blocksIn log → (i : ℕ) → i < used (blockAt log k) → wellFormed s (recordAt (blockAt log k) i) ≡ true
+  unfolding firstBad
+  formed-at k h i m =
+      let u = used-most per form log right k h in
+      let n = length-next per form log right k h in
+      let w = list-within log (k + 1) (omega arith) in
+      let f = first-before (λ j. wellFormed s (recordAt (listOf log) j)) (recordsIn (listOf log)) (per * k + i) (omega arith) in
+      let a : 32 * (per * k + i) ≡ 32 * (per * k) + 32 * i = omega arith in
+      let z : 0 + 32 * i ≡ 32 * i = omega arith in
+      let e : recordAt (listOf log) (per * k + i) ≡ recordAt (blockAt log k) i =
+      ap (λ (x : ℕ). part (listOf log) x 32) a
+      ∙ sym (part-part (listOf log) (32 * (per * k)) (32 * per) (32 * i) 32 (omega arith))
+      ∙ ap (λ (x : List ℕ). part x (32 * i) 32) (part-list per form log right k h)
+      ∙ part-part (blockAt log k) 0 (32 * used (blockAt log k)) (32 * i) 32 (omega arith)
+      ∙ ap (λ (x : ℕ). part (blockAt log k) x 32) z
+      in
+      sym (ap (wellFormed s) e) ∙ f
 
--- the word of a block of a log that passes 12 and 10
-pub word-said : (s : Settings) (log : List ℕ) → Bytes log → firstBadBlock log ≡ blocksIn log → firstBad s (listOf log) ≡ recordsIn (listOf log)
-    → (k : ℕ) → k < blocksIn log → fieldsWord (blockAt log k) ≡ touchedWord s (blockAt log k)
-word-said s log w right good k h =
-    block-said s (blockAt log k) (length-part log (512 * k) 512 (omega arith)) (Bytes-part log (512 * k) 512 w) (used-most log right k h) (formed-at s log right good k h)
+  -- the word of a block of a log that passes 12 and 10
+  pub word-said : Bytes log → (k : ℕ) → k < blocksIn log → fieldsWord (blockAt log k) ≡ touchedWord s (blockAt log k)
+  word-said w k h =
+      block-said s (blockAt log k) (length-part log (512 * k) 512 (omega arith)) (Bytes-part log (512 * k) 512 w) (used-few per form log right k h) (formed-at k h)

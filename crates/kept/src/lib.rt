@@ -15,9 +15,10 @@ pub fn used_at(log: &[u8], k: usize) -> usize
     num::u32_at(&log[at..next], 484) as usize
 }
 
-// How many records the list has that a log of right blocks keeps: 15 in every block but the last.
-pub fn records_in(log: &[u8]) -> usize
-    requires { ⌜ firstBadBlock (now log) ≡ blocksIn (now log) ⌝ }
+// How many records the list has that a log of right blocks keeps: so many in every block but the last.
+pub fn records_in(log: &[u8], per: usize) -> usize
+    requires { ⌜ (1 ≤ per) × (per ≤ 15) ⌝ }
+    requires { ⌜ firstBadBlock per (now log) ≡ blocksIn (now log) ⌝ }
     ensures { λ r. ⌜ r ≡ length (listOf (now (log .entry))) / 32 ⌝ }
 {
     let n = log.len() / 512;
@@ -25,41 +26,44 @@ pub fn records_in(log: &[u8]) -> usize
         return 0;
     }
     let last = n - 1;
-    15 * last + used_at(log, last)
+    per * last + used_at(log, last)
 }
 
 // How many records block k of a log of right blocks uses; only the last block is read for it.
-fn used_of(log: &[u8], k: usize) -> usize
-    requires { ⌜ (k < blocksIn (now log)) × (firstBadBlock (now log) ≡ blocksIn (now log)) ⌝ }
+fn used_of(log: &[u8], per: usize, k: usize) -> usize
+    requires { ⌜ (1 ≤ per) × (per ≤ 15) ⌝ }
+    requires { ⌜ (k < blocksIn (now log)) × (firstBadBlock per (now log) ≡ blocksIn (now log)) ⌝ }
     ensures { λ r. ⌜ r ≡ used (blockAt (now (log .entry)) k) ⌝ }
 {
     if k + 1 < log.len() / 512 {
-        return 15;
+        return per;
     }
     used_at(log, k)
 }
 
 // Copies the used records of block k of a log of right blocks to their place in the list.
-fn read_at(log: &[u8], k: usize, list: &mut [u8])
-    requires { ⌜ (k < blocksIn (now log)) × (firstBadBlock (now log) ≡ blocksIn (now log)) ⌝ }
-    requires { ⌜ 480 * k + 32 * used (blockAt (now log) k) ≤ length (now list) ⌝ }
-    ensures { λ _. ⌜ now (list .exit) ≡ splice (now (list .entry)) (480 * k) (part (blockAt (now (log .entry)) k) 0 (32 * used (blockAt (now (log .entry)) k))) ⌝ }
+fn read_at(log: &[u8], per: usize, k: usize, list: &mut [u8])
+    requires { ⌜ (1 ≤ per) × (per ≤ 15) ⌝ }
+    requires { ⌜ (k < blocksIn (now log)) × (firstBadBlock per (now log) ≡ blocksIn (now log)) ⌝ }
+    requires { ⌜ 32 * (per * k) + 32 * used (blockAt (now log) k) ≤ length (now list) ⌝ }
+    ensures { λ _. ⌜ now (list .exit) ≡ splice (now (list .entry)) (32 * (per * k)) (part (blockAt (now (log .entry)) k) 0 (32 * used (blockAt (now (log .entry)) k))) ⌝ }
 {
     let at = 512 * k;
-    let end = at + 32 * used_of(log, k);
-    puts::put_bytes(list, 480 * k, &log[at..end]);
+    let end = at + 32 * used_of(log, per, k);
+    puts::put_bytes(list, 32 * (per * k), &log[at..end]);
 }
 
 // Reads the list that a log of right blocks keeps.
-pub fn read_list(log: &[u8], list: &mut [u8])
-    requires { ⌜ firstBadBlock (now log) ≡ blocksIn (now log) ⌝ }
+pub fn read_list(log: &[u8], per: usize, list: &mut [u8])
+    requires { ⌜ (1 ≤ per) × (per ≤ 15) ⌝ }
+    requires { ⌜ firstBadBlock per (now log) ≡ blocksIn (now log) ⌝ }
     requires { ⌜ length (listOf (now log)) ≤ length (now list) ⌝ }
     ensures { λ _. ⌜ now (list .exit) ≡ splice (now (list .entry)) 0 (listOf (now (log .entry))) ⌝ }
 {
     let n = log.len() / 512;
     let mut k = 0;
     while k < n {
-        read_at(log, k, list);
+        read_at(log, per, k, list);
         k += 1;
     }
 }

@@ -39,14 +39,14 @@ bad-most s b n =
     let f = first-le (λ i. wellFormed s (recordAt (part b 0 (32 * n)) i)) (recordsIn (part b 0 (32 * n))) in
     omega arith
 
--- the records of block k follow 15 × k others, where the blocks before it are right
-pub bad-next : (s : Settings) (log : List ℕ) (k : ℕ) → ((i : ℕ) → i < k → rightAt log i ≡ true) → k < blocksIn log
-    → firstBad s (listUpTo log (k + 1)) ≡ cond (eqb (firstBad s (listUpTo log k)) (15 * k)) (15 * k + firstBad s (part (blockAt log k) 0 (32 * used (blockAt log k)))) (firstBad s (listUpTo log k))
-bad-next s log k right h =
-    let l = length-before log k right h in
-    rw (list-next log k) (bad-append s (listUpTo log k) (part (blockAt log k) 0 (32 * used (blockAt log k))) (15 * k) (omega arith))
+-- the records of block k follow per × k others, where the blocks before it are right
+pub bad-next : (s : Settings) (per : ℕ) → per ≤ 15 → (log : List ℕ) (k : ℕ) → ((i : ℕ) → i < k → rightAt per log i ≡ true) → k < blocksIn log
+    → firstBad s (listUpTo log (k + 1)) ≡ cond (eqb (firstBad s (listUpTo log k)) (per * k)) (per * k + firstBad s (part (blockAt log k) 0 (32 * used (blockAt log k)))) (firstBad s (listUpTo log k))
+bad-next s per few log k right h =
+    let l = length-before per few log k right h in
+    rw (list-next log k) (bad-append s (listUpTo log k) (part (blockAt log k) 0 (32 * used (blockAt log k))) (per * k) (omega arith))
 
 -- where no block is bad, the blocks before the first bad one are all
-pub bad-of-all : (s : Settings) (log : List ℕ) → firstBadBlock log ≡ blocksIn log → firstBad s (listUpTo log (firstBadBlock log)) ≡ firstBad s (listOf log)
+pub bad-of-all : (s : Settings) (per : ℕ) (log : List ℕ) → firstBadBlock per log ≡ blocksIn log → firstBad s (listUpTo log (firstBadBlock per log)) ≡ firstBad s (listOf log)
 unfolding listOf
-bad-of-all s log e = ap (λ (n : ℕ). firstBad s (listUpTo log n)) e
+bad-of-all s per log e = ap (λ (n : ℕ). firstBad s (listUpTo log n)) e

@@ -22,21 +22,21 @@ pick-count : (t : Bool) (x : Copied) (r : Refusal) (n : ℕ) → cond t x (Refus
 pick-count true x r n e = (refl, e)
 pick-count false x r n e = absurd (let z : _≡_ {A = ℕ} 0 1 = cc in omega arith)
 
-pub record Encoded (s : Settings) (l : List ℕ) (room n : ℕ) : Type 0 where
+pub record Encoded (per : ℕ) (s : Settings) (l : List ℕ) (room n : ℕ) : Type 0 where
   pub whole : length l % 32 ≡ 0
   pub good : firstBad s l ≡ recordsIn l
-  pub room-enough : 512 * blockCount (recordsIn l) ≤ room
-  pub number-fits : blockCount (recordsIn l) ≤ 2 ^ 32
-  pub count-is : n ≡ blockCount (recordsIn l)
+  pub room-enough : 512 * blockCount per (recordsIn l) ≤ room
+  pub number-fits : blockCount per (recordsIn l) ≤ 2 ^ 32
+  pub count-is : n ≡ blockCount per (recordsIn l)
 
-pub encoded : (s : Settings) (l : List ℕ) (room n : ℕ) → encodeAnswer s l room ≡ Count n → Encoded s l room n
+pub encoded : (per : ℕ) (s : Settings) (l : List ℕ) (room n : ℕ) → encodeAnswer per s l room ≡ Count n → Encoded per s l room n
 unfolding encodeAnswer
-encoded s l room n e =
+encoded per s l room n e =
     let a = pick-count (eqb (length l % 32) 0) _ Length n e in
     let b = pick-count (eqb (firstBad s l) (recordsIn l)) _ (Word (firstBad s l)) n (a .1) in
-    let c = pick-count (blocksFit l room) (Count (blockCount (recordsIn l))) Full n (b .1) in
-    let d = and-eq-true-iff (leb (blockCount (recordsIn l)) (room / 512)) (leb (blockCount (recordsIn l)) (2 ^ 32)) .0 (c .0) in
-    let f : blockCount (recordsIn l) ≤ room / 512 = leb-true _ _ (d .0) in
+    let c = pick-count (blocksFit per l room) (Count (blockCount per (recordsIn l))) Full n (b .1) in
+    let d = and-eq-true-iff (leb (blockCount per (recordsIn l)) (room / 512)) (leb (blockCount per (recordsIn l)) (2 ^ 32)) .0 (c .0) in
+    let f : blockCount per (recordsIn l) ≤ room / 512 = leb-true _ _ (d .0) in
     record {
       whole = eqb-true _ 0 (a .0);
       good = eqb-true _ _ (b .0);
@@ -45,18 +45,18 @@ encoded s l room n e =
       count-is = cc (c .1);
     }
 
-pub record Decoded (s : Settings) (log : List ℕ) (room n : ℕ) : Type 0 where
+pub record Decoded (per : ℕ) (s : Settings) (log : List ℕ) (room n : ℕ) : Type 0 where
   pub whole : length log % 512 ≡ 0
-  pub right : firstBadBlock log ≡ blocksIn log
+  pub right : firstBadBlock per log ≡ blocksIn log
   pub good : firstBad s (listOf log) ≡ recordsIn (listOf log)
   pub room-enough : 32 * recordsIn (listOf log) ≤ room
   pub count-is : n ≡ recordsIn (listOf log)
 
-pub decoded : (s : Settings) (log : List ℕ) (room n : ℕ) → decodeAnswer s log room ≡ Count n → Decoded s log room n
+pub decoded : (per : ℕ) (s : Settings) (log : List ℕ) (room n : ℕ) → decodeAnswer per s log room ≡ Count n → Decoded per s log room n
 unfolding decodeAnswer
-decoded s log room n e =
+decoded per s log room n e =
     let a = pick-count (eqb (length log % 512) 0) _ Length n e in
-    let b = pick-count (eqb (firstBadBlock log) (blocksIn log)) _ (Block (firstBadBlock log)) n (a .1) in
+    let b = pick-count (eqb (firstBadBlock per log) (blocksIn log)) _ (Block (firstBadBlock per log)) n (a .1) in
     let c = pick-count (eqb (firstBad s (listOf log)) (recordsIn (listOf log))) _ (Word (firstBad s (listOf log))) n (b .1) in
     let d = pick-count (leb (recordsIn (listOf log)) (room / 32)) (Count (recordsIn (listOf log))) Full n (c .1) in
     let f : recordsIn (listOf log) ≤ room / 32 = leb-true _ _ (d .0) in

@@ -22,23 +22,28 @@ copied (Count n) new old = splice old 0 new
 
 -- "8 full: fewer free blocks in the lent buffer than the call needs"; a log has no more than 2^32 blocks, since a block
 -- number has four bytes
-abbrev pub blocksFit : List ℕ → ℕ → Bool
-blocksFit l room = leb (blockCount (recordsIn l)) (room / 512) && leb (blockCount (recordsIn l)) (2 ^ 32)
+abbrev pub blocksFit : ℕ → List ℕ → ℕ → Bool
+blocksFit per l room = leb (blockCount per (recordsIn l)) (room / 512) && leb (blockCount per (recordsIn l)) (2 ^ 32)
+
+-- so many blocks, or 8
+abbrev pub blocksOrFull : ℕ → List ℕ → ℕ → Copied
+blocksOrFull per l room = cond (blocksFit per l room) (Count (blockCount per (recordsIn l))) (Refused Full)
+
+-- so many records, or 8
+abbrev pub recordsOrFull : List ℕ → ℕ → Copied
+recordsOrFull l room = cond (leb (recordsIn l) (room / 32)) (Count (recordsIn l)) (Refused Full)
 
 -- a list to a log with room for so many bytes: 13, then 10 with the first bad record, then 8; else the number of blocks
-unfoldable pub encodeAnswer : Settings → List ℕ → ℕ → Copied
-encodeAnswer s l room =
-    wholeIn Refused 32 l (rightRecords Refused s l (cond (blocksFit l room) (Count (blockCount (recordsIn l))) (Refused Full)))
+unfoldable pub encodeAnswer : ℕ → Settings → List ℕ → ℕ → Copied
+encodeAnswer per s l room = wholeIn Refused 32 l (rightRecords Refused s l (blocksOrFull per l room))
 
-unfoldable pub encodeLog : Settings → List ℕ → List ℕ → List ℕ
-encodeLog s l log = copied (encodeAnswer s l (length log)) (logOf l) log
+unfoldable pub encodeLog : ℕ → List ℕ → Settings → List ℕ → List ℕ → List ℕ
+encodeLog per stamp s l log = copied (encodeAnswer per s l (length log)) (logOf per stamp l) log
 
 -- a log to a list with room for so many bytes: 13, then 12 with the first bad block, then 10 with the first bad record,
 -- then 8; else the number of records
-unfoldable pub decodeAnswer : Settings → List ℕ → ℕ → Copied
-decodeAnswer s log room =
-    wholeIn Refused 512 log
-    (rightLog Refused s log (cond (leb (recordsIn (listOf log)) (room / 32)) (Count (recordsIn (listOf log))) (Refused Full)))
+unfoldable pub decodeAnswer : ℕ → Settings → List ℕ → ℕ → Copied
+decodeAnswer per s log room = wholeIn Refused 512 log (rightLog Refused per s log (recordsOrFull (listOf log) room))
 
-unfoldable pub decodeLog : Settings → List ℕ → List ℕ → List ℕ
-decodeLog s log list = copied (decodeAnswer s log (length list)) (listOf log) list
+unfoldable pub decodeLog : ℕ → Settings → List ℕ → List ℕ → List ℕ
+decodeLog per s log list = copied (decodeAnswer per s log (length list)) (listOf log) list

@@ -11,6 +11,7 @@ use Rattle.num.specs.Bytes.{bytes, Bytes}
 use Rattle.num.proofs.PartLaws.{part-left, part-seam}
 use Rattle.settings.specs.declared.Settings.{Settings}
 use Rattle.blocks.specs.Block.{wordAt, blocksIn, blockAt, firstBadBlock}
+use Rattle.blocks.proofs.CountLaws.{Records}
 use Rattle.blocks.proofs.ListThenLog.{blocks-most}
 use Rattle.marks.specs.Marks.{bit, countUpTo}
 use Rattle.marks.proofs.BitLaws.{bit-word}
@@ -40,10 +41,10 @@ query-is-scan s log b h =
     ∙ listed-same (hasBit (indexOf s log) b) (λ k. touches s (blockAt log k) b) (blocksIn log) (λ k m. index-bit s log b k h m)
 
 -- what the scan lists, of a log whose blocks are right: the blocks with a packet that names the bank, and no others
-pub scan-lists : (s : Settings) (log : List ℕ) (b : ℕ) → Bytes log → firstBadBlock log ≡ blocksIn log
+pub scan-lists : (s : Settings) (per : ℕ) → Records per → (log : List ℕ) (b : ℕ) → Bytes log → firstBadBlock per log ≡ blocksIn log
     → Lists (λ k. touches s (blockAt log k) b) (blocksIn log) (scanned s log b)
 unfolding scanned
-scan-lists s log b w e = lists (λ k. touches s (blockAt log k) b) (blocksIn log) (blocks-most log e w)
+scan-lists s per form log b w e = lists (λ k. touches s (blockAt log k) b) (blocksIn log) (blocks-most per form log e w)
 
 -- "The number of banks in a block is the ones of its word."
 pub banks-are : (s : Settings) (block : List ℕ) → countUpTo (bit (touchedWord s block)) 32 ≡ countUpTo (touches s block) 32

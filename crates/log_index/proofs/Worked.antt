@@ -4,7 +4,7 @@
 use Prim.Native.Nat.{ℕ, _+_, _^_}
 use mathlib.Core.Path.{_≡_, refl}
 use mathlib.Core.Bool.{true, false}
-use mathlib.Core.List.{List, _++_}
+use mathlib.Core.List.{List, [], _++_}
 use Rattle.num.specs.Bytes.{bytes, number}
 use Rattle.packet.specs.declared.RowPacket.the-variants.{Act, Refa}
 use Rattle.packet.specs.declared.ColPacket.the-variants.{Nocop, Wr, Rd}
@@ -24,6 +24,6 @@ records =
     ++ recordBytes setH (ColAt (record { 0 = 24 }) (Rd 3 2 0xFFFF false)) ++ recordBytes setH (RowAt (record { 0 = 28 }) (Refa 31))
     ++ recordBytes setH (ColAt (record { 0 = 32 }) (Rd 12 0 0xFFFF true)) ++ recordBytes setH (ColAt (record { 0 = 36 }) (Wr 20 1 0xFFFF true))
 
-pub worked : touchedWord setH (blockBody 0 records) ≡ 2 ^ 3 + 2 ^ 7 + 2 ^ 12 + 2 ^ 20 + 2 ^ 31
+pub worked : touchedWord setH (blockBody [] 0 records) ≡ 2 ^ 3 + 2 ^ 7 + 2 ^ 12 + 2 ^ 20 + 2 ^ 31
 unfolding records bytes number deviceHead rowFields rowWord rowOf rowDecoded maskBit maskField colFields closeBit colWord maskSaid maskOf colOf colDecoded recordFields recordBytes rowRecord colRecord recordOf recordRead blockBody word someUpTo rowNames colNames names saidNames touches touchedWord setOf setH
 worked = refl

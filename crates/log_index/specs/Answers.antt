@@ -33,11 +33,11 @@ countOrFull n room = cond (leb n (room / 4)) (Count n) (Refused Full)
 -- the index of a log into a lent buffer whose first `kept` words are there already and stay: 13, 12, 10, 14 of those words, 8
 unfoldable pub addAnswer : Settings → List ℕ → ℕ → List ℕ → Indexed
 addAnswer s log kept index =
-    wholeIn Refused 512 log (rightLog Refused s log (indexRight s log index kept (countOrFull (blocksIn log) (length index))))
+    wholeIn Refused 512 log (rightLog Refused 15 s log (indexRight s log index kept (countOrFull (blocksIn log) (length index))))
 
 -- 12 and 10 of a log of whole blocks, then 14 of an index beside it
 abbrev pub rightBeside : Settings → List ℕ → List ℕ → Indexed → Indexed
-rightBeside s log index next = rightLog Refused s log (indexRight s log index (wordsOf log index) next)
+rightBeside s log index next = rightLog Refused 15 s log (indexRight s log index (wordsOf log index) next)
 
 -- a log with its index: 13 (log, then index), 12, 10, 14, and then the answer of further tests
 unfoldable pub besideAnswer : Settings → List ℕ → List ℕ → Indexed → Indexed

@@ -17,14 +17,14 @@ module _ {R : Type 0} (refused : Refusal → R) where
   abbrev pub wholeIn : ℕ → List ℕ → R → R
   wholeIn size b next = cond (eqb (length b % size) 0) next (refused Length)
 
-  -- "12 names the first bad block"
-  abbrev pub rightBlocks : List ℕ → R → R
-  rightBlocks log next = cond (eqb (firstBadBlock log) (blocksIn log)) next (refused (Block (firstBadBlock log)))
+  -- "12 names the first bad block": of a log of blocks of so many records
+  abbrev pub rightBlocks : ℕ → List ℕ → R → R
+  rightBlocks per log next = cond (eqb (firstBadBlock per log) (blocksIn log)) next (refused (Block (firstBadBlock per log)))
 
   -- "the others the first bad record, from 0": 10
   abbrev pub rightRecords : Settings → List ℕ → R → R
   rightRecords s list next = cond (eqb (firstBad s list) (recordsIn list)) next (refused (Word (firstBad s list)))
 
   -- "A whole list is tested [..] for 12, then for 10": the blocks of a log, then the list that it keeps
-  abbrev pub rightLog : Settings → List ℕ → R → R
-  rightLog s log next = rightBlocks log (rightRecords s (listOf log) next)
+  abbrev pub rightLog : ℕ → Settings → List ℕ → R → R
+  rightLog per s log next = rightBlocks per log (rightRecords s (listOf log) next)

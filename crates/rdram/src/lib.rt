@@ -7,4 +7,5 @@ pub mod models;
 pub mod pages;
 pub mod plans;
 pub mod shortest;
+pub mod stamped;
 pub mod words;

@@ -84,12 +84,12 @@ step-kept settings model store given room =
     (step-by model store given room (contextOf s) (modelIn model) (stepAnswer (contextOf s) (modelIn model) (length store) given (length room)))
     (λ n. (refl, refl, refl)))
 
-copy-by : (new lent : List ℕ) (a : Copied) → copyAnswer a .number ≢ 0 → copied a new lent ≡ lent
+pub copy-by : (new lent : List ℕ) (a : Copied) → copyAnswer a .number ≢ 0 → copied a new lent ≡ lent
 unfolding copyAnswer copied
 copy-by new lent (copied.Refused why) n = refl
 copy-by new lent (copied.Count k) n = absurd (n refl)
 
-copy-kept : (new lent : List ℕ) (answer : Settings → Copied) (settings : List ℕ) → copyCall new lent answer settings .answer .number ≢ 0 → copyCall new lent answer settings .lent ≡ lent
+pub copy-kept : (new lent : List ℕ) (answer : Settings → Copied) (settings : List ℕ) → copyCall new lent answer settings .answer .number ≢ 0 → copyCall new lent answer settings .lent ≡ lent
 unfolding copyCall
 copy-kept new lent answer settings =
     under (λ (x : CopyResult). x .answer .number ≢ 0 → x .lent ≡ lent) settings (λ why. copyBy new lent (copied.Refused why)) {call = λ s. copyBy new lent (answer s)}

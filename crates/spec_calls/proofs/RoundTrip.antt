@@ -3,7 +3,7 @@
 -- Assumes nothing.
 use Prim.Native.Nat.{ℕ, _*_, _/_}
 use mathlib.Core.Path.{_≡_, refl, sym, ap, _∙_}
-use mathlib.Core.List.{List}
+use mathlib.Core.List.{List, []}
 use native.Mathlib.Omega.{arith}
 use lib.ListN.{length, take}
 use Rattle.num.proofs.SpliceLaws.{part-splice}
@@ -19,6 +19,7 @@ use Rattle.log.specs.Log.{copied, encodeAnswer, decodeAnswer}
 use Rattle.log.proofs.CopyLaws.{encoded, decoded}
 use Rattle.log.proofs.RoundTrip.{decode-encoded, encode-decoded}
 use Rattle.blocks.specs.Block.{logOf, listOf}
+use Rattle.blocks.proofs.CountLaws.{Records}
 use Rattle.blocks.proofs.LogThenList.{log-length, log-then-list}
 use Rattle.blocks.proofs.ListThenLog.{list-whole, list-then-log}
 use Rattle.spec_calls.specs.Settings.{underSettings}
@@ -56,38 +57,42 @@ module _ (new lent : List ℕ) (answer : Settings → Copied) (settings : List �
   unfolding copied copyAnswer
   written size c l = rw (result-is c) (part-splice lent 0 new (size * c .count) l (omega arith))
 
+-- document 01's form
+fifteen : Records 15
+fifteen = (omega arith, omega arith)
+
 module _ (settings : List ℕ) where
-  blocks-are : (list log : List ℕ) → Copies (λ s. encodeAnswer s list (length log)) settings → blocksWritten (logEncodeCall settings list log) ≡ logOf list
+  blocks-are : (list log : List ℕ) → Copies (λ s. encodeAnswer 15 s list (length log)) settings → blocksWritten (logEncodeCall settings list log) ≡ logOf 15 [] list
   unfolding blocksWritten logEncodeCall
   blocks-are list log c =
-      let t = encoded (c .s) list (length log) (c .count) (c .is) in
-      written (logOf list) log (λ s. encodeAnswer s list (length log)) settings 512 c (log-length list ∙ ap (λ n. 512 * n) (sym (t .count-is)))
+      let t = encoded 15 (c .s) list (length log) (c .count) (c .is) in
+      written (logOf 15 [] list) log (λ s. encodeAnswer 15 s list (length log)) settings 512 c (log-length 15 [] (omega arith) refl list ∙ ap (λ n. 512 * n) (sym (t .count-is)))
 
-  records-are : (log list : List ℕ) → Copies (λ s. decodeAnswer s log (length list)) settings → recordsWritten (logDecodeCall settings log list) ≡ listOf log
+  records-are : (log list : List ℕ) → Copies (λ s. decodeAnswer 15 s log (length list)) settings → recordsWritten (logDecodeCall settings log list) ≡ listOf log
   unfolding recordsWritten logDecodeCall
   records-are log list c =
-      let t = decoded (c .s) log (length list) (c .count) (c .is) in
-      written (listOf log) list (λ s. decodeAnswer s log (length list)) settings 32 c (omega (arith, list-whole log (t .right), t .count-is))
+      let t = decoded 15 (c .s) log (length list) (c .count) (c .is) in
+      written (listOf log) list (λ s. decodeAnswer 15 s log (length list)) settings 32 c (omega (arith, list-whole 15 fifteen log (t .right), t .count-is))
 
 pub log-round-trips : LogRoundTrips
 unfolding copyAnswer logEncodeCall logDecodeCall
 log-round-trips =
     record {
       list-back = λ settings list log room e h.
-          let c = copies (logOf list) log (λ s. encodeAnswer s list (length log)) settings e in
-          let t = decode-encoded (c .s) list room (length log) (c .count) (c .is) h in
-          let d : Copies (λ s. decodeAnswer s (logOf list) (length room)) settings = record { s = c .s; read = c .read; count = length list / 32; is = t .0 } in
+          let c = copies (logOf 15 [] list) log (λ s. encodeAnswer 15 s list (length log)) settings e in
+          let t = decode-encoded 15 [] fifteen refl (c .s) list room (length log) (c .count) (c .is) h in
+          let d : Copies (λ s. decodeAnswer 15 s (logOf 15 [] list) (length room)) settings = record { s = c .s; read = c .read; count = length list / 32; is = t .0 } in
           rw (blocks-are settings list log c) (
-            ap (λ (x : CopyResult). x .answer) (result-is (listOf (logOf list)) room (λ s. decodeAnswer s (logOf list) (length room)) settings d),
-            records-are settings (logOf list) room d ∙ log-then-list list (encoded (c .s) list (length log) (c .count) (c .is) .whole),
+            ap (λ (x : CopyResult). x .answer) (result-is (listOf (logOf 15 [] list)) room (λ s. decodeAnswer 15 s (logOf 15 [] list) (length room)) settings d),
+            records-are settings (logOf 15 [] list) room d ∙ log-then-list 15 [] (omega arith) refl list (encoded 15 (c .s) list (length log) (c .count) (c .is) .whole),
           );
       log-back = λ settings log list room w e h.
-          let c = copies (listOf log) list (λ s. decodeAnswer s log (length list)) settings e in
-          let k = decoded (c .s) log (length list) (c .count) (c .is) in
-          let t = encode-decoded (c .s) log room (length list) (c .count) w (c .is) h in
-          let d : Copies (λ s. encodeAnswer s (listOf log) (length room)) settings = record { s = c .s; read = c .read; count = length log / 512; is = t .0 } in
+          let c = copies (listOf log) list (λ s. decodeAnswer 15 s log (length list)) settings e in
+          let k = decoded 15 (c .s) log (length list) (c .count) (c .is) in
+          let t = encode-decoded 15 [] fifteen refl (c .s) log room (length list) (c .count) w (c .is) h (λ k l. refl) in
+          let d : Copies (λ s. encodeAnswer 15 s (listOf log) (length room)) settings = record { s = c .s; read = c .read; count = length log / 512; is = t .0 } in
           rw (records-are settings log list c) (
-            ap (λ (x : CopyResult). x .answer) (result-is (logOf (listOf log)) room (λ s. encodeAnswer s (listOf log) (length room)) settings d),
-            blocks-are settings (listOf log) room d ∙ list-then-log log w (k .whole) (k .right),
+            ap (λ (x : CopyResult). x .answer) (result-is (logOf 15 [] (listOf log)) room (λ s. encodeAnswer 15 s (listOf log) (length room)) settings d),
+            blocks-are settings (listOf log) room d ∙ list-then-log 15 fifteen log (k .right) w [] (λ k l. refl) (k .whole),
           );
     }

@@ -1,7 +1,7 @@
 -- What the calls on logs answer and leave in the lent buffer: rdram_log_encode and rdram_log_decode.
 -- Assumes nothing.
 use Prim.Native.Nat.{ℕ}
-use mathlib.Core.List.{List}
+use mathlib.Core.List.{List, []}
 use lib.ListN.{length}
 use Rattle.settings.specs.declared.Settings.{Settings as Figures}
 use Rattle.record.specs.Refusal.{answerOf}
@@ -32,8 +32,8 @@ module _ (new lent : List ℕ) where
 
 -- 1, then 13, 10, 8
 unfoldable pub logEncodeCall : List ℕ → List ℕ → List ℕ → CopyResult
-logEncodeCall settings list log = copyCall (logOf list) log (λ s. encodeAnswer s list (length log)) settings
+logEncodeCall settings list log = copyCall (logOf 15 [] list) log (λ s. encodeAnswer 15 s list (length log)) settings
 
 -- 1, then 13, 12, 10, 8
 unfoldable pub logDecodeCall : List ℕ → List ℕ → List ℕ → CopyResult
-logDecodeCall settings log list = copyCall (listOf log) list (λ s. decodeAnswer s log (length list)) settings
+logDecodeCall settings log list = copyCall (listOf log) list (λ s. decodeAnswer 15 s log (length list)) settings

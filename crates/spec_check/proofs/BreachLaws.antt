@@ -92,18 +92,18 @@ module _ (cx : Context) (n j : ℕ) where
   pub log-names : (log : List ℕ) → (logAnswer cx log ≡ Refused (Rule n j)) ↔ LogBreach cx log n j
   unfolding logAnswer firstBadBlock
   log-names log =
-      let x = cond (eqb (firstBadBlock log) (blocksIn log)) (recordsAnswer cx (listOf log)) (Refused (Block (firstBadBlock log))) in
+      let x = cond (eqb (firstBadBlock 15 log) (blocksIn log)) (recordsAnswer cx (listOf log)) (Refused (Block (firstBadBlock 15 log))) in
       let t = tested (eqb (length log % 512) 0) x Length length-rule in
-      let u = tested (eqb (firstBadBlock log) (blocksIn log)) (recordsAnswer cx (listOf log)) (Block (firstBadBlock log)) (block-rule (firstBadBlock log)) in
+      let u = tested (eqb (firstBadBlock 15 log) (blocksIn log)) (recordsAnswer cx (listOf log)) (Block (firstBadBlock 15 log)) (block-rule (firstBadBlock 15 log)) in
       let r = records-name (listOf log) in
-      let f = none-fails (λ k. blockRight k (eqb (k + 1) (blocksIn log)) (blockAt log k)) (blocksIn log) in (
+      let f = none-fails (λ k. blockRight 15 k (eqb (k + 1) (blocksIn log)) (blockAt log k)) (blocksIn log) in (
         λ e.
             let v = u .0 (t .0 e .1) in
             let b = r .0 (v .1) in
             record {
               whole = eqb-true _ _ (t .0 e .0);
               right = f .0 (v .0);
-              kept = record { whole = list-whole log (eqb-true _ _ (v .0)); formed = b .0; breach = b .1 };
+              kept = record { whole = list-whole 15 (omega arith, omega arith) log (eqb-true _ _ (v .0)); formed = b .0; breach = b .1 };
             },
         λ b. t .1 (eq-eqb _ _ (b .whole), u .1 (f .1 (b .right), r .1 (b .kept .formed, b .kept .breach))),
       )

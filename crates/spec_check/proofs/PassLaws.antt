@@ -51,9 +51,9 @@ list-passes cx l =
 -- and a log if and only if it has whole blocks, all right, and so for the list that it keeps
 pub log-passes : (cx : Context) (log : List ℕ)
     → isPassed (logAnswer cx log)
-    ≡ (eqb (length log % 512) 0 && (eqb (firstBadBlock log) (blocksIn log) && (eqb (firstBad (cx .settings) (listOf log)) (recordsIn (listOf log)) && everyRule cx (recordsOf (cx .settings) (listOf log)))))
+    ≡ (eqb (length log % 512) 0 && (eqb (firstBadBlock 15 log) (blocksIn log) && (eqb (firstBad (cx .settings) (listOf log)) (recordsIn (listOf log)) && everyRule cx (recordsOf (cx .settings) (listOf log)))))
 unfolding logAnswer
 log-passes cx log =
-    let inner = cond (eqb (firstBadBlock log) (blocksIn log)) (recordsAnswer cx (listOf log)) (Refused (Block (firstBadBlock log))) in
+    let inner = cond (eqb (firstBadBlock 15 log) (blocksIn log)) (recordsAnswer cx (listOf log)) (Refused (Block (firstBadBlock 15 log))) in
     passed-if (eqb (length log % 512) 0) inner Length ∙ ap (λ (t : Bool). eqb (length log % 512) 0 && t)
-    (passed-if (eqb (firstBadBlock log) (blocksIn log)) (recordsAnswer cx (listOf log)) (Block (firstBadBlock log)) ∙ ap (λ (t : Bool). eqb (firstBadBlock log) (blocksIn log) && t) (records-pass cx (listOf log)))
+    (passed-if (eqb (firstBadBlock 15 log) (blocksIn log)) (recordsAnswer cx (listOf log)) (Block (firstBadBlock 15 log)) ∙ ap (λ (t : Bool). eqb (firstBadBlock 15 log) (blocksIn log) && t) (records-pass cx (listOf log)))

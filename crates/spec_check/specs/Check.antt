@@ -49,7 +49,7 @@ listAnswer cx l = wholeIn Refused 32 l (recordsAnswer cx l)
 
 -- a log of blocks: 13, then 12, then 10 and 11 of the list that it keeps
 unfoldable pub logAnswer : Context → List ℕ → Judged
-logAnswer cx log = wholeIn Refused 512 log (rightBlocks Refused log (recordsAnswer cx (listOf log)))
+logAnswer cx log = wholeIn Refused 512 log (rightBlocks Refused 15 log (recordsAnswer cx (listOf log)))
 
 -- what 11 with rule n and place j says of a list: whole records, all well formed; record j is the first that breaks a rule, and n
 -- the lowest that it breaks
@@ -61,5 +61,5 @@ pub record ListBreach (cx : Context) (l : List ℕ) (n j : ℕ) : Type 0 where
 -- and of a log: whole blocks, all right, and so for the list that it keeps
 pub record LogBreach (cx : Context) (log : List ℕ) (n j : ℕ) : Type 0 where
   pub whole : length log % 512 ≡ 0
-  pub right : (k : ℕ) → k < blocksIn log → blockRight k (eqb (k + 1) (blocksIn log)) (blockAt log k) ≡ true
+  pub right : (k : ℕ) → k < blocksIn log → blockRight 15 k (eqb (k + 1) (blocksIn log)) (blockAt log k) ≡ true
   pub kept : ListBreach cx (listOf log) n j

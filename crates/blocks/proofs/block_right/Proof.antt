@@ -12,10 +12,10 @@ use Rattle.blocks.proofs.block_right.Tie as tie
 abbrev number-passed : (c : tie.Else1) → numberRight (c .before .before .before .args .k) (c .before .before .before .args .b .now) ≡ true
 number-passed c = sym (c .before .number-right .ensures) ∙ not-false _ (c .if1 .left)
 
-abbrev count-passed : (c : tie.Else2) → countRight (c .before .before .before .before .before .args .last) (c .before .before .before .before .before .args .b .now) ≡ true
+abbrev count-passed : (c : tie.Else2) → countRight (c .before .before .before .before .before .args .per) (c .before .before .before .before .before .args .last) (c .before .before .before .before .before .args .b .now) ≡ true
 count-passed c = sym (c .before .count-right .ensures) ∙ not-false _ (c .if2 .left)
 
-abbrev zeros-passed : (c : tie.Else3) → zerosRight (c .before .before .before .before .before .before .before .args .b .now) ≡ true
+abbrev zeros-passed : (c : tie.Else3) → zerosRight (c .before .before .before .before .before .before .before .args .per) (c .before .before .before .before .before .before .before .args .b .now) ≡ true
 zeros-passed c = sym (c .before .zeros-right .ensures) ∙ not-false _ (c .if3 .left)
 
 number-right-requires : tie.Need-number-right-requires
@@ -33,7 +33,7 @@ unfolding blockRight
 returns-2 c = rw (number-passed (c .before .before), sym (c .before .count-right .ensures) ∙ not-true _ (c .if2 .taken))
 
 zeros-right-requires : tie.Need-zeros-right-requires
-zeros-right-requires c κs = let a = c .before .before .before .before .before .args in (search needs, count-says (a .last) (a .b .now) (count-passed c) .1)
+zeros-right-requires c κs = let a = c .before .before .before .before .before .args in (search needs, count-says (a .per) (a .last) (a .b .now) (count-passed c) .1, search needs)
 
 returns-3 : tie.Need-returns-3
 unfolding blockRight

@@ -14,21 +14,26 @@ Used c = used (c .before .before .args .b .now)
 u32-at-requires : tie.Need-u32-at-requires
 u32-at-requires c κs = search needs
 
+cast-n : tie.Need-cast-n
+cast-n c = search needs
+
 returns : tie.Need-returns
 returns c = rw (lt-leb 1 (Used (c .before)) (omega arith))
 
 returns-2 : tie.Need-returns-2
-returns-2 c = rw (le-leb 1 (Used (c .before .before)) (omega arith), lt-leb (Used (c .before .before)) 15 (omega arith))
+returns-2 c =
+    let k = c .before .before in
+    rw (le-leb 1 (Used k) (omega arith), lt-leb (Used k) (k .before .before .args .per) (omega arith))
 
 returns-3 : tie.Need-returns-3
 returns-3 c =
-    let u = Used (c .before .before .before) in
-    rw (le-leb 1 u (omega arith), le-leb u 15 (omega arith), c .if3 .taken)
+    let k = c .before .before .before in
+    rw (le-leb 1 (Used k) (omega arith), le-leb (Used k) (k .before .before .args .per) (omega arith), c .if3 .taken)
 
 returns-4 : tie.Need-returns-4
 returns-4 c =
-    let u = Used (c .before .before .before) in
-    rw (le-leb 1 u (omega arith), le-leb u 15 (omega arith), c .if3 .left, c .before .before .before .u32-at .ensures)
+    let k = c .before .before .before in
+    rw (le-leb 1 (Used k) (omega arith), le-leb (Used k) (k .before .before .args .per) (omega arith), c .if3 .left, k .u32-at .ensures)
 
 pub count-right-spec : {M : Type 1} → statement M
-count-right-spec = tie.close (tie.spec u32-at-requires returns returns-2 returns-3 returns-4)
+count-right-spec = tie.close (tie.spec u32-at-requires cast-n returns returns-2 returns-3 returns-4)

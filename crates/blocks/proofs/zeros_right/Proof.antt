@@ -18,6 +18,9 @@ cast-from c = search needs
 mul-from : tie.Need-mul-from
 mul-from c = search needs
 
+mul-all-zero : tie.Need-mul-all-zero
+mul-all-zero c = search needs
+
 sub-all-zero : tie.Need-sub-all-zero
 sub-all-zero c = search needs
 
@@ -43,6 +46,7 @@ zeros-right-spec =
     u32-at-requires
     cast-from
     mul-from
+    mul-all-zero
     sub-all-zero
     all-zero-requires-2
     returns

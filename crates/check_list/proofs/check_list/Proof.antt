@@ -22,7 +22,7 @@ unfolding listAnswer contextOf
 returns c = rw (ne-eqb _ 0 (c .if1 .taken))
 
 walk-requires : tie.Need-walk-requires
-walk-requires c κs = (omega arith, list-within (c .before .before .args .list .now))
+walk-requires c κs = ((omega arith, omega arith, λ h. omega arith), list-within (c .before .before .args .list .now))
 
 returns-2 : tie.Need-returns-2
 unfolding listAnswer recordsAnswer stopOf contextOf

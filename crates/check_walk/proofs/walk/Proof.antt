@@ -23,12 +23,12 @@ use Rattle.check_walk.proofs.walk.Statement.{statement}
 use Rattle.check_walk.proofs.walk.Tie as tie
 
 abbrev Inv-loop : tie.InvT-loop
-Inv-loop s b n blocks banks₀ l₀ buffer₀ latest₀ i₀ banks l buffer latest i =
-    (i ≤ n) × (channelOf banks l buffer (latest .due) ≡ channelAfter (contextOf s) (recordsVia (contextOf s .settings) blocks b n) i) × (length banks ≡ 32) × Opened (latest .opened) banks × Within buffer
-    × ((j : ℕ) → j < i → holds (contextOf s) blocks b n j ≡ true)
+Inv-loop s b n per banks₀ l₀ buffer₀ latest₀ i₀ banks l buffer latest i =
+    (i ≤ n) × (channelOf banks l buffer (latest .due) ≡ channelAfter (contextOf s) (recordsVia (contextOf s .settings) per b n) i) × (length banks ≡ 32) × Opened (latest .opened) banks × Within buffer
+    × ((j : ℕ) → j < i → holds (contextOf s) per b n j ≡ true)
 
 abbrev μ-loop : tie.MeasureT-loop
-μ-loop s b n blocks banks₀ l₀ buffer₀ latest₀ i₀ banks l buffer latest i = n - i
+μ-loop s b n per banks₀ l₀ buffer₀ latest₀ i₀ banks l buffer latest i = n - i
 
 loop-holds : tie.Need-loop-holds Inv-loop μ-loop
 unfolding channelAfter fresh bankCount
@@ -37,7 +37,8 @@ loop-holds c =
 
 place-of-requires : tie.Need-place-of-requires Inv-loop μ-loop
 place-of-requires c κs =
-    let p = c .before .before .before .before .before .pre .0 in omega arith
+    let p = c .before .before .before .before .before .pre .0 in
+    (omega arith, p .1, p .2)
 
 read-record-requires : tie.Need-read-record-requires Inv-loop μ-loop
 read-record-requires c κs =
@@ -48,7 +49,7 @@ returns c =
     let a = c .before .before .before .before .before .before .before .before .before .args in
     let k = c .before .before .before .before .before .loop in
     let q = rw (c .before .before .before .place-of .ensures) at (c .before .before .read-record .ensures) in
-    stop-bad (contextOf (a .s)) (a .blocks) (a .b .now) (a .n) (k .i) (k .inv .5) (c .before .before .before .before .loop-test .taken) (unformed (a .s) (a .blocks) (a .b .now) (k .i) (sym q ∙ c .enum-told .given .1))
+    stop-bad (contextOf (a .s)) (a .per) (a .b .now) (a .n) (k .i) (k .inv .5) (c .before .before .before .before .loop-test .taken) (unformed (a .s) (a .per) (a .b .now) (k .i) (sym q ∙ c .enum-told .given .1))
 
 returns-2 : tie.Need-returns-2 Inv-loop μ-loop
 returns-2 c =
@@ -60,8 +61,8 @@ returns-2 c =
     let e = sym (rw (g .before .before .before .before .before .before .before .before .before .before .place-of .ensures) at (g .before .before .before .before .before .before .before .before .before .read-record .ensures)) ∙ g .before .before .before .before .before .before .before .r .given .1 in
     let ch : Channel = channelOf (k .banks) (k .l) (k .buffer) (k .latest .due) in
     let m = c .before .judge .ensures ∙ ap (λ (x : Channel). judged (contextOf (a .s)) x r) (c .before .before .channel-of .ensures) in
-    stop-broken (contextOf (a .s)) (a .blocks) (a .b .now) (a .n) (k .i) _ (k .inv .5) lt (formed-here (a .s) (a .blocks) (a .b .now) (a .n) (k .i) lt r e)
-    (found-here (a .s) (a .blocks) (a .b .now) (a .n) (k .i) lt r e ch (k .inv .1) ∙ sym m) (c .if2 .taken)
+    stop-broken (contextOf (a .s)) (a .per) (a .b .now) (a .n) (k .i) _ (k .inv .5) lt (formed-here (a .s) (a .per) (a .b .now) (a .n) (k .i) lt r e)
+    (found-here (a .s) (a .per) (a .b .now) (a .n) (k .i) lt r e ch (k .inv .1) ∙ sym m) (c .if2 .taken)
 
 banks-implied-requires : tie.Need-banks-implied-requires Inv-loop μ-loop
 banks-implied-requires c κs =
@@ -183,7 +184,7 @@ loop-again c =
       size = k .inv .2;
       top = k .inv .3;
       within = k .inv .4;
-      inside = bank-here (a .s) (a .blocks) (a .b .now) (a .n) (k .i) lt r e;
+      inside = bank-here (a .s) (a .per) (a .b .now) (a .n) (k .i) lt r e;
       view = g .before .before .before .before .before .view-of .ensures;
       held = g .before .before .before .before .held-of .ensures;
       own = g .before .before .before .slot-of .ensures .0;
@@ -216,11 +217,11 @@ loop-again c =
     let banks = banks-here t m p implied n (stored .0) in (
       omega arith,
       rw (c .lasts-after .ensures, banks, stored .1)
-          (state-here t m p implied ∙ after-here (a .s) (a .blocks) (a .b .now) (a .n) (k .i) lt r e ch (k .inv .1)),
+          (state-here t m p implied ∙ after-here (a .s) (a .per) (a .b .now) (a .n) (k .i) lt r e ch (k .inv .1)),
       ap length banks ∙ length-here t m p implied,
       rw (stored .2) (opened-same _ _ _ banks (opened-here t m p implied)),
       within-here t q (stored .1),
-      below-more _ _ (k .inv .5) (holds-here (a .s) (a .blocks) (a .b .now) (a .n) (k .i) lt r e ch (k .inv .1) zero),
+      below-more _ _ (k .inv .5) (holds-here (a .s) (a .per) (a .b .now) (a .n) (k .i) lt r e ch (k .inv .1) zero),
     )
 
 returns-3 : tie.Need-returns-3 Inv-loop μ-loop
@@ -228,7 +229,7 @@ returns-3 c =
     let a = c .before .before .before .before .before .args in
     let k = c .before .loop in
     let l = c .loop-test .left in
-    stop-end (contextOf (a .s)) (a .blocks) (a .b .now) (a .n) (λ j m. k .inv .5 j (omega arith))
+    stop-end (contextOf (a .s)) (a .per) (a .b .now) (a .n) (λ j m. k .inv .5 j (omega arith))
 
 pub walk-spec : {M : Type 1} → statement M
 walk-spec =

@@ -3,7 +3,8 @@ use mathlib.Core.Path.{_∙_, sym}
 use Rattle.num.specs.Bytes.{Bytes}
 use Rattle.log_index.specs.Answers.{lentAfter}
 use Rattle.log_index.proofs.IndexLaws.{kept-most}
-use Rattle.index_make.proofs.MakeLaws.{added, kept-said, words-said}
+use Rattle.blocks.proofs.ListThenLog.{used-few}
+use Rattle.index_make.proofs.MakeLaws.{fifteen, added, kept-said, words-said}
 use borrow.Author.Needs.{needs}
 use Rattle.index_make.proofs.add.Statement.{statement}
 use Rattle.index_make.proofs.add.Tie as tie
@@ -28,7 +29,7 @@ write-index-requires c κs =
     let p = added (a .s) (a .log .now) (a .kept) (a .index .now) _ (sym (t .add-answer .ensures) ∙ c .before .enum-told3 .given .1) in
     let w : Bytes (a .log .now) = λ i h. l .before .shared-slice-known .given i .fits in
     let v : Bytes (a .index .now) = λ i h. l .slice-known .given i .fits in
-    ((p .passed .right, kept-most (a .s) (a .log .now) (a .index .now) (a .kept) (p .same), p .room-enough), kept-said (a .s) (a .log .now) (a .kept) (a .index .now) _ w v p)
+    ((used-few 15 fifteen (a .log .now) (p .passed .right), kept-most (a .s) (a .log .now) (a .index .now) (a .kept) (p .same), p .room-enough), kept-said (a .s) 15 fifteen (a .log .now) (a .kept) (a .index .now) w v (p .passed) (p .same))
 
 same-length : tie.Need-same-length
 same-length c = search needs
@@ -61,7 +62,7 @@ returns-3 c =
     let e = sym (t .add-answer .ensures) ∙ m .enum-told3 .given .1 in
     let p = added (a .s) (a .log .now) (a .kept) (a .index .now) _ e in
     let w : Bytes (a .log .now) = λ i h. l .before .shared-slice-known .given i .fits in
-    (t .add-answer .ensures, rw e (rw (words-said (a .s) (a .log .now) w (p .passed)) at (c .before .before .write-index .ensures)))
+    (t .add-answer .ensures, rw e (rw (words-said (a .s) 15 fifteen (a .log .now) w (p .passed)) at (c .before .before .write-index .ensures)))
 
 pub add-spec : {M : Type 1} → statement M
 add-spec =

@@ -4,7 +4,8 @@ use borrow.Author.Tests.{eq-eqb, ne-eqb}
 use Rattle.num.specs.Bytes.{Bytes}
 use Rattle.blocks.specs.Block.{blocksIn}
 use Rattle.log_index.specs.Answers.{addAnswer}
-use Rattle.index_make.proofs.MakeLaws.{right-passed, right-refused, right-next, room-said}
+use Rattle.blocks.proofs.ListThenLog.{used-few}
+use Rattle.index_make.proofs.MakeLaws.{fifteen, right-passed, right-refused, right-next, room-said}
 use borrow.Author.Needs.{needs}
 use Rattle.index_make.proofs.add_answer.Statement.{statement}
 use Rattle.index_make.proofs.add_answer.Tie as tie
@@ -26,7 +27,7 @@ room-answer-requires : tie.Need-room-answer-requires
 room-answer-requires c κs =
     let r = c .before .before in
     let a = r .before .before .before .before .args in
-    right-passed (a .s) (a .log .now) (blocksIn (a .log .now)) _ (sym (r .right .ensures) ∙ c .enum-told .given .1) .right
+    used-few 15 fifteen (a .log .now) (right-passed (a .s) (a .log .now) (blocksIn (a .log .now)) _ (sym (r .right .ensures) ∙ c .enum-told .given .1) .right)
 
 returns-2 : tie.Need-returns-2
 unfolding addAnswer
@@ -44,7 +45,7 @@ returns-3 c =
     let p = right-passed (a .s) (a .log .now) (blocksIn (a .log .now)) _ (sym (r .right .ensures) ∙ c .before .enum-told .given .1) in
     let w : Bytes (a .log .now) = λ i h. r .before .before .before .shared-slice-known .given i .fits in
     rw (eq-eqb _ 0 (r .before .if1 .left))
-    (c .room-answer .ensures ∙ room-said (a .s) (a .log .now) w p (a .kept) (a .index .now) ∙ sym (right-next (a .s) (a .log .now) _ p))
+    (c .room-answer .ensures ∙ room-said (a .s) 15 fifteen (a .log .now) w p (a .kept) (a .index .now) ∙ sym (right-next (a .s) (a .log .now) _ p))
 
 pub add-answer-spec : {M : Type 1} → statement M
 add-answer-spec =

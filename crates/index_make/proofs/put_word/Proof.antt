@@ -1,5 +1,4 @@
 -- `put_word` meets its contract.
-use Rattle.blocks.proofs.ListThenLog.{used-most}
 use borrow.Author.Needs.{needs}
 use Rattle.index_make.proofs.put_word.Statement.{statement}
 use Rattle.index_make.proofs.put_word.Tie as tie
@@ -7,7 +6,7 @@ use Rattle.index_make.proofs.put_word.Tie as tie
 block-word-requires : tie.Need-block-word-requires
 block-word-requires c κs =
     let a = c .before .before in
-    (a .pre .0 .0, used-most (a .args .log .now) (a .pre .0 .1) (a .args .k) (a .pre .0 .0))
+    a .pre .0
 
 mul-put-u32 : tie.Need-mul-put-u32
 mul-put-u32 c = search needs

@@ -1,6 +1,5 @@
 -- `word_right` meets its contract.
 use borrow.Author.Tests.{le-ltb, lt-ltb}
-use Rattle.blocks.proofs.ListThenLog.{used-most}
 use Rattle.log_index.specs.Index.{wordRight}
 use borrow.Author.Needs.{needs}
 use Rattle.index_make.proofs.word_right.Statement.{statement}
@@ -23,7 +22,7 @@ u32-at-requires c κs = search needs
 block-word-requires : tie.Need-block-word-requires
 block-word-requires c κs =
     let a = c .before .before .before .before .before in
-    (c .before .if2 .left, used-most (a .args .log .now) (a .pre) (a .args .k) (c .before .if2 .left))
+    (c .before .if2 .left, a .pre (a .args .k) (c .before .if2 .left))
 
 returns-3 : tie.Need-returns-3
 unfolding wordRight

@@ -34,7 +34,7 @@ put-word-requires : tie.Need-put-word-requires Inv-loop μ-loop
 put-word-requires c κs =
     let l = c .before .before in
     let p = l .before .before .before .pre .0 in
-    ((omega arith, p .0), omega (arith, held l, p .2))
+    ((omega arith, p .0 (l .loop .k) (omega arith)), omega (arith, held l, p .2))
 
 add-k : tie.Need-add-k Inv-loop μ-loop
 add-k c = search needs

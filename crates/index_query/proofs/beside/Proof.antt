@@ -2,7 +2,8 @@
 use mathlib.Core.Path.{_∙_, sym}
 use Rattle.num.specs.Bytes.{Bytes}
 use Rattle.blocks.specs.Block.{blocksIn}
-use Rattle.index_make.proofs.MakeLaws.{right-passed, right-refused, right-next}
+use Rattle.blocks.proofs.ListThenLog.{used-few}
+use Rattle.index_make.proofs.MakeLaws.{fifteen, right-passed, right-refused, right-next}
 use Rattle.index_query.proofs.QueryLaws.{beside-said}
 use borrow.Author.Needs.{needs}
 use Rattle.index_query.proofs.beside.Statement.{statement}
@@ -21,7 +22,7 @@ compared-requires : tie.Need-compared-requires
 compared-requires c κs =
     let r = c .before .before in
     let a = r .before .before .before .args in
-    right-passed (a .s) (a .log .now) (blocksIn (a .log .now)) _ (sym (r .right .ensures) ∙ c .enum-told .given .1) .right
+    used-few 15 fifteen (a .log .now) (right-passed (a .s) (a .log .now) (blocksIn (a .log .now)) _ (sym (r .right .ensures) ∙ c .enum-told .given .1) .right)
 
 returns : tie.Need-returns
 returns c =
@@ -35,7 +36,7 @@ returns-2 c =
     let a = r .before .before .before .args in
     let p = right-passed (a .s) (a .log .now) (blocksIn (a .log .now)) _ (sym (r .right .ensures) ∙ c .before .enum-told .given .1) in
     let w : Bytes (a .log .now) = λ i h. r .before .before .shared-slice-known .given i .fits in
-    c .compared .ensures ∙ beside-said (a .s) (a .log .now) (a .index .now) w p ∙ sym (right-next (a .s) (a .log .now) _ p)
+    c .compared .ensures ∙ beside-said (a .s) 15 fifteen (a .log .now) (a .index .now) w p ∙ sym (right-next (a .s) (a .log .now) _ p)
 
 pub beside-spec : {M : Type 1} → statement M
 beside-spec =

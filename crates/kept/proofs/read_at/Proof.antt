@@ -3,7 +3,7 @@ use mathlib.Core.Path.{_≡_}
 use Prim.Native.Nat.{_+_, _-_, _*_}
 use native.Mathlib.Omega.{arith}
 use Rattle.blocks.specs.Block.{used, blockAt}
-use Rattle.blocks.proofs.ListThenLog.{used-most}
+use Rattle.blocks.proofs.ListThenLog.{used-few}
 use Rattle.blocks.proofs.ReadLaws.{used-part}
 use borrow.Author.Needs.{needs}
 use Rattle.kept.proofs.read_at.Statement.{statement}
@@ -24,6 +24,9 @@ add-end c = search needs
 mul-put-bytes : tie.Need-mul-put-bytes
 mul-put-bytes c = search needs
 
+mul-put-bytes-2 : tie.Need-mul-put-bytes-2
+mul-put-bytes-2 c = search needs
+
 sub-put-bytes : tie.Need-sub-put-bytes
 sub-put-bytes c = search needs
 
@@ -33,7 +36,7 @@ part-put-bytes-start c = search needs
 part-put-bytes-end : tie.Need-part-put-bytes-end
 part-put-bytes-end c =
     let s = c .before .before .before .before in
-    omega (arith, used-most (s .args .log .now) (s .pre .0 .1) (s .args .k) (s .pre .0 .0))
+    omega (arith, used-few (s .args .per) (s .pre .0) (s .args .log .now) (s .pre .1 .0 .1) (s .args .k) (s .pre .1 .0 .0))
 
 put-bytes-requires : tie.Need-put-bytes-requires
 put-bytes-requires c κs = search needs
@@ -47,7 +50,7 @@ returns c =
     let log = s .args .log .now in
     let k = s .args .k in
     let e : 512 * k + 32 * used (blockAt log k) - 512 * k ≡ 32 * used (blockAt log k) = omega arith in
-    rw (c .before .before .before .before .before .used-of .ensures, e, used-part log k (used-most log (s .pre .0 .1) k (s .pre .0 .0))) at (c .before .before .put-bytes .ensures)
+    rw (c .before .before .before .before .before .used-of .ensures, e, used-part log k (used-few (s .args .per) (s .pre .0) log (s .pre .1 .0 .1) k (s .pre .1 .0 .0))) at (c .before .before .put-bytes .ensures)
 
 pub read-at-spec : {M : Type 1} → statement M
 read-at-spec =
@@ -58,6 +61,7 @@ read-at-spec =
     mul-end
     add-end
     mul-put-bytes
+    mul-put-bytes-2
     sub-put-bytes
     part-put-bytes-start
     part-put-bytes-end

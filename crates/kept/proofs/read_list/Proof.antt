@@ -1,22 +1,22 @@
 -- `blocks::read::read_list` meets its contract: after k turns the records of the first k blocks are copied.
 use mathlib.Core.Path.{_≡_, _∙_, ap}
-use Prim.Native.Nat.{_+_, _-_, _≤_}
+use Prim.Native.Nat.{_+_, _-_, _*_, _≤_}
 use native.Mathlib.Omega.{arith}
 use lib.ListN.{length}
 use Rattle.num.specs.Bytes.{splice}
 use Rattle.num.proofs.SpliceLaws.{splice-none}
 use Rattle.blocks.specs.Block.{blocksIn, listUpTo, listOf}
-use Rattle.blocks.proofs.ListThenLog.{length-next}
+use Rattle.blocks.proofs.ListThenLog.{length-upTo, length-next}
 use Rattle.blocks.proofs.ReadLaws.{list-within, list-turn, list-held}
 use borrow.Author.Needs.{needs}
 use Rattle.kept.proofs.read_list.Statement.{statement}
 use Rattle.kept.proofs.read_list.Tie as tie
 
 abbrev Inv-loop : tie.InvT-loop
-Inv-loop log list₀ n k₀ list k = (k ≤ n) × (list ≡ splice list₀ 0 (listUpTo log k))
+Inv-loop log per list₀ n k₀ list k = (k ≤ n) × (list ≡ splice list₀ 0 (listUpTo log k))
 
 abbrev μ-loop : tie.MeasureT-loop
-μ-loop log list₀ n k₀ list k = n - k
+μ-loop log per list₀ n k₀ list k = n - k
 
 -- the lent slice keeps its length
 held : (c : tie.At-loop Inv-loop μ-loop) → length (c .loop .list) ≡ length (c .before .before .before .args .list .now)
@@ -31,13 +31,14 @@ loop-holds c = (search needs, splice-none (c .before .before .args .list .now) 0
 read-at-requires : tie.Need-read-at-requires Inv-loop μ-loop
 read-at-requires c κs =
     let l = c .before .before in
-    let log = l .before .before .before .args .log .now in
+    let s = l .before .before .before in
+    let log = s .args .log .now in
     let k = l .loop .k in
-    let e = l .before .before .before .pre .0 in
+    let e = s .pre .1 .0 in
     let h = held l in
-    let n = length-next log e k (omega arith) in
+    let n = length-next (s .args .per) (s .pre .0) log e k (omega arith) in
     let w = list-within log (k + 1) (omega arith) in
-    ((omega arith, e), omega arith)
+    (s .pre .0, ((omega arith, e), omega arith))
 
 add-k : tie.Need-add-k Inv-loop μ-loop
 add-k c = search needs
@@ -48,10 +49,12 @@ loop-less c = search needs
 loop-again : tie.Need-loop-again Inv-loop μ-loop
 loop-again c =
     let l = c .before .before .before .before .before in
-    let s = l .before .before .before in (
+    let s = l .before .before .before in
+    let log = s .args .log .now in
+    let k = l .loop .k in (
       search needs,
       rw (c .before .before .read-at .ensures, l .loop .inv .1)
-          (list-turn (s .args .log .now) (s .args .list .now) (s .pre .0) (omega arith) (l .loop .k) (omega arith)),
+          (list-turn log (s .args .list .now) (32 * (s .args .per * k)) (omega arith) k (omega arith) (length-upTo (s .args .per) (s .pre .0) log (s .pre .1 .0) k (omega arith))),
     )
 
 same-length : tie.Need-same-length Inv-loop μ-loop

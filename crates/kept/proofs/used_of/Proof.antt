@@ -1,4 +1,4 @@
--- `blocks::read::used_of` meets its contract: every block but the last uses 15 records.
+-- `blocks::read::used_of` meets its contract: every block but the last is full.
 use mathlib.Core.Path.{sym}
 use Rattle.blocks.proofs.ListThenLog.{used-full}
 use borrow.Author.Needs.{needs}
@@ -9,7 +9,7 @@ add-if1 : tie.Need-add-if1
 add-if1 c = search needs
 
 returns : tie.Need-returns
-returns c = sym (used-full (c .before .before .args .log .now) (c .before .before .pre .1) (c .before .before .args .k) (c .if1 .taken))
+returns c = sym (used-full (c .before .before .args .per) (c .before .before .pre .0) (c .before .before .args .log .now) (c .before .before .pre .1 .1) (c .before .before .args .k) (c .if1 .taken))
 
 used-at-requires : tie.Need-used-at-requires
 used-at-requires c κs = search needs

@@ -3,9 +3,8 @@ use mathlib.Core.Path.{_∙_}
 use Prim.Native.Nat.{_+_, _-_, _*_}
 use native.Mathlib.Omega.{arith}
 use Rattle.num.specs.Bytes.{part}
-use Rattle.num.proofs.PartLaws.{length-part-le}
 use Rattle.blocks.specs.Block.{block}
-use Rattle.blocks.proofs.BlockLaws.{length-block}
+use Rattle.blocks.proofs.BlockLaws.{length-block, part-fits}
 use Rattle.blocks.proofs.WriteLaws.{part-back, part-within}
 use borrow.Author.Needs.{needs}
 use Rattle.blocks.proofs.write.write_at.Statement.{statement}
@@ -13,6 +12,12 @@ use Rattle.blocks.proofs.write.write_at.Tie as tie
 
 mul-from : tie.Need-mul-from
 mul-from c = search needs
+
+mul-from-2 : tie.Need-mul-from-2
+mul-from-2 c = search needs
+
+mul-lesser : tie.Need-mul-lesser
+mul-lesser c = search needs
 
 add-lesser : tie.Need-add-lesser
 add-lesser c = search needs
@@ -55,18 +60,23 @@ same-length c = search needs
 
 returns : tie.Need-returns
 returns c =
-    let s = c .before .before .before .before .before .before .before .before in
+    let s = c .before .before .before .before .before .before .before .before .before in
     let k = s .args .k in
+    let per = s .args .per in
     let l = s .args .list .now in
-    let recs = part l (480 * k) 480 in
-    let e = rw (c .before .before .before .before .before .lesser .ensures, part-within l (480 * k) 480) at (c .before .before .write-block .ensures) in
-    rw e (part-back (s .args .log .now) (512 * k) (512 * k + 512 - 512 * k) (block k recs) (length-block k recs (length-part-le l (480 * k) 480) ∙ omega arith))
+    let st = s .args .stamp .now in
+    let from = 32 * (per * k) in
+    let recs = part l from (32 * per) in
+    let e = rw (c .before .before .before .before .before .lesser .ensures, part-within l from (32 * per)) at (c .before .before .write-block .ensures) in
+    rw e (part-back (s .args .log .now) (512 * k) (512 * k + 512 - 512 * k) (block st k recs) (length-block st k recs (part-fits per st l k (s .pre .1)) ∙ omega arith))
 
 pub write-at-spec : {M : Type 1} → statement M
 write-at-spec =
     tie.close
     (tie.spec
     mul-from
+    mul-from-2
+    mul-lesser
     add-lesser
     lesser-requires
     mul-at

@@ -12,28 +12,38 @@ use Rattle.blocks.proofs.write.write_log.Statement.{statement}
 use Rattle.blocks.proofs.write.write_log.Tie as tie
 
 abbrev Inv-loop : tie.InvT-loop
-Inv-loop list log₀ n k₀ log k = (k ≤ n) × (log ≡ splice log₀ 0 (logUpTo list k))
+Inv-loop list per stamp log₀ n k₀ log k = (k ≤ n) × (log ≡ splice log₀ 0 (logUpTo per stamp list k))
 
 abbrev μ-loop : tie.MeasureT-loop
-μ-loop list log₀ n k₀ log k = n - k
+μ-loop list per stamp log₀ n k₀ log k = n - k
 
 -- the lent slice keeps its length
-held : (c : tie.At-loop Inv-loop μ-loop) → length (c .loop .log) ≡ length (c .before .before .before .args .log .now)
+held : (c : tie.At-loop Inv-loop μ-loop) → length (c .loop .log) ≡ length (c .before .before .before .before .args .log .now)
 held c =
-    let a = c .before .before .before .args in
-    ap length (c .loop .inv .1) ∙ log-held (a .log .now) (a .list .now) (c .loop .k) (omega arith)
+    let s = c .before .before .before .before in
+    let a = s .args in
+    ap length (c .loop .inv .1) ∙ log-held (a .per) (a .stamp .now) (s .pre .0 .1) (a .log .now) (a .list .now) (c .loop .k) (omega arith)
+
+sub-n : tie.Need-sub-n Inv-loop μ-loop
+sub-n c = search needs
 
 add-n : tie.Need-add-n Inv-loop μ-loop
 add-n c = search needs
 
+div-n : tie.Need-div-n Inv-loop μ-loop
+div-n c = search needs
+
 loop-holds : tie.Need-loop-holds Inv-loop μ-loop
 unfolding logUpTo
-loop-holds c = (search needs, splice-none (c .before .before .args .log .now) 0)
+loop-holds c = (search needs, splice-none (c .before .before .before .args .log .now) 0)
 
 write-at-requires : tie.Need-write-at-requires Inv-loop μ-loop
-write-at-requires c κs = let h = held (c .before .before) in
-    let w = starts-within (length (c .before .before .before .before .before .args .list .now)) (c .before .before .loop .k) (omega arith) in
-    (omega arith, omega arith, omega arith)
+write-at-requires c κs =
+    let l = c .before .before in
+    let s = l .before .before .before .before in
+    let h = held l in
+    let w = starts-within (s .args .per) (length (s .args .list .now)) (l .loop .k) (omega arith) (omega arith) in
+    ((omega arith, omega arith, omega arith), s .pre .0 .1)
 
 add-k : tie.Need-add-k Inv-loop μ-loop
 add-k c = search needs
@@ -44,8 +54,12 @@ loop-less c = search needs
 loop-again : tie.Need-loop-again Inv-loop μ-loop
 loop-again c =
     let l = c .before .before .before .before .before in
-    let a = l .before .before .before .args in
-    (search needs, rw (c .before .before .write-at .ensures, l .loop .inv .1) (log-turn (a .log .now) (a .list .now) (l .loop .k) (omega arith)))
+    let s = l .before .before .before .before in
+    let a = s .args in (
+      search needs,
+      rw (c .before .before .write-at .ensures, l .loop .inv .1)
+          (log-turn (a .per) (a .stamp .now) (s .pre .0 .1) (a .log .now) (a .list .now) (l .loop .k) (omega arith)),
+    )
 
 same-length : tie.Need-same-length Inv-loop μ-loop
 same-length c = held (c .before)
@@ -53,8 +67,8 @@ same-length c = held (c .before)
 returns : tie.Need-returns Inv-loop μ-loop
 unfolding logOf
 returns c =
-    let a = c .before .before .before .before .args in
-    let e : c .before .loop .k ≡ blockCount (length (a .list .now) / 32) = omega arith in
+    let a = c .before .before .before .before .before .args in
+    let e : c .before .loop .k ≡ blockCount (a .per) (length (a .list .now) / 32) = omega arith in
     rw e at (c .before .loop .inv .1)
 
 pub write-log-spec : {M : Type 1} → statement M
@@ -63,7 +77,9 @@ write-log-spec =
     (tie.spec
     Inv-loop
     μ-loop
+    sub-n
     add-n
+    div-n
     loop-holds
     write-at-requires
     add-k

@@ -1,5 +1,6 @@
 -- `encode_by` meets its contract: each arm is a case of the definition.
-use mathlib.Core.Path.{_∙_, sym}
+use mathlib.Core.Path.{_∙_, sym, refl}
+use native.Mathlib.Omega.{arith}
 use Rattle.log.specs.Log.{copied, encodeLog}
 use Rattle.spec_calls.specs.Settings.{underSettings}
 use Rattle.spec_calls.specs.Logs.{copyCall, logEncodeCall}
@@ -19,8 +20,17 @@ copy-answer-requires c κs = search needs
 enum-known-s : tie.Need-enum-known-s
 enum-known-s c = search needs
 
+sub-encode : tie.Need-sub-encode
+sub-encode c = search needs
+
+part-encode-start : tie.Need-part-encode-start
+part-encode-start c = search needs
+
+part-encode-end : tie.Need-part-encode-end
+part-encode-end c = search needs
+
 encode-requires : tie.Need-encode-requires
-encode-requires c κs = search needs
+encode-requires c κs = (omega arith, refl)
 
 copy-answer-requires-2 : tie.Need-copy-answer-requires-2
 copy-answer-requires-2 c κs = search needs
@@ -38,7 +48,7 @@ returns-2 : tie.Need-returns-2
 unfolding copied encodeLog underSettings copyCall logEncodeCall
 returns-2 c =
     let d = c .before .before .before in
-    let e = sym (d .before .before .before .before .before .read-settings .ensures) ∙ d .before .before .before .s .given .1 in
+    let e = sym (d .before .before .before .before .before .before .read-settings .ensures) ∙ d .before .before .before .before .s .given .1 in
     (rw e (rw (d .encode .ensures .0) at (c .copy-answer2 .ensures)), rw e (d .encode .ensures .1))
 
 pub encode-by-spec : {M : Type 1} → statement M
@@ -49,6 +59,9 @@ encode-by-spec =
     enum-told
     copy-answer-requires
     enum-known-s
+    sub-encode
+    part-encode-start
+    part-encode-end
     encode-requires
     copy-answer-requires-2
     returns

@@ -20,7 +20,7 @@ returns c =
     let s = c .before .before .before in
     let a = s .args in
     let at = ap (λ (x : Stop). x .at) (c .before .walk .ensures) in
-    stop-passed (contextOf (a .s)) (a .blocks) (a .b .now) (a .n) (core-neighbours (a .s)) (sym at ∙ c .if1 .taken)
+    stop-passed (contextOf (a .s)) (a .per) (a .b .now) (a .n) (core-neighbours (a .s)) (sym at ∙ c .if1 .taken)
 
 returns-2 : tie.Need-returns-2
 unfolding stopOf contextOf
@@ -29,7 +29,7 @@ returns-2 c =
     let a = s .args in
     let e = c .before .walk .ensures in
     let at = ap (λ (x : Stop). x .at) e in
-    ap (λ (x : Stop). Refused (Rule (x .rule) (x .at))) e ∙ stop-refused (contextOf (a .s)) (a .blocks) (a .b .now) (a .n) (core-neighbours (a .s)) (s .pre .1 .1) (λ z. c .if1 .left (at ∙ z))
+    ap (λ (x : Stop). Refused (Rule (x .rule) (x .at))) e ∙ stop-refused (contextOf (a .s)) (a .per) (a .b .now) (a .n) (core-neighbours (a .s)) (s .pre .1 .1) (λ z. c .if1 .left (at ∙ z))
 
 pub judge-all-spec : {M : Type 1} → statement M
 judge-all-spec = tie.close (tie.spec walk-requires returns returns-2)

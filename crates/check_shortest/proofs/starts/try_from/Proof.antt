@@ -10,7 +10,7 @@ use Rattle.check_shortest.proofs.starts.try_from.Tie as tie
 walk-requires : tie.Need-walk-requires
 walk-requires c κs =
     let a = c .before .before .args in
-    (omega arith, λ x m. run-within (a .s) (a .list .now) (a .i) (a .j) (c .before .before .pre .0 .0) (c .before .before .pre .0 .1) x (omega arith))
+    ((omega arith, omega arith, λ h. omega arith), λ x m. run-within (a .s) (a .list .now) (a .i) (a .j) (c .before .before .pre .0 .0) (c .before .before .pre .0 .1) x (omega arith))
 
 returns : tie.Need-returns
 unfolding contextOf

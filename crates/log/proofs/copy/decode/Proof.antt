@@ -16,8 +16,9 @@ enum-told c = search needs
 
 read-list-requires : tie.Need-read-list-requires
 read-list-requires c κs =
-    let p = decoded _ _ _ _ (sym (c .before .before .before .decode-answer .ensures) ∙ c .before .enum-told .given .1) in
-    (p .right, omega (arith, p .room-enough, list-whole _ (p .right)))
+    let p = decoded _ _ _ _ _ (sym (c .before .before .before .decode-answer .ensures) ∙ c .before .enum-told .given .1) in
+    let f = c .before .before .before .before .before .before .pre in
+    (f, (p .right, omega (arith, p .room-enough, list-whole _ f _ (p .right))))
 
 enum-told-2 : tie.Need-enum-told-2
 enum-told-2 c = search needs

@@ -23,7 +23,7 @@ returns-2 c =
     rw (eq-eqb _ 0 (d .before .if1 .left), ne-eqb _ _ (λ z. c .if2 .taken (e ∙ z)), e)
 
 records-in-requires : tie.Need-records-in-requires
-records-in-requires c κs = sym (c .before .before .faults .ensures .0) ∙ c .if2 .left
+records-in-requires c κs = (c .before .before .before .before .before .pre, sym (c .before .before .faults .ensures .0) ∙ c .if2 .left)
 
 returns-3 : tie.Need-returns-3
 unfolding decodeAnswer
@@ -31,7 +31,7 @@ returns-3 c =
     let i = c .before .before .before in
     let d = i .before .before in
     let g = sym (d .faults .ensures .0) ∙ i .if2 .left in
-    let e = d .faults .ensures .1 ∙ bad-of-all (d .before .before .before .args .s) (d .before .before .before .args .log .now) g in
+    let e = d .faults .ensures .1 ∙ bad-of-all (d .before .before .before .args .s) (d .before .before .before .args .per) (d .before .before .before .args .log .now) g in
     rw (eq-eqb _ 0 (d .before .if1 .left), eq-eqb _ _ g, ne-eqb _ _ (λ z. c .if3 .taken (e ∙ z ∙ sym (c .before .before .records-in .ensures))), e)
 
 returns-4 : tie.Need-returns-4
@@ -41,7 +41,7 @@ returns-4 c =
     let d = i .before .before in
     let room = d .before .before .before .args .room in
     let g = sym (d .faults .ensures .0) ∙ i .if2 .left in
-    let e = d .faults .ensures .1 ∙ bad-of-all (d .before .before .before .args .s) (d .before .before .before .args .log .now) g in
+    let e = d .faults .ensures .1 ∙ bad-of-all (d .before .before .before .args .s) (d .before .before .before .args .per) (d .before .before .before .args .log .now) g in
     let n = c .before .before .before .records-in .ensures in
     rw (eq-eqb _ 0 (d .before .if1 .left), eq-eqb _ _ g, eq-eqb _ _ (sym e ∙ c .before .if3 .left ∙ n), ← n, le-leb _ (room / 32) (c .if4 .taken))
 
@@ -52,7 +52,7 @@ returns-5 c =
     let d = i .before .before in
     let room = d .before .before .before .args .room in
     let g = sym (d .faults .ensures .0) ∙ i .if2 .left in
-    let e = d .faults .ensures .1 ∙ bad-of-all (d .before .before .before .args .s) (d .before .before .before .args .log .now) g in
+    let e = d .faults .ensures .1 ∙ bad-of-all (d .before .before .before .args .s) (d .before .before .before .args .per) (d .before .before .before .args .log .now) g in
     let n = c .before .before .before .records-in .ensures in
     rw (eq-eqb _ 0 (d .before .if1 .left), eq-eqb _ _ g, eq-eqb _ _ (sym e ∙ c .before .if3 .left ∙ n), ← n, lt-leb _ (room / 32) (c .if4 .left))
 

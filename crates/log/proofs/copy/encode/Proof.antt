@@ -14,8 +14,8 @@ enum-told c = search needs
 
 write-log-requires : tie.Need-write-log-requires
 write-log-requires c κs =
-    let p = encoded _ _ _ _ (sym (c .before .before .before .encode-answer .ensures) ∙ c .before .enum-told .given .1) in
-    (p .room-enough, p .number-fits)
+    let p = encoded _ _ _ _ _ (sym (c .before .before .before .encode-answer .ensures) ∙ c .before .enum-told .given .1) in
+    (c .before .before .before .before .before .before .before .pre, (p .room-enough, p .number-fits))
 
 enum-told-2 : tie.Need-enum-told-2
 enum-told-2 c = search needs

@@ -18,10 +18,10 @@ use Rattle.log.proofs.copy.faults.Statement.{statement}
 use Rattle.log.proofs.copy.faults.Tie as tie
 
 abbrev Inv-loop : tie.InvT-loop
-Inv-loop s log n bad₀ k₀ bad k = (k ≤ n) × ((i : ℕ) → i < k → rightAt log i ≡ true) × (bad ≡ firstBad s (listUpTo log k))
+Inv-loop s log per n bad₀ k₀ bad k = (k ≤ n) × ((i : ℕ) → i < k → rightAt per log i ≡ true) × (bad ≡ firstBad s (listUpTo log k))
 
 abbrev μ-loop : tie.MeasureT-loop
-μ-loop s log n bad₀ k₀ bad k = n - k
+μ-loop s log per n bad₀ k₀ bad k = n - k
 
 loop-holds : tie.Need-loop-holds Inv-loop μ-loop
 unfolding firstBad firstFalse listUpTo
@@ -34,17 +34,19 @@ returns : tie.Need-returns Inv-loop μ-loop
 unfolding firstBadBlock
 returns c =
     let l = c .before .before .before in
+    let per = l .before .before .args .per in
     let log = l .before .before .args .log .now in
-    let bad = first-at (rightAt log) (blocksIn log) (l .loop .k) (l .loop .inv .1) (omega arith) (sym (c .before .right-at .ensures) ∙ not-true _ (c .if1 .taken)) in
+    let bad = first-at (rightAt per log) (blocksIn log) (l .loop .k) (l .loop .inv .1) (omega arith) (sym (c .before .right-at .ensures) ∙ not-true _ (c .if1 .taken)) in
     (sym bad, rw bad (l .loop .inv .2))
 
 bad-up-to-requires : tie.Need-bad-up-to-requires Inv-loop μ-loop
 bad-up-to-requires c κs =
     let l = c .before .before .before in
     let log = l .before .before .args .log .now in
+    let per = l .before .before .args .per in
     let k = l .loop .k in
     let t = eqb (k + 1) (blocksIn log) in
-    (omega arith, right-of k t (blockAt log k) (sym (c .before .right-at .ensures) ∙ not-false _ (c .if1 .left)) .used-most)
+    (omega arith, right-of per k t (blockAt log k) (sym (c .before .right-at .ensures) ∙ not-false _ (c .if1 .left)) .used-most, l .before .before .pre)
 
 add-k : tie.Need-add-k Inv-loop μ-loop
 add-k c = search needs
@@ -59,7 +61,7 @@ loop-again c =
     let k = l .loop .k in (
       search needs,
       below-more _ _ (l .loop .inv .1) (sym (c .before .before .right-at .ensures) ∙ not-false _ (c .before .if1 .left)),
-      rw (c .bad-up-to .ensures, l .loop .inv .2) (sym (bad-next (a .s) (a .log .now) k (l .loop .inv .1) (omega arith))),
+      rw (c .bad-up-to .ensures, l .loop .inv .2) (sym (bad-next (a .s) (a .per) (l .before .before .pre) (a .log .now) k (l .loop .inv .1) (omega arith))),
     )
 
 returns-2 : tie.Need-returns-2 Inv-loop μ-loop
@@ -67,7 +69,7 @@ unfolding firstBadBlock
 returns-2 c =
     let log = c .before .before .before .args .log .now in
     let e : c .before .loop .k ≡ blocksIn log = omega arith in
-    let good = first-none (rightAt log) (blocksIn log) (rw e at (c .before .loop .inv .1)) in
+    let good = first-none (rightAt (c .before .before .before .args .per) log) (blocksIn log) (rw e at (c .before .loop .inv .1)) in
     (omega (arith, good), rw (good, ← e) (c .before .loop .inv .2))
 
 pub faults-spec : {M : Type 1} → statement M

@@ -1,0 +1,4 @@
+pub mod TripLaws
+pub mod IndexLaws
+pub mod Theorems
+pub mod Refused

@@ -1,0 +1,61 @@
+-- `encode_by` meets its contract: each arm is a case of the definition.
+use mathlib.Core.Path.{_∙_, sym}
+use native.Mathlib.Omega.{arith}
+use Rattle.log.specs.Log.{copied, encodeLog}
+use Rattle.spec_calls.specs.Settings.{underSettings}
+use Rattle.spec_calls.specs.Logs.{copyCall}
+use Rattle.calls_stamp.specs.Results.{stampedEncodeCall}
+use Rattle.calls_stamp.proofs.TripLaws.{accepted-is}
+use borrow.Author.Needs.{needs}
+use Rattle.calls_stamp.proofs.logs.encode_by.Statement.{statement}
+use Rattle.calls_stamp.proofs.logs.encode_by.Tie as tie
+
+read-settings-requires : tie.Need-read-settings-requires
+read-settings-requires c κs = search needs
+
+enum-told : tie.Need-enum-told
+enum-told c = search needs
+
+copy-answer-requires : tie.Need-copy-answer-requires
+copy-answer-requires c κs = search needs
+
+enum-known-s : tie.Need-enum-known-s
+enum-known-s c = search needs
+
+encode-requires : tie.Need-encode-requires
+encode-requires c κs =
+    let l = accepted-is _ _ (sym (c .before .before .before .before .read-settings .ensures) ∙ c .before .before .s .given .1) .0 in
+    (omega arith, omega (arith, l))
+
+copy-answer-requires-2 : tie.Need-copy-answer-requires-2
+copy-answer-requires-2 c κs = search needs
+
+returns : tie.Need-returns
+unfolding copied underSettings copyCall stampedEncodeCall
+returns c =
+    let e = sym (c .before .before .before .read-settings .ensures) ∙ c .before .enum-told .given .1 in
+    (rw e (c .copy-answer .ensures), rw e)
+
+same-length : tie.Need-same-length
+same-length c = search needs
+
+returns-2 : tie.Need-returns-2
+unfolding copied encodeLog underSettings copyCall stampedEncodeCall
+returns-2 c =
+    let d = c .before .before .before in
+    let e = sym (d .before .before .before .before .before .read-settings .ensures) ∙ d .before .before .before .s .given .1 in
+    (rw e (rw (d .encode .ensures .0) at (c .copy-answer2 .ensures)), rw e (d .encode .ensures .1))
+
+pub encode-by-spec : {M : Type 1} → statement M
+encode-by-spec =
+    tie.close
+    (tie.spec
+    read-settings-requires
+    enum-told
+    copy-answer-requires
+    enum-known-s
+    encode-requires
+    copy-answer-requires-2
+    returns
+    same-length
+    returns-2)

@@ -1,0 +1,50 @@
+-- `stamp` meets its contract: the new log is written only where the answer is a count, and then every test was passed.
+use mathlib.Core.Path.{_∙_, sym}
+use native.Mathlib.Omega.{arith}
+use Rattle.log.specs.Log.{copied}
+use Rattle.log_stamp.proofs.CopyLaws.{stamped}
+use borrow.Author.Needs.{needs}
+use Rattle.log_stamp.proofs.copy.stamp.Statement.{statement}
+use Rattle.log_stamp.proofs.copy.stamp.Tie as tie
+
+stamp-answer-requires : tie.Need-stamp-answer-requires
+stamp-answer-requires c κs = search needs
+
+enum-told : tie.Need-enum-told
+enum-told c = search needs
+
+write-moved-requires : tie.Need-write-moved-requires
+write-moved-requires c κs =
+    let s = c .before .before .before .before .before .before .before in
+    let p = stamped _ _ _ _ (sym (c .before .before .before .stamp-answer .ensures) ∙ c .before .enum-told .given .1) in
+    ((omega arith, omega arith, omega arith, omega (arith, s .pre)), (p .right, (p .fits .room-enough, p .fits .number-fits)))
+
+enum-told-2 : tie.Need-enum-told-2
+enum-told-2 c = search needs
+
+same-length : tie.Need-same-length
+same-length c = search needs
+
+returns : tie.Need-returns
+unfolding copied
+returns c =
+    let d = c .before .before .before .before .before .before in
+    (d .stamp-answer .ensures, rw (sym (d .stamp-answer .ensures) ∙ c .before .before .before .before .enum-told .given .1) (c .before .before .write-moved .ensures))
+
+returns-2 : tie.Need-returns-2
+unfolding copied
+returns-2 c =
+    let d = c .before .before in
+    (d .stamp-answer .ensures, rw (sym (d .stamp-answer .ensures) ∙ c .enum-told2 .given .1))
+
+pub stamp-spec : {M : Type 1} → statement M
+stamp-spec =
+    tie.close
+    (tie.spec
+    stamp-answer-requires
+    enum-told
+    write-moved-requires
+    enum-told-2
+    same-length
+    returns
+    returns-2)

@@ -1,0 +1,66 @@
+-- `unstamp_answer` meets its contract: the tests are the definition's, in their order.
+use mathlib.Core.Path.{_≡_, _∙_, sym}
+use native.Mathlib.Omega.{arith}
+use borrow.Author.Tests.{eq-eqb, ne-eqb}
+use Rattle.log.specs.declared.Copied.the-variants.{Refused}
+use Rattle.log.specs.Log.{blocksOrFull}
+use Rattle.blocks.specs.Block.{listOf}
+use Rattle.log_move.proofs.ChunkLaws.{records-few}
+use Rattle.log_stamp.specs.Copy.{unstampAnswer}
+use Rattle.log_stamp.proofs.StampLaws.{fourteen, right-passed, right-refused, right-next}
+use borrow.Author.Needs.{needs}
+use Rattle.log_stamp.proofs.copy.unstamp_answer.Statement.{statement}
+use Rattle.log_stamp.proofs.copy.unstamp_answer.Tie as tie
+
+returns : tie.Need-returns
+unfolding unstampAnswer
+returns c = rw (ne-eqb _ 0 (c .if1 .taken))
+
+tested-requires : tie.Need-tested-requires
+tested-requires c κs = search needs
+
+enum-known-why : tie.Need-enum-known-why
+enum-known-why c = search needs
+
+enum-told : tie.Need-enum-told
+enum-told c = search needs
+
+records-in-requires : tie.Need-records-in-requires
+records-in-requires c κs = (fourteen, right-passed _ _ (sym (c .before .before .tested .ensures) ∙ c .enum-told .given .1) .0 .right)
+
+blocks-or-full-requires : tie.Need-blocks-or-full-requires
+blocks-or-full-requires c κs =
+    let log = c .before .before .before .before .before .before .args .log .now in
+    let p = right-passed log _ (sym (c .before .before .before .tested .ensures) ∙ c .before .enum-told .given .1) .0 in
+    (omega arith, omega arith, omega (arith, records-few 14 fourteen log (p .right)))
+
+returns-2 : tie.Need-returns-2
+unfolding unstampAnswer
+returns-2 c =
+    let r = c .before .before .before in
+    let log = r .before .before .before .args .log .now in
+    let room = r .before .before .before .args .room in
+    rw (eq-eqb _ 0 (r .before .if1 .left), c .known-told .given .1)
+    (sym (right-refused Refused log _ (λ s. blocksOrFull 15 (listOf log) room) (sym (r .tested .ensures) ∙ c .before .why .given .1)))
+
+returns-3 : tie.Need-returns-3
+unfolding unstampAnswer
+returns-3 c =
+    let r = c .before .before .before .before in
+    let log = r .before .before .before .args .log .now in
+    let room = r .before .before .before .args .room in
+    let p = right-passed log _ (sym (r .tested .ensures) ∙ c .before .before .enum-told .given .1) .0 in
+    rw (eq-eqb _ 0 (r .before .if1 .left)) (rw (c .before .records-in .ensures) at (c .blocks-or-full .ensures) ∙ sym (right-next Refused log (λ s. blocksOrFull 15 (listOf log) room) p))
+
+pub unstamp-answer-spec : {M : Type 1} → statement M
+unstamp-answer-spec =
+    tie.close
+    (tie.spec
+    returns
+    tested-requires
+    enum-known-why
+    enum-told
+    records-in-requires
+    blocks-or-full-requires
+    returns-2
+    returns-3)
