@@ -1,8 +1,9 @@
 /*
- * rdram.h: Direct RDRAM packet words, block logs and their index (rdram_index.h), timing rules and
- * the shortest run that breaks one (rdram_shortest.h), plans of one request and of many
- * (rdram_plan_all.h), a device model (rdram_model.h), a meter of the data pins (rdram_meter.h), pages
- * of the channel as text (rdram_page.h), all under settings (rdram_settings.h).
+ * rdram.h: Direct RDRAM packet words, block logs and their index (rdram_index.h), logs that carry
+ * their settings (rdram_stamped.h), timing rules and the shortest run that breaks one
+ * (rdram_shortest.h), plans of one request and of many (rdram_plan_all.h), a device model
+ * (rdram_model.h), a meter of the data pins (rdram_meter.h), pages of the channel as text
+ * (rdram_page.h), all under settings (rdram_settings.h).
  * Link with librdram.a. Common to all calls:
  * - A buffer is a pointer and its length in bytes. A null pointer is allowed with length 0. No
  *   alignment is needed. Numbers in buffers have their low byte first.
@@ -23,6 +24,7 @@
 #include "rdram_plan_all.h"
 #include "rdram_settings.h"
 #include "rdram_shortest.h"
+#include "rdram_stamped.h"
 #include <stddef.h>
 #include <stdint.h>
 
@@ -123,7 +125,8 @@ enum rdram_refusal {
     RDRAM_REFUSED_LENGTH = 13,    /* not whole requests, records or blocks */
     RDRAM_REFUSED_INDEX = 14,     /* an index that differs from its log */
     RDRAM_REFUSED_UNRETIRED = 15, /* a close while a write waits */
-    RDRAM_REFUSED_OVERLAP = 16    /* a data instant less than 4 after the newest */
+    RDRAM_REFUSED_OVERLAP = 16,   /* a data instant less than 4 after the newest */
+    RDRAM_REFUSED_STAMP = 17      /* a stamped block whose settings are wrong or differ */
 };
 
 typedef struct { uint32_t number; uint64_t word; } rdram_word;
@@ -137,16 +140,6 @@ typedef struct { uint32_t number; uint64_t word; } rdram_word;
 typedef struct {
     uint32_t number, command, bank, place, mask;
 } rdram_packet;
-
-typedef struct {
-    uint32_t number;
-    uint64_t place, count;
-} rdram_copied;
-
-typedef struct {
-    uint32_t number, rule;
-    uint64_t place;
-} rdram_judged;
 
 /* banks: how many banks a close looked at, the highest open bank + 1, 0 to 32; 0 for other kinds. */
 typedef struct {

@@ -2,7 +2,7 @@
 
 use crate::{raw, Refusal, Settings};
 
-fn indexed(answer: raw::Indexed) -> Result<usize, Refusal> {
+pub(crate) fn indexed(answer: raw::Indexed) -> Result<usize, Refusal> {
     match answer.number {
         0 => Ok(answer.count as usize),
         number => Err(Refusal::of_index(number, answer.rule, answer.place)),

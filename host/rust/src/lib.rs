@@ -27,7 +27,9 @@ pub mod raw;
 mod refusal;
 mod settings;
 mod shortest;
+mod stamped;
 
+use index::indexed;
 pub use index::{index_add, index_banks, index_check, index_make, index_query};
 pub use meter::Meter;
 pub use model::{Event, Model};
@@ -36,6 +38,7 @@ pub use planner::{Planned, PlannedAll, Planner, Request};
 pub use refusal::Refusal;
 pub use settings::{Core, Settings};
 pub use shortest::{shortest, ShortestRun};
+pub use stamped::{log_stamp, log_unstamp, stamped_check, stamped_decode, stamped_encode, stamped_index, stamped_query};
 
 /// Bytes of the settings.
 pub const SETTINGS_BYTES: usize = 32;
@@ -45,6 +48,8 @@ pub const RECORD_BYTES: usize = 32;
 pub const BLOCK_BYTES: usize = 512;
 /// Most records of a block.
 pub const BLOCK_RECORDS: usize = 15;
+/// Most records of a block that carries the settings.
+pub const STAMPED_RECORDS: usize = 14;
 /// Bytes of a request.
 pub const REQUEST_BYTES: usize = 24;
 /// Most records of a request under any core form; 16 where banks have neighbours.

@@ -145,6 +145,48 @@ extern "C" {
         list_len: usize,
     ) -> Copied;
 
+    pub fn rdram_stamped_encode(
+        settings: *const u8,
+        settings_len: usize,
+        list: *const u8,
+        list_len: usize,
+        log: *mut u8,
+        log_len: usize,
+    ) -> Copied;
+
+    pub fn rdram_stamped_decode(log: *const u8, log_len: usize, list: *mut u8, list_len: usize) -> Copied;
+
+    pub fn rdram_stamped_check(log: *const u8, log_len: usize) -> Judged;
+
+    pub fn rdram_stamped_index(
+        log: *const u8,
+        log_len: usize,
+        kept: usize,
+        index: *mut u8,
+        index_len: usize,
+    ) -> Indexed;
+
+    pub fn rdram_stamped_query(
+        log: *const u8,
+        log_len: usize,
+        index: *const u8,
+        index_len: usize,
+        bank: u32,
+        out: *mut u8,
+        out_len: usize,
+    ) -> Indexed;
+
+    pub fn rdram_log_stamp(
+        settings: *const u8,
+        settings_len: usize,
+        log: *const u8,
+        log_len: usize,
+        out: *mut u8,
+        out_len: usize,
+    ) -> Copied;
+
+    pub fn rdram_log_unstamp(log: *const u8, log_len: usize, out: *mut u8, out_len: usize) -> Copied;
+
     pub fn rdram_index_make(
         settings: *const u8,
         settings_len: usize,

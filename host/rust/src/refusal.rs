@@ -46,6 +46,9 @@ pub enum Refusal {
     Unretired,
     /// 16: an instant that is fed to a meter is less than 4 after the newest.
     Overlap,
+    /// 17: a block of a stamped log whose settings are out of range or differ from block 0's. `place` is the
+    /// first such block, from 0.
+    Stamp { place: u64 },
     /// A number that this crate does not know: crate and archive are of different versions.
     Other { number: u32 },
 }
@@ -70,6 +73,7 @@ impl Refusal {
             Refusal::Index { .. } => 14,
             Refusal::Unretired => 15,
             Refusal::Overlap => 16,
+            Refusal::Stamp { .. } => 17,
             Refusal::Other { number } => number,
         }
     }
@@ -78,7 +82,7 @@ impl Refusal {
     pub fn place(&self) -> Option<u64> {
         match *self {
             Refusal::Word { place } => place,
-            Refusal::Rule { place, .. } | Refusal::Block { place } | Refusal::Index { place } => Some(place),
+            Refusal::Rule { place, .. } | Refusal::Block { place } | Refusal::Index { place } | Refusal::Stamp { place } => Some(place),
             _ => None,
         }
     }
@@ -111,6 +115,7 @@ impl Refusal {
             10 => Refusal::Word { place: Some(place) },
             12 => Refusal::Block { place },
             13 => Refusal::Length,
+            17 => Refusal::Stamp { place },
             number => Refusal::Other { number },
         }
     }
@@ -278,6 +283,11 @@ impl fmt::Display for Refusal {
                 f,
                 "word {place} (from 0) of the index is wrong, missing or surplus; \
                  make the index of this log afresh"
+            ),
+            Refusal::Stamp { place } => write!(
+                f,
+                "the settings that block {place} (from 0) carries are out of range or differ from block 0's; \
+                 restore the log, or pass only the blocks before it"
             ),
             Refusal::Unretired => f.write_str(
                 "a write waits, and a close would lose it; send a flush first, then the close",

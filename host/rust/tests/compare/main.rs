@@ -36,6 +36,7 @@ mod rule_settings;
 mod rules;
 mod settings;
 mod shortest;
+mod stamped;
 mod state_bytes;
 mod tuned_model;
 mod tuned_plan;
