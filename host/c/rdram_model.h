@@ -76,8 +76,9 @@ uint32_t rdram_model_fresh(uint8_t *model, size_t model_len);
  * Refusals, in this order:
  *    1  settings: correct the settings bytes. Or model is not 792 bytes, or no state under these
  *       settings: a field is out of its range, another byte is not 0, two neighbours are both not
- *       closed, or the bank of a waiting write is not open by ACT. Pass the bytes that the last
- *       call left, with the same settings, or a fresh model.
+ *       closed, the bank of a waiting write is not open by ACT, or data are due with no write
+ *       waiting. Pass the bytes that the last call left, with the same settings, or a fresh
+ *       model.
  *    9  store_len is not rows x columns x 512: pass the whole store.
  *   13  record_len is not 32: pass one whole record.
  *   10  the record has no coding: correct it, or pass the settings under which it was written.
