@@ -119,7 +119,7 @@ fn right_state(s: Settings, planner: &[u8]) -> bool
 }
 
 // A call under settings that are accepted: 1 for the state, then 13.
-fn plan_all_under(
+pub fn plan_all_under(
     s: Settings,
     planner: &mut [u8],
     requests: &[u8],

@@ -1,2 +1,3 @@
-pub mod RoomLaws
-pub mod OutcomeLaws
+pub mod EnoughLaws
+pub mod TurnLaws
+pub mod StepLaws

@@ -1,8 +1,7 @@
 -- What each request of an input prints (document 01, "Bench runs").
 -- Assumes nothing.
-use Prim.Native.Nat.{ℕ, zero, suc, _+_, _*_}
-use mathlib.Core.List.{List, [], _++_}
-use lib.ListN.{length}
+use Prim.Native.Nat.{ℕ, zero, suc, _*_}
+use mathlib.Core.List.{List, [], _∷_, _++_}
 use Rattle.num.specs.Bytes.{part}
 use Rattle.settings.specs.Bench.{setH}
 use Rattle.record.specs.declared.Record.{Record}
@@ -12,8 +11,9 @@ use Rattle.spec_plan.specs.declared.PlannerState.{PlannerState}
 use Rattle.spec_plan.specs.declared.Outcome.{Outcome}
 use Rattle.spec_plan.specs.declared.Outcome.the-variants.{Refused, Made}
 use Rattle.spec_plan.specs.Planner.{freshPlanner}
-use Rattle.spec_plan.specs.Call.{planOutcome, planNext, planRecords}
-use Rattle.text.specs.Text.{mostRecords, requestRoom, recordLines, refusedLine}
+use Rattle.spec_plan.specs.Call.{planOutcome, planRecords}
+use Rattle.spec_plan.specs.Runs.{Call, plannerAfter, listed}
+use Rattle.text.specs.Text.{mostRecords, requestRoom, writeBankAfter, writeColumnAfter, recordLines, refusedLine}
 
 -- room for the records of any request (`spec_plan/proofs/Bound.antt`: `most`)
 abbrev pub roomBytes : ℕ
@@ -21,18 +21,14 @@ roomBytes = 32 * mostRecords
 
 -- ---- one request
 
--- the number of records that a call has made
-unfoldable pub madeCount : Outcome → ℕ
-madeCount (Refused why) = 0
-madeCount (Made n) = n
+-- what an answer prints with the records that the call has made, after others
+unfoldable pub outcomeText : List Record → Outcome → List Record → List ℕ
+outcomeText before (Refused why) l = refusedLine (answerOf why .number)
+outcomeText before (Made n) l = recordLines (writeBankAfter 0 before) (writeColumnAfter 0 before) l
 
-unfoldable pub outcomeText : Outcome → List Record → List ℕ
-outcomeText (Refused why) l = refusedLine (answerOf why .number)
-outcomeText (Made n) l = recordLines 0 0 l
-
--- what a request prints, of a planner
-unfoldable pub requestText : PlannerState → List ℕ → List ℕ
-requestText p request = outcomeText (planOutcome (contextOf setH) p request roomBytes) (planRecords (contextOf setH) p request roomBytes)
+-- what a request prints, of a planner and the records before it
+unfoldable pub requestText : List Record → PlannerState → List ℕ → List ℕ
+requestText before p request = outcomeText before (planOutcome (contextOf setH) p request roomBytes) (planRecords (contextOf setH) p request roomBytes)
 
 -- ---- a whole input
 
@@ -40,19 +36,22 @@ requestText p request = outcomeText (planOutcome (contextOf setH) p request room
 abbrev pub requestIn : List ℕ → ℕ → List ℕ
 requestIn input i = part input (24 * i) 24
 
--- the planner that request n is given to: "the next request follows"
-unfoldable pub plannerFor : List ℕ → ℕ → PlannerState
-plannerFor input zero = freshPlanner
-plannerFor input (suc n) = planNext (contextOf setH) (plannerFor input n) (requestIn input n) roomBytes
+-- the plan calls of the first n requests
+unfoldable pub callsUpTo : List ℕ → ℕ → List Call
+callsUpTo input zero = []
+callsUpTo input (suc n) = callsUpTo input n ++ (record { request = requestIn input n; room = roomBytes } ∷ [])
 
--- the number of records and the text of the first n requests
-unfoldable pub recordsListed : List ℕ → ℕ → ℕ
-recordsListed input zero = 0
-recordsListed input (suc n) = recordsListed input n + length (planRecords (contextOf setH) (plannerFor input n) (requestIn input n) roomBytes)
+-- the planner that request n is given to, "the next request follows", and the records before it
+abbrev pub plannerFor : List ℕ → ℕ → PlannerState
+plannerFor input n = plannerAfter (contextOf setH) freshPlanner (callsUpTo input n)
 
+abbrev pub recordsListed : List ℕ → ℕ → List Record
+recordsListed input n = listed (contextOf setH) freshPlanner (callsUpTo input n)
+
+-- the text of the first n requests
 unfoldable pub textUpTo : List ℕ → ℕ → List ℕ
 textUpTo input zero = []
-textUpTo input (suc n) = textUpTo input n ++ requestText (plannerFor input n) (requestIn input n)
+textUpTo input (suc n) = textUpTo input n ++ requestText (recordsListed input n) (plannerFor input n) (requestIn input n)
 
 -- "65,520 bytes (2,730 requests)": the longest input that is listed, and room for the text of its requests
 abbrev pub mostRequests : ℕ

@@ -6,7 +6,7 @@ ghost use lib.ListN.{length};
 ghost use Rattle.num.specs.Bytes.{part};
 ghost use Rattle.record.specs.Record.{recordRead};
 ghost use Rattle.spec_check.specs.Check.{known, recordsUpTo};
-ghost use Rattle.text.specs.Text.{Put, lineRoom, rowLine, colLine, recordLine, mostRecords, requestRoom, writeBank, writeColumn, recordLines};
+ghost use Rattle.text.specs.Text.{Put, lineRoom, rowLine, colLine, recordLine, writeBank, writeColumn, writeBankAfter, writeColumnAfter, recordLines};
 ghost use Rattle.settings.specs.Bench.{setH};
 use packet::ColPacket;
 use packet::FULL;
@@ -44,9 +44,9 @@ pub fn set_h() -> Settings
 }
 
 // Bank and column of the latest WR or WRA.
-struct Latest {
-    bank: u32,
-    column: u32,
+pub struct Latest {
+    pub bank: u32,
+    pub column: u32,
 }
 
 // The latest WR or WRA after one more record.
@@ -135,13 +135,20 @@ fn record_at(s: Settings, b: &[u8], at: usize) -> Record
     }
 }
 
-// Puts the lines of the first n records of a buffer.
-pub fn put_lines(out: &mut [u8], at: usize, room: &[u8], n: usize) -> usize
-    requires { ⌜ (n ≤ mostRecords) × (32 * n ≤ length (now room)) × (at + requestRoom ≤ length (now out)) ⌝ }
-    ensures { λ r. ⌜ Put (now (out .entry)) at (recordLines 0 0 (recordsUpTo setH (now (room .entry)) n)) (now (out .exit)) r × (r ≤ at + requestRoom) ⌝ }
+// Where the lines of records end, and the latest WR or WRA after them.
+pub struct Lines {
+    pub end: usize,
+    pub latest: Latest,
+}
+
+// Puts the lines of the first n records of a buffer, which come after others.
+pub fn put_lines(out: &mut [u8], at: usize, room: &[u8], n: usize, before: Latest) -> Lines
+    requires { ⌜ (32 * n ≤ length (now room)) × (at + lineRoom * n ≤ length (now out)) ⌝ }
+    ensures { λ r. ⌜ Put (now (out .entry)) at (recordLines (before .bank) (before .column) (recordsUpTo setH (now (room .entry)) n)) (now (out .exit)) (r .end) × (r .end ≤ at + lineRoom * n) ⌝ }
+    ensures { λ r. ⌜ (r .latest .bank ≡ writeBankAfter (before .bank) (recordsUpTo setH (now (room .entry)) n)) × (r .latest .column ≡ writeColumnAfter (before .column) (recordsUpTo setH (now (room .entry)) n)) ⌝ }
 {
     let s = set_h();
-    let mut latest = Latest { bank: 0, column: 0 };
+    let mut latest = before;
     let mut end = at;
     let mut i = 0;
     while i < n {
@@ -150,5 +157,5 @@ pub fn put_lines(out: &mut [u8], at: usize, room: &[u8], n: usize) -> usize
         latest = latest_after(r, latest);
         i += 1;
     }
-    end
+    Lines { end, latest }
 }

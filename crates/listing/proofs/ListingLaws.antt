@@ -5,11 +5,11 @@ use mathlib.Core.Path.{_≡_, refl, ap}
 use mathlib.Core.Bool.{Bool, true, false}
 use mathlib.Core.List.{List}
 use native.Mathlib.Omega.{arith}
-use borrow.Author.Tests.{leb-true, leb-false, lt-leb}
+use borrow.Author.Tests.{leb-true, leb-false, lt-leb, eqb-true}
 use lib.Dec.{leb, eqb}
 use lib.ListN.{length, take}
 use lib.Seq.{take-all, length-take-le}
-use Rattle.spec_rules.proofs.Bools.{and-left}
+use Rattle.spec_rules.proofs.Bools.{and-left, and-right}
 use Rattle.text.specs.Text.{Put, refusedLine, recordsLine}
 use Rattle.entries.specs.Entries.{recordsListed, textUpTo, longestInput}
 use Rattle.listing.specs.Listing.{lengthRight, listing}
@@ -18,6 +18,10 @@ use Rattle.text.proofs.TextLaws.{put-then}
 pub length-fits : (n : ℕ) → lengthRight n ≡ true → n ≤ longestInput
 unfolding lengthRight
 length-fits n h = leb-true n longestInput (and-left (leb n longestInput) (eqb (n % 24) 0) h)
+
+pub length-whole : (n : ℕ) → lengthRight n ≡ true → n % 24 ≡ 0
+unfolding lengthRight
+length-whole n h = eqb-true (n % 24) 0 (and-right (leb n longestInput) (eqb (n % 24) 0) h)
 
 length-over : (n : ℕ) → longestInput < n → lengthRight n ≡ false
 unfolding lengthRight
@@ -38,7 +42,7 @@ pub listed-first : (l read input : List ℕ) (room : ℕ) {m : List ℕ} {end : 
 listed-first l read input room h r p = rw (← listing-first room input h, r) p
 
 pub listed : (l input : List ℕ) (records : ℕ) {m n : List ℕ} {at end : ℕ} → at ≤ length l → lengthRight (length input) ≡ true
-    → records ≡ recordsListed input (length input / 24) → Put l 0 (textUpTo input (length input / 24)) m at → Put m at (recordsLine records) n end → Put l 0 (listing input) n end
+    → records ≡ length (recordsListed input (length input / 24)) → Put l 0 (textUpTo input (length input / 24)) m at → Put m at (recordsLine records) n end → Put l 0 (listing input) n end
 unfolding listing
 listed l input records h r e p q = rw (r, ← e) (put-then l 0 (textUpTo input (length input / 24)) (recordsLine records) (omega (arith, p .0)) p q)
 

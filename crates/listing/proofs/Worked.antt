@@ -29,12 +29,13 @@ use Rattle.spec_rules.specs.Earliest.{placedAt, under, earliest, leastFrom}
 use Rattle.spec_plan.specs.Planner.{freshPlanner}
 use Rattle.spec_plan.specs.Plan.{slot, sent, flushed, flushedWhile, closed, closedUpTo, reached, plannedRead, loaded, written, plannedWrite, turned, plannedRefresh, plannedWait, plannedFlush, plannedClose, stepsOf, planned}
 use Rattle.spec_plan.specs.Call.{inTime, timely, outcomeOf, unretired, outcomeBy, planOutcome, isMade, draftBy, planNext, planRecords}
+use Rattle.spec_plan.specs.Runs.{plannerAfter, listed}
 use Rattle.spec_check.specs.declared.Judged.{Judged}
 use Rattle.spec_check.specs.declared.Judged.the-variants.{Passed, Refused}
 use Rattle.spec_check.specs.Check.{known, recordsUpTo, recordsOf, ruleAnswer, recordsAnswer, listAnswer}
-use Rattle.text.specs.Text.{codes, digit, decimalIn, hexFour, dash, maskText, line, rowLine, colLine, recordLine, recordLines, refusedLine, recordsLine}
+use Rattle.text.specs.Text.{codes, digit, decimalIn, hexFour, dash, maskText, line, rowLine, colLine, recordLine, writeBankAfter, writeColumnAfter, recordLines, refusedLine, recordsLine}
 use Rattle.settings.specs.Bench.{setOf, setH}
-use Rattle.entries.specs.Entries.{outcomeText, requestText, plannerFor, recordsListed, textUpTo}
+use Rattle.entries.specs.Entries.{outcomeText, requestText, callsUpTo, textUpTo}
 use Rattle.listing.specs.Listing.{lengthRight, listing}
 
 -- ---- requests of 24 bytes
@@ -121,5 +122,5 @@ results =
     ∷ []
 
 pub worked : runs ≡ results
-unfolding request read write readClose writeClose refresh wait flush close codes lines numbers early runs results bytes number allUpTo firstFalse deviceHead rowFields rowWord rowOf rowDecoded maskBit maskField colFields closeBit colWord maskSaid maskOf colOf colDecoded rowRecord colRecord recordOf recordRead isKnown wellFormed firstBad answerOf usesByte spareRight placed requestOf requestRead runOf inRuns contextOf rowTraits colTraits traits retireTraits impliedTraits instant isPacket bankBy bankAfter isClosed isOpen leaving loads waitingNext waitingAfter deeds events keeps bankCount distances longestDelay dueAfter ruleOf rules rule1 rule4 rule9 rule12 rule14 rule15 rule16 rule17 lowest lowestRule firstBroken fresh waitingOf bufferOf bankNext trackNext afterPacket trackRetired afterRetire trackImplied afterImplied afterData after maxUpTo bounds placedAt under earliest leastFrom freshPlanner slot sent flushed flushedWhile closed closedUpTo reached plannedRead loaded written plannedWrite turned plannedRefresh plannedWait plannedFlush plannedClose stepsOf planned inTime timely outcomeOf unretired outcomeBy planOutcome isMade draftBy planNext planRecords known recordsUpTo recordsOf ruleAnswer recordsAnswer listAnswer digit decimalIn hexFour dash maskText line rowLine colLine recordLine setOf setH recordLines refusedLine recordsLine outcomeText requestText plannerFor recordsListed textUpTo lengthRight listing
+unfolding request read write readClose writeClose refresh wait flush close codes lines numbers early runs results bytes number allUpTo firstFalse deviceHead rowFields rowWord rowOf rowDecoded maskBit maskField colFields closeBit colWord maskSaid maskOf colOf colDecoded rowRecord colRecord recordOf recordRead isKnown wellFormed firstBad answerOf usesByte spareRight placed requestOf requestRead runOf inRuns contextOf rowTraits colTraits traits retireTraits impliedTraits instant isPacket bankBy bankAfter isClosed isOpen leaving loads waitingNext waitingAfter deeds events keeps bankCount distances longestDelay dueAfter ruleOf rules rule1 rule4 rule9 rule12 rule14 rule15 rule16 rule17 lowest lowestRule firstBroken fresh waitingOf bufferOf bankNext trackNext afterPacket trackRetired afterRetire trackImplied afterImplied afterData after maxUpTo bounds placedAt under earliest leastFrom freshPlanner slot sent flushed flushedWhile closed closedUpTo reached plannedRead loaded written plannedWrite turned plannedRefresh plannedWait plannedFlush plannedClose stepsOf planned inTime timely outcomeOf unretired outcomeBy planOutcome isMade draftBy planNext planRecords known recordsUpTo recordsOf ruleAnswer recordsAnswer listAnswer digit decimalIn hexFour dash maskText line rowLine colLine recordLine setOf setH writeBankAfter writeColumnAfter recordLines refusedLine recordsLine plannerAfter listed outcomeText requestText callsUpTo textUpTo lengthRight listing
 worked = refl

@@ -17,7 +17,7 @@ lengthRight n = leb n longestInput && eqb (n % 24) 0
 unfoldable pub listing : List ℕ → List ℕ
 listing input =
     let n : ℕ = length input / 24 in
-    cond (lengthRight (length input)) (textUpTo input n ++ recordsLine (recordsListed input n)) (refusedLine 13 ++ recordsLine 0)
+    cond (lengthRight (length input)) (textUpTo input n ++ recordsLine (length (recordsListed input n))) (refusedLine 13 ++ recordsLine 0)
 
 -- room for the text of the most requests and for the last line
 abbrev pub listingRoom : ℕ

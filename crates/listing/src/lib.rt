@@ -6,7 +6,7 @@ ghost use mathlib.Core.List.{List};
 ghost use lib.ListN.{length, take};
 ghost use Rattle.text.specs.Text.{Put};
 ghost use Rattle.listing.specs.Listing.{lengthRight, listingRoom, listing};
-use entries::requests::put_requests;
+use entries::put_requests;
 use text::put_records;
 use text::put_refused;
 
@@ -51,7 +51,7 @@ fn print(text: &[u8], n: usize)
 }
 
 // Puts the listing of the first n bytes and prints it. The array's length is in its type, so nothing need be shown of
-// 3,145,024 zeros.
+// 2,795,584 zeros.
 fn print_listing(input: &[u8], n: usize, out: &mut [u8; ROOM]) -> usize
     requires { ⌜ n ≤ length (now input) ⌝ }
     ensures { λ r. ⌜ Put (now (out .entry)) 0 (listing (take n (now (input .entry)))) (now (out .exit)) r ⌝ }

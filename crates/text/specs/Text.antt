@@ -96,7 +96,7 @@ mostRecords = 16
 abbrev pub requestRoom : ℕ
 requestRoom = mostRecords * lineRoom
 
--- bank and column of the latest WR or WRA, for the line of its D
+-- bank and column of the latest WR or WRA, for the line of its D: after a record, and after a list of them
 abbrev pub writeBank : Record → ℕ → ℕ
 writeBank (ColAt t (Wr b c m close)) before = b
 writeBank (ColAt t (Nocop m)) before = before
@@ -111,7 +111,15 @@ writeColumn (ColAt t (Rd b c m close)) before = before
 writeColumn (RowAt t p) before = before
 writeColumn (DataOf t d) before = before
 
--- a line for each record
+unfoldable pub writeBankAfter : ℕ → List Record → ℕ
+writeBankAfter bank [] = bank
+writeBankAfter bank (r ∷ l) = writeBankAfter (writeBank r bank) l
+
+unfoldable pub writeColumnAfter : ℕ → List Record → ℕ
+writeColumnAfter column [] = column
+writeColumnAfter column (r ∷ l) = writeColumnAfter (writeColumn r column) l
+
+-- a line for each record, after others
 unfoldable pub recordLines : ℕ → ℕ → List Record → List ℕ
 recordLines bank column [] = []
 recordLines bank column (r ∷ l) = recordLine bank column r ++ recordLines (writeBank r bank) (writeColumn r column) l

@@ -12,17 +12,17 @@ use Rattle.settings.specs.declared.Settings.{Settings}
 use Rattle.record.specs.declared.Record.{Record}
 use Rattle.record.specs.Record.{recordRead}
 use Rattle.spec_check.specs.Check.{known, recordsUpTo}
-use Rattle.text.specs.Text.{Put, lineRoom, writeBank, writeColumn, recordLines}
+use Rattle.text.specs.Text.{Put, lineRoom, writeBank, writeColumn, writeBankAfter, writeColumnAfter, recordLines}
 use Rattle.settings.specs.Bench.{setH}
-use Rattle.text.proofs.LineLaws.{bankAfter, columnAfter, bank-next, column-next, line-next}
+use Rattle.text.proofs.LineLaws.{bank-next, column-next, line-next}
 use borrow.Author.Needs.{needs}
 use Rattle.lines.proofs.put_lines.Statement.{statement}
 use Rattle.lines.proofs.put_lines.Tie as tie
 
 abbrev Inv-loop : tie.InvT-loop
 Inv-loop out₀ at room n s latest₀ end₀ i₀ out latest end i =
-    (i ≤ n) × (latest .bank ≡ bankAfter 0 (recordsUpTo setH room i)) × (latest .column ≡ columnAfter 0 (recordsUpTo setH room i))
-    × Put out₀ at (recordLines 0 0 (recordsUpTo setH room i)) out end × (end ≤ at + lineRoom * i) × (length out ≡ length out₀)
+    (i ≤ n) × (latest .bank ≡ writeBankAfter (latest₀ .bank) (recordsUpTo setH room i)) × (latest .column ≡ writeColumnAfter (latest₀ .column) (recordsUpTo setH room i))
+    × Put out₀ at (recordLines (latest₀ .bank) (latest₀ .column) (recordsUpTo setH room i)) out end × (end ≤ at + lineRoom * i) × (length out ≡ length out₀)
 
 abbrev μ-loop : tie.MeasureT-loop
 μ-loop out₀ at room n s latest₀ end₀ i₀ out latest end i = n - i
@@ -36,7 +36,7 @@ set-h-requires : tie.Need-set-h-requires Inv-loop μ-loop
 set-h-requires c κs = search needs
 
 loop-holds : tie.Need-loop-holds Inv-loop μ-loop
-unfolding recordsUpTo recordLines bankAfter columnAfter
+unfolding recordsUpTo recordLines writeBankAfter writeColumnAfter
 loop-holds c = (omega arith, refl, refl, (sym (add-zero _), splice-none (c .before .before .before .args .out .now) (c .before .before .before .args .at)), omega arith, refl)
 
 mul-record-at : tie.Need-mul-record-at Inv-loop μ-loop
@@ -69,9 +69,9 @@ loop-again c =
     let old = recordsUpTo setH (a .room .now) (k .i) in
     rw e (
       omega arith,
-      h .0 ∙ ap (writeBank (g .record-at .result)) (k .inv .1) ∙ sym (bank-next 0 old (g .record-at .result)),
-      h .1 ∙ ap (writeColumn (g .record-at .result)) (k .inv .2) ∙ sym (column-next 0 old (g .record-at .result)),
-      line-next (a .out .now) (a .at) old (g .record-at .result) (k .latest .bank) (k .latest .column) (omega (arith, k .inv .4)) (k .inv .1) (k .inv .2) (k .inv .3) (p .put-record-line .ensures .0),
+      h .0 ∙ ap (writeBank (g .record-at .result)) (k .inv .1) ∙ sym (bank-next (a .before .bank) old (g .record-at .result)),
+      h .1 ∙ ap (writeColumn (g .record-at .result)) (k .inv .2) ∙ sym (column-next (a .before .column) old (g .record-at .result)),
+      line-next (a .out .now) (a .at) (a .before .bank) (a .before .column) old (g .record-at .result) (k .latest .bank) (k .latest .column) (omega (arith, k .inv .4)) (k .inv .1) (k .inv .2) (k .inv .3) (p .put-record-line .ensures .0),
       omega (arith, k .inv .4, p .put-record-line .ensures .1),
       p .put-record-line .kept .0 ∙ k .inv .5,
     )
@@ -82,7 +82,7 @@ same-length c = c .before .loop .inv .5
 returns : tie.Need-returns Inv-loop μ-loop
 returns c =
     let e : c .before .loop .i ≡ c .before .before .before .before .before .args .n = omega (arith, c .before .loop .inv .0) in
-    (rw e at (c .before .loop .inv .3), omega (arith, c .before .loop .inv .4))
+    ((rw e at (c .before .loop .inv .3), omega (arith, e, c .before .loop .inv .4)), (rw e at (c .before .loop .inv .1), rw e at (c .before .loop .inv .2)))
 
 pub put-lines-spec : {M : Type 1} → statement M
 put-lines-spec =

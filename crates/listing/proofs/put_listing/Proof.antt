@@ -2,7 +2,7 @@
 use mathlib.Core.Path.{sym, _∙_}
 use native.Mathlib.Omega.{arith}
 use lib.ListN.{length}
-use Rattle.listing.proofs.ListingLaws.{length-fits, listed, turned-back}
+use Rattle.listing.proofs.ListingLaws.{length-fits, length-whole, listed, turned-back}
 use borrow.Author.Needs.{needs}
 use Rattle.listing.proofs.put_listing.Statement.{statement}
 use Rattle.listing.proofs.put_listing.Tie as tie
@@ -12,8 +12,9 @@ length-right-requires c κs = search needs
 
 put-requests-requires : tie.Need-put-requests-requires
 put-requests-requires c κs =
-    let h = length-fits (length (c .before .before .before .before .before .args .input .now)) (sym (c .before .before .length-right .ensures) ∙ c .before .if1 .taken) in
-    (h, omega arith)
+    let n = length (c .before .before .before .before .before .args .input .now) in
+    let right = sym (c .before .before .length-right .ensures) ∙ c .before .if1 .taken in
+    (length-fits n right, length-whole n right, omega arith)
 
 put-records-requires : tie.Need-put-records-requires
 put-records-requires c κs = search needs
