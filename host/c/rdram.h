@@ -25,6 +25,7 @@
 #include "rdram_settings.h"
 #include "rdram_shortest.h"
 #include "rdram_stamped.h"
+#include "rdram_version.h"
 #include <stddef.h>
 #include <stdint.h>
 

@@ -8,4 +8,5 @@ pub mod pages;
 pub mod plans;
 pub mod shortest;
 pub mod stamped;
+pub mod versions;
 pub mod words;

@@ -28,6 +28,7 @@ mod refusal;
 mod settings;
 mod shortest;
 mod stamped;
+mod version;
 
 use index::indexed;
 pub use index::{index_add, index_banks, index_check, index_make, index_query};
@@ -39,6 +40,7 @@ pub use refusal::Refusal;
 pub use settings::{Core, Settings};
 pub use shortest::{shortest, ShortestRun};
 pub use stamped::{log_stamp, log_unstamp, stamped_check, stamped_decode, stamped_encode, stamped_index, stamped_query};
+pub use version::{version, Version, VERSION};
 
 /// Bytes of the settings.
 pub const SETTINGS_BYTES: usize = 32;

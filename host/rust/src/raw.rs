@@ -306,4 +306,6 @@ extern "C" {
     pub fn rdram_meter_count(meter: Meter) -> Counted;
 
     pub fn rdram_meter_share(meter: Meter) -> Shared;
+
+    pub fn rdram_version() -> u32;
 }

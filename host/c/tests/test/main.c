@@ -29,5 +29,6 @@ int main(void)
     test_any_instant();
     test_order();
     test_other_settings();
+    test_constants();
     return report();
 }

@@ -54,4 +54,7 @@ void test_bad_records(void);
 void test_order(void);
 void test_other_settings(void);
 
+/* constants.c */
+void test_constants(void);
+
 #endif

@@ -26,19 +26,22 @@ static void draw_log(size_t count, unsigned device) {
     memset(index_of, 0, sizeof index_of);
     for (size_t i = 0; i < count; i++) {
         uint8_t *record = list + i * RECORD;
+        /* one draw a line: the order in which arguments are computed is the compiler's */
         unsigned bank = draw(32), kind = draw(6);
+        uint32_t at = draw(1000000);
+        unsigned command = draw(4), place = draw(2), column = draw(4);
+        unsigned mask = draw(0xFFFF), masked = draw(2);
         uint32_t word = (uint32_t)get(index_of + i / 15 * WORD, WORD);
         if (kind < 2) {
-            unsigned command = draw(4);
-            put_packet(record, draw(1000000), 0, row_word(device, bank, commands[command], command ? 0 : draw(2)));
+            put_packet(record, at, 0, row_word(device, bank, commands[command], command ? 0 : place));
             word |= 1u << bank;
         } else if (kind < 4) {
-            put_packet(record, draw(1000000), 1, col_word(device, bank, RDRAM_WR + draw(4), draw(4), draw(2) ? FULL : draw(0xFFFF)));
+            put_packet(record, at, 1, col_word(device, bank, RDRAM_WR + command, column, masked ? mask : FULL));
             word |= 1u << bank;
         } else if (kind == 4) {
-            put_packet(record, draw(1000000), 1, col_word(device, 0, RDRAM_NOCOP, 0, draw(2) ? FULL : draw(0xFFFF)));
+            put_packet(record, at, 1, col_word(device, 0, RDRAM_NOCOP, 0, masked ? mask : FULL));
         } else {
-            put(record, draw(1000000), 4);
+            put(record, at, 4);
             record[4] = 2;
             put(record + 16, draw(1 << 20), 8);
         }
@@ -88,7 +91,8 @@ static void added(void) {
         check(is(add(kept, sizeof index_out), 0, 0, blocks) && !memcmp(index_out, index_of, blocks * WORD), "%zu words kept of %zu", kept, blocks);
         if (kept > 0) {
             size_t wrong = draw((unsigned)kept);
-            index_out[wrong * WORD + draw(4)] ^= (uint8_t)(1u << draw(8));
+            unsigned byte = draw(4);
+            index_out[wrong * WORD + byte] ^= (uint8_t)(1u << draw(8));
             KEEP(index_out);
             check(is(add(kept, sizeof index_out), 14, wrong, 0) && STAYS(index_out), "word %zu wrong of %zu kept", wrong, kept);
         }
@@ -134,7 +138,8 @@ static void differs(void) {
     check(is(query(other, (blocks - 1) * WORD, 0, sizeof out), 14, blocks - 1, 0) && STAYS(out), "the last word missing");
     check(is(judge(other, (blocks - 1) * WORD), 14, blocks - 1, 0), "checked: the last word missing");
     size_t wrong = draw((unsigned)blocks);
-    other[wrong * WORD + draw(4)] ^= (uint8_t)(1u << draw(8));
+    unsigned byte = draw(4);
+    other[wrong * WORD + byte] ^= (uint8_t)(1u << draw(8));
     check(is(query(other, blocks * WORD, 0, sizeof out), 14, wrong, 0) && STAYS(out), "word %zu wrong", wrong);
     check(is(judge(other, blocks * WORD), 14, wrong, 0), "checked: word %zu wrong", wrong);
 }

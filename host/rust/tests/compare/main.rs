@@ -5,6 +5,7 @@
 mod buffers;
 mod calls;
 mod closing;
+mod constants;
 mod core_forms;
 mod flat_memory;
 mod hand_lists;
