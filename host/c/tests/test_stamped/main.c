@@ -9,8 +9,7 @@ enum { MOST = 45, STAMPED = RDRAM_STAMPED_RECORDS, BLOCKS = 5 };
 
 static uint8_t list[MOST * RECORD], wanted[BLOCKS * BLOCK], old[BLOCKS * BLOCK];
 static uint8_t out[BLOCKS * BLOCK + 9], out_before[BLOCKS * BLOCK + 9], damaged[BLOCKS * BLOCK];
-static uint8_t records_out[MOST * RECORD + 9], records_out_before[MOST * RECORD + 9];
-static uint8_t index_out[4 * BLOCKS + 3], index_out_before[4 * BLOCKS + 3];
+static uint8_t records_out[MOST * RECORD + 9], index_out[4 * BLOCKS + 3];
 
 /* Reads of bank i modulo 4 would break rules; ACTs and PRERs of four banks in turn, far apart, do not. */
 static void make_list(size_t records) {
