@@ -17,6 +17,7 @@
 #ifndef RDRAM_H
 #define RDRAM_H
 
+#include "rdram_answers.h"
 #include "rdram_index.h"
 #include "rdram_meter.h"
 #include "rdram_model.h"

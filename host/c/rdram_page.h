@@ -4,6 +4,7 @@
 #ifndef RDRAM_PAGE_H
 #define RDRAM_PAGE_H
 
+#include "rdram_answers.h"
 #include <stddef.h>
 #include <stdint.h>
 
@@ -26,11 +27,6 @@ extern "C" {
 #define RDRAM_PAGE_LINE_BYTES 73
 #define RDRAM_PAGE_BYTES (4 * RDRAM_PAGE_LINE_BYTES)
 
-typedef struct {
-    uint32_t number, rule;
-    uint64_t place;
-} rdram_paged;
-
 /*
  * Draws the page of a list from cycle `start` on at the start of room; the bytes of room after its 292
  * are unchanged. Where the list passes rdram_check no two of its packets, and no two of its data,
@@ -43,8 +39,8 @@ typedef struct {
  *   10, 11  as in rdram_check: only a list that passes is drawn.
  *    8  room_len is below 292: pass RDRAM_PAGE_BYTES bytes.
  */
-rdram_paged rdram_page(const uint8_t *settings, size_t settings_len, const uint8_t *list,
-                       size_t list_len, uint32_t start, uint8_t *room, size_t room_len);
+rdram_judged rdram_page(const uint8_t *settings, size_t settings_len, const uint8_t *list,
+                        size_t list_len, uint32_t start, uint8_t *room, size_t room_len);
 
 #ifdef __cplusplus
 }

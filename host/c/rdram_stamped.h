@@ -4,6 +4,7 @@
 #ifndef RDRAM_STAMPED_H
 #define RDRAM_STAMPED_H
 
+#include "rdram_answers.h"
 #include "rdram_index.h"
 #include <stddef.h>
 #include <stdint.h>
@@ -24,16 +25,6 @@ extern "C" {
  */
 #define RDRAM_STAMPED_RECORDS 14
 #define RDRAM_STAMP_OFFSET 448
-
-typedef struct {
-    uint32_t number;
-    uint64_t place, count;
-} rdram_copied;
-
-typedef struct {
-    uint32_t number, rule;
-    uint64_t place;
-} rdram_judged;
 
 /*
  * Packs a list of records into a stamped log; the settings are written to every block. A list of n

@@ -55,7 +55,7 @@ int main(int count, char **words)
         fprintf(stderr, "draw_page START < REQUESTS\n");
         return 2;
     }
-    rdram_paged paged = rdram_page(SET_H, sizeof SET_H, list, length, (uint32_t)start, page, sizeof page);
+    rdram_judged paged = rdram_page(SET_H, sizeof SET_H, list, length, (uint32_t)start, page, sizeof page);
     if (paged.number != RDRAM_OK) {
         fprintf(stderr, "no page: refusal %" PRIu32 "\n", paged.number);
         return 1;

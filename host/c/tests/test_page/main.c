@@ -81,20 +81,20 @@ static void plan(unsigned requests, uint32_t wait) {
     }
 }
 
-static rdram_paged page(size_t length, uint32_t start, size_t size) {
+static rdram_judged page(size_t length, uint32_t start, size_t size) {
     fill(room, sizeof room);
     KEEP(room);
     return rdram_page(settings, sizeof settings, list, length, start, room, size);
 }
 
-static int is(rdram_paged a, uint32_t number, uint32_t rule, uint64_t place) {
+static int is(rdram_judged a, uint32_t number, uint32_t rule, uint64_t place) {
     return a.number == number && a.rule == rule && a.place == place;
 }
 
 /* A page at this start is the one of here, and the bytes after it stay. */
 static void drawn_at(uint32_t start, unsigned cac) {
     int apart = want(start, cac);
-    rdram_paged a = page(records * RECORD, start, sizeof room);
+    rdram_judged a = page(records * RECORD, start, sizeof room);
     check(is(a, 0, 0, 0) && apart && !memcmp(room, wanted, PAGE) && !memcmp(room + PAGE, room_before + PAGE, sizeof room - PAGE),
           "page of %zu records at %" PRIu32 "\n%.*s", records, start, PAGE, (const char *)room);
 }
