@@ -24,7 +24,7 @@ use Rattle.index_words.specs.form.Fields.{fieldsWord}
 use Rattle.index_make.proofs.MakeLaws.{Passed as Made, pick, pick-same, wrong-said}
 use Rattle.log_stamp.specs.Stamp.{firstBadStamp, settingsOf, rightStamped}
 use Rattle.log_stamp.proofs.StampLaws.{fourteen, Passed}
-use Rattle.calls_stamp.specs.Results.{addAnswer, queryAnswer}
+use Rattle.calls_stamp.specs.Results.{stampedIndexAnswer, stampedQueryAnswer}
 
 -- as the laws of the index ask it
 pub made : (log : List ℕ) → Passed log → Made 14 (settingsOf log) log
@@ -42,8 +42,8 @@ pub record Added (log : List ℕ) (kept : ℕ) (index : List ℕ) : Type 0 where
   pub same : firstWrong (settingsOf log) log index kept ≡ kept
   pub room-enough : 4 * blocksIn log ≤ length index
 
-pub added : (log : List ℕ) (kept : ℕ) (index : List ℕ) (n : ℕ) → addAnswer log kept index ≡ Count n → Added log kept index
-unfolding addAnswer
+pub added : (log : List ℕ) (kept : ℕ) (index : List ℕ) (n : ℕ) → stampedIndexAnswer log kept index ≡ Count n → Added log kept index
+unfolding stampedIndexAnswer
 added log kept index n e =
     let a = pick (eqb (length log % 512) 0) _ Length n e in
     let b = pick-stamped log (λ s. indexRight s log index kept (countOrFull (blocksIn log) (length index))) n (a .1) in
@@ -56,8 +56,8 @@ pub record Queried (log index : List ℕ) (bank room : ℕ) : Type 0 where
   pub bank-right : bank < 32
   pub room-enough : 4 * countUpTo (hasBit index bank) (indexWords index) ≤ room
 
-pub query-passed : (log index : List ℕ) (bank room n : ℕ) → queryAnswer log index bank room ≡ Count n → Queried log index bank room
-unfolding queryAnswer
+pub query-passed : (log index : List ℕ) (bank room n : ℕ) → stampedQueryAnswer log index bank room ≡ Count n → Queried log index bank room
+unfolding stampedQueryAnswer
 query-passed log index bank room n e =
     let many : ℕ = countUpTo (hasBit index bank) (indexWords index) in
     let a = pick (eqb (length log % 512) 0) _ Length n e in

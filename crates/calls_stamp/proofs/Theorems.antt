@@ -39,11 +39,11 @@ use Rattle.spec_calls.specs.Checks.{checkAnswer, checkCall}
 use Rattle.spec_calls.specs.Logs.{copyAnswer, CopyResult, copyBy, copyCall}
 use Rattle.spec_calls.specs.RoundTrip.{blocksWritten, recordsWritten, Counts}
 use Rattle.log_stamp.specs.Stamp.{stampAt, settingsOf}
-use Rattle.log_stamp.specs.Copy.{decodeAnswer, stampAnswer, unstampAnswer}
+use Rattle.log_stamp.specs.Copy.{stampedDecodeAnswer, stampAnswer, unstampAnswer}
 use Rattle.log_stamp.proofs.StampLaws.{fourteen, right-next}
 use Rattle.log_stamp.proofs.CopyLaws.{Stamped, stamped, unstamped, decoded}
 use Rattle.calls_index.specs.Results.{indexAnswer, indexBy}
-use Rattle.calls_stamp.specs.Results.{stampedEncodeCall, stampedDecodeCall, stampCall, unstampCall, stampedAnswer, stampedCheckCall, addAnswer, stampedIndexCall}
+use Rattle.calls_stamp.specs.Results.{stampedEncodeCall, stampedDecodeCall, stampCall, unstampCall, stampedAnswer, stampedCheckCall, stampedIndexAnswer, stampedIndexCall}
 use Rattle.calls_stamp.specs.Theorems.{Carries, StampedCalls}
 use Rattle.calls_stamp.proofs.TripLaws.{fifteen, accepted-is, made-settings, made-list, made-passed, made-whole, decodes, moves-back, moved-back, made-again, encodes, moves-again, moved-again}
 
@@ -115,7 +115,7 @@ unstamped-blocks log out n e =
     let l = log-length 15 [] (omega arith) refl (listOf log) in
     written (logOf 15 [] (listOf log)) out 512 n _ e (l ∙ ap (λ (x : ℕ). 512 * x) (sym c))
 
-decoded-records : (log list : List ℕ) (n : ℕ) → decodeAnswer log (length list) ≡ copied.Count n → recordsWritten (stampedDecodeCall log list) ≡ listOf log
+decoded-records : (log list : List ℕ) (n : ℕ) → stampedDecodeAnswer log (length list) ≡ copied.Count n → recordsWritten (stampedDecodeCall log list) ≡ listOf log
 unfolding recordsWritten stampedDecodeCall
 decoded-records log list n e =
     let d = decoded log (length list) n e in
@@ -185,7 +185,7 @@ stamped-calls =
             decoded-records (logOf 14 settings list) room (recordsIn list) d ∙ made-list settings (u .s) (u .says) list (t .whole),
           );
       log-back = λ settings log list room s says carries w e h.
-          let c = counted (decodeAnswer log (length list)) e in
+          let c = counted (stampedDecodeAnswer log (length list)) e in
           let k = decoded log (length list) (c .n) (c .is) in
           let t = encodes settings s says log carries w (k .whole) (k .passed) (length room) h in
           rw (decoded-records log list (c .n) (c .is)) (
@@ -223,6 +223,6 @@ stamped-calls =
           let w = list-whole 15 fifteen log (stamped (u .s) log (length out) (u .made .n) (u .made .is) .right) in
           let new : List ℕ = logOf 14 settings (listOf log) in
           rw b
-          (index-lent (addAnswer new 0 index) (indexOf (settingsOf new) new) index (rw b at i)
+          (index-lent (stampedIndexAnswer new 0 index) (indexOf (settingsOf new) new) index (rw b at i)
           ∙ ap (splice index 0) (moved-index settings log s says w (blocksIn new) refl));
     }

@@ -22,7 +22,7 @@ use Rattle.log.specs.declared.Copied.{Copied}
 use Rattle.log.specs.declared.Copied.the-variants as copied
 use Rattle.log.specs.Log.{encodeAnswer, blocksOrFull, recordsOrFull}
 use Rattle.log_stamp.specs.Stamp.{stampAt, settingsOf}
-use Rattle.log_stamp.specs.Copy.{decodeAnswer, stampAnswer, unstampAnswer}
+use Rattle.log_stamp.specs.Copy.{stampedDecodeAnswer, stampAnswer, unstampAnswer}
 use Rattle.log_stamp.proofs.StampLaws.{fourteen, Passed, made-right, stamps-same, right-next}
 use Rattle.calls_stamp.specs.Theorems.{Carries}
 
@@ -78,8 +78,8 @@ module _ (st : List ℕ) (s : Settings) (says : settingsRead st ≡ Accepted s) 
 
   -- it is decoded to its list
   pub decodes : firstBad s l ≡ recordsIn l → blockCount 14 (recordsIn l) ≤ 2 ^ 32 → (room : ℕ) → length l ≤ room
-      → decodeAnswer (logOf 14 st l) room ≡ copied.Count (recordsIn l)
-  unfolding decodeAnswer
+      → stampedDecodeAnswer (logOf 14 st l) room ≡ copied.Count (recordsIn l)
+  unfolding stampedDecodeAnswer
   decodes good few room h =
       rw (
         eq-eqb _ 0 made-whole,

@@ -10,7 +10,7 @@ use Rattle.blocks.specs.Block.{logOf, blocksIn, listOf}
 use Rattle.log.specs.Log.{encodeAnswer}
 use Rattle.log_right.specs.Right.{wholeIn}
 use Rattle.log_stamp.specs.Stamp.{settingsOf, rightStamped}
-use Rattle.log_stamp.specs.Copy.{decodeAnswer, stampAnswer, unstampAnswer}
+use Rattle.log_stamp.specs.Copy.{stampedDecodeAnswer, stampAnswer, unstampAnswer}
 use Rattle.marks.specs.Marks.{countUpTo}
 use Rattle.log_index.specs.declared.Indexed.{Indexed}
 use Rattle.log_index.specs.declared.Indexed.the-variants as indexed
@@ -34,7 +34,7 @@ stampedEncodeCall settings list log = copyCall (logOf 14 settings list) log (λ 
 
 -- rdram_stamped_decode: 13, 12, 17, 10, 8
 unfoldable pub stampedDecodeCall : List ℕ → List ℕ → CopyResult
-stampedDecodeCall log list = copyBy (listOf log) list (decodeAnswer log (length list))
+stampedDecodeCall log list = copyBy (listOf log) list (stampedDecodeAnswer log (length list))
 
 -- rdram_log_stamp, "Old logs are moved to the new form with settings given": 1, then 13, 12, 10, 8
 unfoldable pub stampCall : List ℕ → List ℕ → List ℕ → CopyResult
@@ -57,18 +57,18 @@ stampedCheckCall log = checkAnswer (stampedAnswer log)
 -- ---- the index
 
 -- the index of a log into a lent buffer whose first `kept` words are there already and stay: 13, 12, 17, 10, 14 of those words, 8
-unfoldable pub addAnswer : List ℕ → ℕ → List ℕ → Indexed
-addAnswer log kept index =
+unfoldable pub stampedIndexAnswer : List ℕ → ℕ → List ℕ → Indexed
+stampedIndexAnswer log kept index =
     wholeIn indexed.Refused 512 log
     (rightStamped indexed.Refused log (λ s. indexRight s log index kept (countOrFull (blocksIn log) (length index))))
 
 -- rdram_stamped_index
 unfoldable pub stampedIndexCall : List ℕ → ℕ → List ℕ → IndexResult
-stampedIndexCall log kept index = indexBy index (addAnswer log kept index) (indexOf (settingsOf log) log)
+stampedIndexCall log kept index = indexBy index (stampedIndexAnswer log kept index) (indexOf (settingsOf log) log)
 
 -- a query into so many bytes: 13 (log, then index), 4, 12, 17, 10, 14, 8
-unfoldable pub queryAnswer : List ℕ → List ℕ → ℕ → ℕ → Indexed
-queryAnswer log index bank room =
+unfoldable pub stampedQueryAnswer : List ℕ → List ℕ → ℕ → ℕ → Indexed
+stampedQueryAnswer log index bank room =
     wholeIn indexed.Refused 512 log
     (wholeIn indexed.Refused 4 index
     (cond (ltb bank 32)
@@ -78,4 +78,4 @@ queryAnswer log index bank room =
 
 -- rdram_stamped_query
 unfoldable pub stampedQueryCall : List ℕ → List ℕ → ℕ → List ℕ → IndexResult
-stampedQueryCall log index bank out = indexBy out (queryAnswer log index bank (length out)) (queried index bank)
+stampedQueryCall log index bank out = indexBy out (stampedQueryAnswer log index bank (length out)) (queried index bank)

@@ -13,7 +13,7 @@ ghost use Rattle.log_index.specs.Query.{hasBit, queried};
 ghost use Rattle.log_index.specs.Answers.{lentAfter, countOrFull};
 ghost use Rattle.index_words.specs.form.Fields.{fieldsWord};
 ghost use Rattle.log_stamp.specs.Stamp.{settingsOf};
-ghost use Rattle.calls_stamp.specs.Results.{addAnswer, stampedIndexCall, queryAnswer, stampedQueryCall};
+ghost use Rattle.calls_stamp.specs.Results.{stampedIndexAnswer, stampedIndexCall, stampedQueryAnswer, stampedQueryCall};
 use calls_index::IndexAnswer;
 use calls_index::index_answer;
 use log_index::Indexed;
@@ -23,7 +23,7 @@ use record::Refusal;
 
 // What making the index of a stamped log into a buffer answers, of which the first `kept` words are there already.
 fn add_answer(log: &[u8], kept: usize, index: &[u8]) -> Indexed
-    ensures { λ r. ⌜ r ≡ addAnswer (now (log .entry)) kept (now (index .entry)) ⌝ }
+    ensures { λ r. ⌜ r ≡ stampedIndexAnswer (now (log .entry)) kept (now (index .entry)) ⌝ }
 {
     if log.len() % 512 != 0 {
         return Indexed::Refused(Refusal::Length);
@@ -36,7 +36,7 @@ fn add_answer(log: &[u8], kept: usize, index: &[u8]) -> Indexed
 
 // Makes the index of a stamped log at the start of a buffer of which the first `kept` words are there already, and stay.
 fn add(log: &[u8], kept: usize, index: &mut [u8]) -> Indexed
-    ensures { λ r. ⌜ (r ≡ addAnswer (now (log .entry)) kept (now (index .entry))) × (now (index .exit) ≡ lentAfter (addAnswer (now (log .entry)) kept (now (index .entry))) (indexOf (settingsOf (now (log .entry))) (now (log .entry))) (now (index .entry))) ⌝ }
+    ensures { λ r. ⌜ (r ≡ stampedIndexAnswer (now (log .entry)) kept (now (index .entry))) × (now (index .exit) ≡ lentAfter (stampedIndexAnswer (now (log .entry)) kept (now (index .entry))) (indexOf (settingsOf (now (log .entry))) (now (log .entry))) (now (index .entry))) ⌝ }
 {
     let answer = add_answer(log, kept, index);
     match answer {
@@ -70,7 +70,7 @@ fn query_beside(log: &[u8], index: &[u8], bank: u32, room: usize) -> Indexed
 
 // What a query into so many bytes answers.
 fn query_answer(log: &[u8], index: &[u8], bank: u32, room: usize) -> Indexed
-    ensures { λ r. ⌜ r ≡ queryAnswer (now (log .entry)) (now (index .entry)) bank room ⌝ }
+    ensures { λ r. ⌜ r ≡ stampedQueryAnswer (now (log .entry)) (now (index .entry)) bank room ⌝ }
 {
     if log.len() % 512 != 0 {
         return Indexed::Refused(Refusal::Length);
@@ -89,7 +89,7 @@ fn query_answer(log: &[u8], index: &[u8], bank: u32, room: usize) -> Indexed
 
 // Lists the numbers of the blocks of a stamped log that touch a bank at the start of a buffer.
 fn query(log: &[u8], index: &[u8], bank: u32, out: &mut [u8]) -> Indexed
-    ensures { λ r. ⌜ (r ≡ queryAnswer (now (log .entry)) (now (index .entry)) bank (length (now (out .entry)))) × (now (out .exit) ≡ lentAfter (queryAnswer (now (log .entry)) (now (index .entry)) bank (length (now (out .entry)))) (queried (now (index .entry)) bank) (now (out .entry))) ⌝ }
+    ensures { λ r. ⌜ (r ≡ stampedQueryAnswer (now (log .entry)) (now (index .entry)) bank (length (now (out .entry)))) × (now (out .exit) ≡ lentAfter (stampedQueryAnswer (now (log .entry)) (now (index .entry)) bank (length (now (out .entry)))) (queried (now (index .entry)) bank) (now (out .entry))) ⌝ }
 {
     let answer = query_answer(log, index, bank, out.len());
     match answer {

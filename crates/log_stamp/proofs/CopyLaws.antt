@@ -18,7 +18,7 @@ use Rattle.log.specs.declared.Copied.the-variants.{Refused, Count}
 use Rattle.log.specs.Log.{blocksFit, blocksOrFull, recordsOrFull}
 use Rattle.log_right.specs.Right.{rightLog}
 use Rattle.log_stamp.specs.Stamp.{firstBadStamp, settingsOf, rightStamped}
-use Rattle.log_stamp.specs.Copy.{decodeAnswer, stampAnswer, unstampAnswer}
+use Rattle.log_stamp.specs.Copy.{stampedDecodeAnswer, stampAnswer, unstampAnswer}
 use Rattle.log_stamp.proofs.StampLaws.{Passed}
 
 -- an accepted call passed each test on its way
@@ -91,8 +91,8 @@ pub record Decoded (log : List ℕ) (room n : ℕ) : Type 0 where
   pub room-enough : 32 * recordsIn (listOf log) ≤ room
   pub count-is : n ≡ recordsIn (listOf log)
 
-pub decoded : (log : List ℕ) (room n : ℕ) → decodeAnswer log room ≡ Count n → Decoded log room n
-unfolding decodeAnswer
+pub decoded : (log : List ℕ) (room n : ℕ) → stampedDecodeAnswer log room ≡ Count n → Decoded log room n
+unfolding stampedDecodeAnswer
 decoded log room n e =
     let a = pick (eqb (length log % 512) 0) _ Length n e in
     let b = pick-stamped log (recordsOrFull (listOf log) room) n (a .1) in

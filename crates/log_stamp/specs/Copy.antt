@@ -12,8 +12,8 @@ use Rattle.log_right.specs.Right.{wholeIn, rightLog}
 use Rattle.log_stamp.specs.Stamp.{rightStamped}
 
 -- a stamped log to a list with room for so many bytes: 13, 12, 17, 10, 8
-unfoldable pub decodeAnswer : List ℕ → ℕ → Copied
-decodeAnswer log room = wholeIn Refused 512 log (rightStamped Refused log (λ s. recordsOrFull (listOf log) room))
+unfoldable pub stampedDecodeAnswer : List ℕ → ℕ → Copied
+stampedDecodeAnswer log room = wholeIn Refused 512 log (rightStamped Refused log (λ s. recordsOrFull (listOf log) room))
 
 -- "Old logs are moved to the new form with settings given": 13, 12, 10, 8. "Moving does not test 11; a log that would need a block
 -- number past 32 bits falls under 8."

@@ -9,7 +9,7 @@ ghost use Rattle.blocks.specs.Block.{logOf, listOf};
 ghost use Rattle.record.specs.declared.Refusal.the-variants.{Full};
 ghost use Rattle.log.specs.declared.Copied.the-variants.{Refused, Count};
 ghost use Rattle.log.specs.Log.{copied};
-ghost use Rattle.log_stamp.specs.Copy.{decodeAnswer, stampAnswer, unstampAnswer};
+ghost use Rattle.log_stamp.specs.Copy.{stampedDecodeAnswer, stampAnswer, unstampAnswer};
 use crate::Judgement;
 use crate::tested;
 use log::Copied;
@@ -29,7 +29,7 @@ fn records_or_full(n: usize, room: usize) -> Copied
 
 // What decoding a stamped log into so many bytes answers.
 fn decode_answer(log: &[u8], room: usize) -> Copied
-    ensures { λ r. ⌜ r ≡ decodeAnswer (now (log .entry)) room ⌝ }
+    ensures { λ r. ⌜ r ≡ stampedDecodeAnswer (now (log .entry)) room ⌝ }
 {
     if log.len() % 512 != 0 {
         return Copied::Refused(Refusal::Length);
@@ -42,7 +42,7 @@ fn decode_answer(log: &[u8], room: usize) -> Copied
 
 // Decodes a stamped log into the start of a list of records.
 pub fn decode(log: &[u8], list: &mut [u8]) -> Copied
-    ensures { λ r. ⌜ (r ≡ decodeAnswer (now (log .entry)) (length (now (list .entry)))) × (now (list .exit) ≡ copied (decodeAnswer (now (log .entry)) (length (now (list .entry)))) (listOf (now (log .entry))) (now (list .entry))) ⌝ }
+    ensures { λ r. ⌜ (r ≡ stampedDecodeAnswer (now (log .entry)) (length (now (list .entry)))) × (now (list .exit) ≡ copied (stampedDecodeAnswer (now (log .entry)) (length (now (list .entry)))) (listOf (now (log .entry))) (now (list .entry))) ⌝ }
 {
     let answer = decode_answer(log, list.len());
     if let Copied::Count(_) = answer {

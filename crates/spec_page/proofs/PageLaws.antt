@@ -12,7 +12,7 @@ use borrow.Author.Tests.{leb-true, leb-false, ltb-true, ltb-false, le-leb, lt-lt
 use native.Mathlib.Omega.{arith}
 use Rattle.settings.specs.declared.Settings.{Settings}
 use Rattle.record.specs.declared.Record.{Record}
-use Rattle.spec_page.specs.Page.{Line, ROW, COL, DQ, shows, orElse, cell, scale, filled, nameOf, upTo, pageCycles, line, page}
+use Rattle.spec_page.specs.Page.{Line, ROW, COL, DQ, shows, orElse, cell, scale, filled, nameOf, upTo, pageCycles, pageLine, page}
 use Rattle.spec_page.specs.Theorems.{Characters, OutsideCountsNot}
 use Rattle.spec_page.specs.form.Bytes.{names, byteBy, characters}
 
@@ -55,15 +55,15 @@ module _ (name : List ℕ) (f : ℕ → ℕ) (start : ℕ) (named : length (fill
   abbrev cycles : List ℕ
   cycles = upTo (λ k. f (start + k)) pageCycles
 
-  length-line : length (line name f start) ≡ 73
-  unfolding line
+  length-line : length (pageLine name f start) ≡ 73
+  unfolding pageLine
   length-line =
       length-append (filled name) (cycles ++ (10 ∷ [])) ∙ ap₂ _+_ named (length-append cycles (10 ∷ []) ∙ ap (λ n. n + 1) (length-up (λ k. f (start + k)) pageCycles))
 
   -- byte k of it
   line-byte : (k : ℕ) → k < 73
-      → getD (line name f start) k 0 ≡ cond (leb 8 k && ltb k 72) (f (start + (k - 8))) (cond (ltb k 8) (getD (filled name) k 0) 10)
-  unfolding line
+      → getD (pageLine name f start) k 0 ≡ cond (leb 8 k && ltb k 72) (f (start + (k - 8))) (cond (ltb k 8) (getD (filled name) k 0) 10)
+  unfolding pageLine
   line-byte k h = go (leb 8 k) refl (ltb k 72) refl
     where
       go : (a : Bool) → leb 8 k ≡ a → (b : Bool) → ltb k 72 ≡ b
@@ -105,16 +105,16 @@ scale-named = refl
 
 module _ (s : Settings) (rs : List Record) (start : ℕ) where
   abbrev rows : List ℕ
-  rows = line (nameOf ROW) (cell s rs ROW) start
+  rows = pageLine (nameOf ROW) (cell s rs ROW) start
 
   abbrev cols : List ℕ
-  cols = line (nameOf COL) (cell s rs COL) start
+  cols = pageLine (nameOf COL) (cell s rs COL) start
 
   abbrev dqs : List ℕ
-  dqs = line (nameOf DQ) (cell s rs DQ) start
+  dqs = pageLine (nameOf DQ) (cell s rs DQ) start
 
   abbrev scales : List ℕ
-  scales = line [] scale start
+  scales = pageLine [] scale start
 
   rows-long : length rows ≡ 73
   rows-long = length-line (nameOf ROW) (cell s rs ROW) start row-named
@@ -226,14 +226,14 @@ unfolding cell
 cell-without s [] r ys y c e = rw e
 cell-without s (x ∷ xs) r ys y c e = ap (orElse (shows s y x c)) (cell-without s xs r ys y c e)
 
-line-ext : (name : List ℕ) (f g : ℕ → ℕ) (start : ℕ) → ((c : ℕ) → start ≤ c → c < start + pageCycles → f c ≡ g c) → line name f start ≡ line name g start
-unfolding line
+line-ext : (name : List ℕ) (f g : ℕ → ℕ) (start : ℕ) → ((c : ℕ) → start ≤ c → c < start + pageCycles → f c ≡ g c) → pageLine name f start ≡ pageLine name g start
+unfolding pageLine
 line-ext name f g start h = ap (λ x. filled name ++ (x ++ (10 ∷ []))) (up-ext (λ k. f (start + k)) (λ k. g (start + k)) pageCycles (λ k m. h (start + k) (omega arith) (omega arith)))
 
 pub outside-counts-not : (s : Settings) (start : ℕ) → OutsideCountsNot s start
 unfolding page
 outside-counts-not s start xs r ys out =
-    let of : (y : Line) → line (nameOf y) (cell s (xs ++ r ∷ ys) y) start ≡ line (nameOf y) (cell s (xs ++ ys) y) start =
+    let of : (y : Line) → pageLine (nameOf y) (cell s (xs ++ r ∷ ys) y) start ≡ pageLine (nameOf y) (cell s (xs ++ ys) y) start =
     λ y. line-ext (nameOf y) (cell s (xs ++ r ∷ ys) y) (cell s (xs ++ ys) y) start (λ c l h. cell-without s xs r ys y c (out y c l h))
     in
     rw (of ROW, of COL, of DQ)

@@ -12,7 +12,7 @@ use Rattle.packet.specs.declared.ColPacket.the-variants.{Nocop, Wr, Rd}
 use Rattle.record.specs.declared.Record.{Record}
 use Rattle.settings.specs.Bench.{setOf, setH}
 use Rattle.spec_rules.proofs.Worked.{row, col, dat, full}
-use Rattle.spec_page.specs.Page.{before, readShows, shows, cell, scale, filled, nameOf, upTo, line, page}
+use Rattle.spec_page.specs.Page.{before, readShows, shows, cell, scale, filled, nameOf, upTo, pageLine, page}
 
 abbrev codes : String → List ℕ
 codes []ˢ = []
@@ -71,5 +71,5 @@ texts =
     ∷ []
 
 pub worked : pages ≡ texts
-unfolding pages texts setOf setH before readShows shows cell scale filled nameOf upTo line page
+unfolding pages texts setOf setH before readShows shows cell scale filled nameOf upTo pageLine page
 worked = refl

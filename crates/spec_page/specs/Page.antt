@@ -101,8 +101,8 @@ abbrev pub pageCycles : ℕ
 pageCycles = 64
 
 -- "each exactly 72 characters and a line feed, its name filled to eight with spaces [..] and one character a cycle"
-unfoldable pub line : List ℕ → (ℕ → ℕ) → ℕ → List ℕ
-line name characterAt start = filled name ++ (upTo (λ k. characterAt (start + k)) pageCycles ++ (10 ∷ []))
+unfoldable pub pageLine : List ℕ → (ℕ → ℕ) → ℕ → List ℕ
+pageLine name characterAt start = filled name ++ (upTo (λ k. characterAt (start + k)) pageCycles ++ (10 ∷ []))
 
 -- how many bytes the four lines have
 abbrev pub pageBytes : ℕ
@@ -111,4 +111,4 @@ pageBytes = 4 * 73
 -- the page of these records from cycle `start` on
 unfoldable pub page : Settings → List Record → ℕ → List ℕ
 page s rs start =
-    line (nameOf ROW) (cell s rs ROW) start ++ (line (nameOf COL) (cell s rs COL) start ++ (line (nameOf DQ) (cell s rs DQ) start ++ line [] scale start))
+    pageLine (nameOf ROW) (cell s rs ROW) start ++ (pageLine (nameOf COL) (cell s rs COL) start ++ (pageLine (nameOf DQ) (cell s rs DQ) start ++ pageLine [] scale start))

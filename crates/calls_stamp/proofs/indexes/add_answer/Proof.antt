@@ -10,14 +10,14 @@ use Rattle.log_index.specs.Answers.{indexRight, countOrFull}
 use Rattle.index_make.proofs.MakeLaws.{room-said}
 use Rattle.log_stamp.specs.Stamp.{settingsOf}
 use Rattle.log_stamp.proofs.StampLaws.{fourteen, right-passed, right-refused, right-next}
-use Rattle.calls_stamp.specs.Results.{addAnswer}
+use Rattle.calls_stamp.specs.Results.{stampedIndexAnswer}
 use Rattle.calls_stamp.proofs.IndexLaws.{made}
 use borrow.Author.Needs.{needs}
 use Rattle.calls_stamp.proofs.indexes.add_answer.Statement.{statement}
 use Rattle.calls_stamp.proofs.indexes.add_answer.Tie as tie
 
 returns : tie.Need-returns
-unfolding addAnswer
+unfolding stampedIndexAnswer
 returns c = rw (ne-eqb _ 0 (c .if1 .taken))
 
 tested-requires : tie.Need-tested-requires
@@ -36,7 +36,7 @@ room-answer-requires c κs =
     used-few 14 fourteen (a .log .now) (right-passed (a .log .now) _ (sym (r .tested .ensures) ∙ c .enum-told .given .1) .0 .right)
 
 returns-2 : tie.Need-returns-2
-unfolding addAnswer
+unfolding stampedIndexAnswer
 returns-2 c =
     let r = c .before .before .before in
     let a = r .before .before .before .before .args in
@@ -44,7 +44,7 @@ returns-2 c =
     (sym (right-refused Refused (a .log .now) _ (λ s. indexRight s (a .log .now) (a .index .now) (a .kept) (countOrFull (blocksIn (a .log .now)) (length (a .index .now)))) (sym (r .tested .ensures) ∙ c .before .why .given .1)))
 
 returns-3 : tie.Need-returns-3
-unfolding addAnswer
+unfolding stampedIndexAnswer
 returns-3 c =
     let r = c .before .before .before in
     let a = r .before .before .before .before .args in

@@ -9,22 +9,22 @@ use Rattle.log_index.specs.Index.{indexWords, wordsOf}
 use Rattle.log_index.specs.Query.{hasBit}
 use Rattle.log_index.specs.Answers.{indexRight, countOrFull}
 use Rattle.log_stamp.proofs.StampLaws.{fourteen, right-passed, right-refused, right-next}
-use Rattle.calls_stamp.specs.Results.{queryAnswer}
+use Rattle.calls_stamp.specs.Results.{stampedQueryAnswer}
 use Rattle.calls_stamp.proofs.IndexLaws.{beside-said}
 use borrow.Author.Needs.{needs}
 use Rattle.calls_stamp.proofs.indexes.query_answer.Statement.{statement}
 use Rattle.calls_stamp.proofs.indexes.query_answer.Tie as tie
 
 returns : tie.Need-returns
-unfolding queryAnswer
+unfolding stampedQueryAnswer
 returns c = rw (ne-eqb _ 0 (c .if1 .taken))
 
 returns-2 : tie.Need-returns-2
-unfolding queryAnswer
+unfolding stampedQueryAnswer
 returns-2 c = rw (eq-eqb _ 0 (c .before .if1 .left), ne-eqb _ 0 (c .if2 .taken))
 
 returns-3 : tie.Need-returns-3
-unfolding queryAnswer
+unfolding stampedQueryAnswer
 returns-3 c = rw (eq-eqb _ 0 (c .before .before .if1 .left), eq-eqb _ 0 (c .before .if2 .left), le-ltb _ _ (c .if3 .taken))
 
 tested-requires : tie.Need-tested-requires
@@ -43,7 +43,7 @@ query-beside-requires c κs =
     (r .before .if3 .left, used-few 14 fourteen log (right-passed log _ (sym (r .tested .ensures) ∙ c .enum-told .given .1) .0 .right))
 
 returns-4 : tie.Need-returns-4
-unfolding queryAnswer
+unfolding stampedQueryAnswer
 returns-4 c =
     let r = c .before .before .before in
     let a = r .before .before .before .before .before .before .args in
@@ -52,7 +52,7 @@ returns-4 c =
     (sym (right-refused Refused (a .log .now) _ (λ s. indexRight s (a .log .now) index (wordsOf (a .log .now) index) (countOrFull (countUpTo (hasBit index (a .bank)) (indexWords index)) (a .room))) (sym (r .tested .ensures) ∙ c .before .why .given .1)))
 
 returns-5 : tie.Need-returns-5
-unfolding queryAnswer
+unfolding stampedQueryAnswer
 returns-5 c =
     let r = c .before .before .before in
     let a = r .before .before .before .before .before .before .args in

@@ -4,14 +4,14 @@ use borrow.Author.Tests.{eq-eqb, ne-eqb}
 use Rattle.log.specs.declared.Copied.the-variants.{Refused}
 use Rattle.log.specs.Log.{recordsOrFull}
 use Rattle.blocks.specs.Block.{listOf}
-use Rattle.log_stamp.specs.Copy.{decodeAnswer}
+use Rattle.log_stamp.specs.Copy.{stampedDecodeAnswer}
 use Rattle.log_stamp.proofs.StampLaws.{fourteen, right-passed, right-refused, right-next}
 use borrow.Author.Needs.{needs}
 use Rattle.log_stamp.proofs.copy.decode_answer.Statement.{statement}
 use Rattle.log_stamp.proofs.copy.decode_answer.Tie as tie
 
 returns : tie.Need-returns
-unfolding decodeAnswer
+unfolding stampedDecodeAnswer
 returns c = rw (ne-eqb _ 0 (c .if1 .taken))
 
 tested-requires : tie.Need-tested-requires
@@ -30,7 +30,7 @@ records-or-full-requires : tie.Need-records-or-full-requires
 records-or-full-requires c κs = search needs
 
 returns-2 : tie.Need-returns-2
-unfolding decodeAnswer
+unfolding stampedDecodeAnswer
 returns-2 c =
     let r = c .before .before .before in
     let log = r .before .before .before .args .log .now in
@@ -39,7 +39,7 @@ returns-2 c =
     (sym (right-refused Refused log _ (λ s. recordsOrFull (listOf log) room) (sym (r .tested .ensures) ∙ c .before .why .given .1)))
 
 returns-3 : tie.Need-returns-3
-unfolding decodeAnswer
+unfolding stampedDecodeAnswer
 returns-3 c =
     let r = c .before .before .before .before in
     let log = r .before .before .before .args .log .now in
