@@ -211,8 +211,7 @@ class File:
         """`x as T` to a call that panics where x has no such value."""
         kind = self.take(*NUMBERS, "f32")
         start = self.operand(at - 1)
-        self.code[start].out = "crate::support::%s(%s" % (
-            "exact_f32" if kind.text == "f32" else "cast::<%s, _>" % kind.text, self.code[start].out)
+        self.code[start].out = "crate::casts::%s(%s" % ("to_f32" if kind.text == "f32" else "to::<%s, _>" % kind.text, self.code[start].out)
         self.code[at].out, kind.out = ")", ""
 
     def ends_value(self, at):
