@@ -59,6 +59,7 @@ def calls():
 
 
 def header_text():
-    names = sorted(glob.glob(os.path.join(ROOT, "host/c/rdram*.h")))
+    """The headers that declare calls and constants, without comments. The other two are helpers over them."""
+    names = sorted(set(glob.glob(os.path.join(ROOT, "host/c/rdram*.h"))) - {os.path.join(ROOT, "host/c", x) for x in ("rdram_debug.h", "rdram_util.h")})
     text = "\n".join(read(os.path.relpath(name, ROOT)) for name in names)
     return re.sub(r"/\*.*?\*/", "", text, flags=re.S)

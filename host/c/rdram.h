@@ -4,20 +4,41 @@
  * (rdram_shortest.h), plans of one request and of many (rdram_plan_all.h), a device model
  * (rdram_model.h), a meter of the data pins (rdram_meter.h), pages of the channel as text
  * (rdram_page.h), all under settings (rdram_settings.h).
- * Link with librdram.a. Common to all calls:
+ * Link with librdram.a. Helpers are in rdram_util.h, which is not included here.
+ *
+ * Time:
+ * - A cycle is one of the channel's clock (tCYCLE, 2.5 ns at 400 MHz). Timings are whole cycles.
+ * - Instants are cycles counted from 0, and run from 4 to 1,000,000,000. A packet lasts four cycles and
+ *   its instant is its trailing edge: at t it takes the cycles t - 4 to t - 1. A dualoct of data, 16
+ *   bytes, lasts four too, but its instant is its leading edge: at t it takes t to t + 3. Data of a read
+ *   come at its packet's instant + tCAC, data of a write go at its packet's instant + tCWD.
+ * - Refresh is the caller's to keep: the library sends none but for a refresh request, which is for one
+ *   row of one bank, the banks in turn. All rows are due within tREF, so on average one request every
+ *   tREF / (32 * rows): with 32 ms, 512 rows and 2.5 ns every 781 cycles. Nor does it keep a longest
+ *   time: a data sheet has one for tRAS (64 us), by which an open row has to be closed.
+ *
+ * Common to all calls:
  * - A buffer is a pointer and its length in bytes. A null pointer is allowed with length 0. No
  *   alignment is needed. Numbers in buffers have their low byte first.
- * - The buffers of one call must not overlap.
+ * - The buffers of one call must not overlap. With RDRAM_DEBUG defined each call asserts that, and gcc
+ *   warns of some of it (rdram_attributes.h).
  * - An answer with number 0 (RDRAM_OK) is accepted. Any other number is a refusal (enum
  *   rdram_refusal): every other field of the answer is then 0, except `place`, counted from 0,
  *   `rule` and `start` where the call names them, and no buffer is changed. rdram_plan_all alone
  *   can stop on its way, with what it has planned.
  * - The library keeps no state and allocates nothing: planners, models and meters are the caller's.
+ *   Calls may run at the same time, in threads and in interrupts, where none of them writes a buffer
+ *   that another one is lent.
+ * - Stack: at most 6,800 bytes a call (docs/PERFORMANCE.md: each call on each processor).
+ * - A state (planner, model or meter) is of one version of the library. A version that changes its form
+ *   changes its length too: an old planner or model is then refused under 1, and the bytes of an old
+ *   meter do not fit the struct.
  */
 #ifndef RDRAM_H
 #define RDRAM_H
 
 #include "rdram_answers.h"
+#include "rdram_attributes.h"
 #include "rdram_index.h"
 #include "rdram_meter.h"
 #include "rdram_model.h"
@@ -161,8 +182,9 @@ typedef struct {
  *   10  the packet has no word: unknown command, mask above FFFF, or a field that the command does
  *       not use is not 0. Correct the fields.
  */
-rdram_word rdram_word_encode(const uint8_t *settings, size_t settings_len,
-                             uint32_t command, uint32_t bank, uint32_t place, uint32_t mask);
+rdram_word rdram_word_encode(const uint8_t *settings, size_t settings_len, uint32_t command,
+                             uint32_t bank, uint32_t place, uint32_t mask)
+    RDRAM_READS(1, 2) RDRAM_ANSWER;
 
 /*
  * The packet of a word. kind is RDRAM_KIND_ROW or RDRAM_KIND_COL.
@@ -173,8 +195,9 @@ rdram_word rdram_word_encode(const uint8_t *settings, size_t settings_len,
  *       column out of range, unknown opcode, a fixed bit is wrong, or a full mask sent as M = 1.
  *       The word is damaged or was written under other settings.
  */
-rdram_packet rdram_word_decode(const uint8_t *settings, size_t settings_len,
-                               uint32_t kind, uint64_t word);
+rdram_packet rdram_word_decode(const uint8_t *settings, size_t settings_len, uint32_t kind,
+                               uint64_t word)
+    RDRAM_READS(1, 2) RDRAM_ANSWER;
 
 /*
  * Packs a list of records into a log of blocks. Timing rules are not tested.
@@ -190,9 +213,10 @@ rdram_packet rdram_word_decode(const uint8_t *settings, size_t settings_len,
  *    8  log has fewer whole blocks than needed, or the list needs more than 2^32 blocks: pass a
  *       longer log, or the list in parts.
  */
-rdram_copied rdram_log_encode(const uint8_t *settings, size_t settings_len,
-                              const uint8_t *list, size_t list_len,
-                              uint8_t *log, size_t log_len);
+rdram_copied rdram_log_encode(const uint8_t *RDRAM_RESTRICT settings, size_t settings_len,
+                              const uint8_t *RDRAM_RESTRICT list, size_t list_len,
+                              uint8_t *RDRAM_RESTRICT log, size_t log_len)
+    RDRAM_READS(1, 2) RDRAM_READS(3, 4) RDRAM_WRITES(5, 6) RDRAM_ANSWER;
 
 /*
  * Unpacks a log of blocks into a list of records. Timing rules are not tested.
@@ -208,9 +232,10 @@ rdram_copied rdram_log_encode(const uint8_t *settings, size_t settings_len,
  *       not by this library.
  *    8  list has fewer whole records than needed: pass a longer list.
  */
-rdram_copied rdram_log_decode(const uint8_t *settings, size_t settings_len,
-                              const uint8_t *log, size_t log_len,
-                              uint8_t *list, size_t list_len);
+rdram_copied rdram_log_decode(const uint8_t *RDRAM_RESTRICT settings, size_t settings_len,
+                              const uint8_t *RDRAM_RESTRICT log, size_t log_len,
+                              uint8_t *RDRAM_RESTRICT list, size_t list_len)
+    RDRAM_READS(1, 2) RDRAM_READS(3, 4) RDRAM_WRITES(5, 6) RDRAM_ANSWER;
 
 /*
  * Tests whether a list of records keeps the seventeen rules. list_len is a multiple of 32. The list
@@ -257,8 +282,9 @@ rdram_copied rdram_log_decode(const uint8_t *settings, size_t settings_len,
  *       judged. A D that is missing is named at the record in its place. Move or correct that
  *       record and check again; rdram_shortest finds the few records that show the breach.
  */
-rdram_judged rdram_check(const uint8_t *settings, size_t settings_len,
-                         const uint8_t *list, size_t list_len);
+rdram_judged rdram_check(const uint8_t *RDRAM_RESTRICT settings, size_t settings_len,
+                         const uint8_t *RDRAM_RESTRICT list, size_t list_len)
+    RDRAM_READS(1, 2) RDRAM_READS(3, 4) RDRAM_ANSWER;
 
 /*
  * Tests whether the list that a log keeps keeps the seventeen rules of rdram_check. log_len is a
@@ -270,14 +296,15 @@ rdram_judged rdram_check(const uint8_t *settings, size_t settings_len,
  *   12  as in rdram_log_decode. No record has been tested.
  *   10, 11  as in rdram_check; records are counted over the whole log: record n is in block n / 15.
  */
-rdram_judged rdram_check_log(const uint8_t *settings, size_t settings_len,
-                             const uint8_t *log, size_t log_len);
+rdram_judged rdram_check_log(const uint8_t *RDRAM_RESTRICT settings, size_t settings_len,
+                             const uint8_t *RDRAM_RESTRICT log, size_t log_len)
+    RDRAM_READS(1, 2) RDRAM_READS(3, 4) RDRAM_ANSWER;
 
 /*
  * Writes a fresh planner: banks closed, write buffer empty, refresh bank 0, now 4. Answers 0, or
  * refusal 1 where planner_len is not 768: pass RDRAM_PLANNER_BYTES bytes.
  */
-uint32_t rdram_planner_fresh(uint8_t *planner, size_t planner_len);
+uint32_t rdram_planner_fresh(uint8_t *planner, size_t planner_len) RDRAM_WRITES(1, 2) RDRAM_ANSWER;
 
 /*
  * Plans one request: makes the packets that serve it, each at the least instant, not before now, at
@@ -324,13 +351,18 @@ uint32_t rdram_planner_fresh(uint8_t *planner, size_t planner_len);
  *    8  room has fewer whole records than needed: pass a longer room. A request that makes no
  *       record needs none.
  */
-rdram_planned rdram_plan(const uint8_t *settings, size_t settings_len,
-                         uint8_t *planner, size_t planner_len,
-                         const uint8_t *request, size_t request_len,
-                         uint8_t *room, size_t room_len);
+rdram_planned rdram_plan(const uint8_t *RDRAM_RESTRICT settings, size_t settings_len,
+                         uint8_t *RDRAM_RESTRICT planner, size_t planner_len,
+                         const uint8_t *RDRAM_RESTRICT request, size_t request_len,
+                         uint8_t *RDRAM_RESTRICT room, size_t room_len)
+    RDRAM_READS(1, 2) RDRAM_CHANGES(3, 4) RDRAM_READS(5, 6) RDRAM_WRITES(7, 8) RDRAM_ANSWER;
 
 #ifdef __cplusplus
 }
+#endif
+
+#ifdef RDRAM_DEBUG
+#include "rdram_debug.h"
 #endif
 
 #endif

@@ -4,6 +4,7 @@
 #ifndef RDRAM_INDEX_H
 #define RDRAM_INDEX_H
 
+#include "rdram_attributes.h"
 #include <stddef.h>
 #include <stdint.h>
 
@@ -35,8 +36,10 @@ typedef struct {
  *   10  word: place is the first bad record, from 0.
  *    8  full: the buffer has fewer words than the log has blocks.
  */
-rdram_indexed rdram_index_make(const uint8_t *settings, size_t settings_len, const uint8_t *log,
-                               size_t log_len, uint8_t *index, size_t index_len);
+rdram_indexed rdram_index_make(const uint8_t *RDRAM_RESTRICT settings, size_t settings_len,
+                               const uint8_t *RDRAM_RESTRICT log, size_t log_len,
+                               uint8_t *RDRAM_RESTRICT index, size_t index_len)
+    RDRAM_READS(1, 2) RDRAM_READS(3, 4) RDRAM_WRITES(5, 6) RDRAM_ANSWER;
 
 /*
  * The same where the first `kept` words of the buffer are in place already: they are compared and
@@ -48,8 +51,10 @@ rdram_indexed rdram_index_make(const uint8_t *settings, size_t settings_len, con
  *   14  index: place is the first of the kept words that is wrong, missing or surplus, from 0. Make
  *       the index afresh.
  */
-rdram_indexed rdram_index_add(const uint8_t *settings, size_t settings_len, const uint8_t *log,
-                              size_t log_len, size_t kept, uint8_t *index, size_t index_len);
+rdram_indexed rdram_index_add(const uint8_t *RDRAM_RESTRICT settings, size_t settings_len,
+                              const uint8_t *RDRAM_RESTRICT log, size_t log_len, size_t kept,
+                              uint8_t *RDRAM_RESTRICT index, size_t index_len)
+    RDRAM_READS(1, 2) RDRAM_READS(3, 4) RDRAM_ANSWER;
 
 /*
  * Lists the numbers of the blocks that touch a bank at the start of a buffer, four bytes each, low
@@ -63,9 +68,11 @@ rdram_indexed rdram_index_add(const uint8_t *settings, size_t settings_len, cons
  *   14  index: it differs from its log; place is the first word wrong, missing or surplus, from 0.
  *    8  full: the buffer has room for fewer numbers.
  */
-rdram_indexed rdram_index_query(const uint8_t *settings, size_t settings_len, const uint8_t *log,
-                                size_t log_len, const uint8_t *index, size_t index_len,
-                                uint32_t bank, uint8_t *out, size_t out_len);
+rdram_indexed rdram_index_query(const uint8_t *RDRAM_RESTRICT settings, size_t settings_len,
+                                const uint8_t *RDRAM_RESTRICT log, size_t log_len,
+                                const uint8_t *RDRAM_RESTRICT index, size_t index_len, uint32_t bank,
+                                uint8_t *RDRAM_RESTRICT out, size_t out_len)
+    RDRAM_READS(1, 2) RDRAM_READS(3, 4) RDRAM_READS(5, 6) RDRAM_WRITES(8, 9) RDRAM_ANSWER;
 
 /*
  * Judges a log with its index by every rule; count is the number of words where both pass.
@@ -73,11 +80,13 @@ rdram_indexed rdram_index_query(const uint8_t *settings, size_t settings_len, co
  * Refusals, in this order: 1, 13 (log, then index), 12, 10, 14 as above, and then
  *   11  rule: rule is the lowest rule that record `place` breaks, the first that breaks one.
  */
-rdram_indexed rdram_index_check(const uint8_t *settings, size_t settings_len, const uint8_t *log,
-                                size_t log_len, const uint8_t *index, size_t index_len);
+rdram_indexed rdram_index_check(const uint8_t *RDRAM_RESTRICT settings, size_t settings_len,
+                                const uint8_t *RDRAM_RESTRICT log, size_t log_len,
+                                const uint8_t *RDRAM_RESTRICT index, size_t index_len)
+    RDRAM_READS(1, 2) RDRAM_READS(3, 4) RDRAM_READS(5, 6) RDRAM_ANSWER;
 
 /* How many banks a block names: the ones of its word. */
-uint32_t rdram_index_banks(uint32_t word);
+uint32_t rdram_index_banks(uint32_t word) RDRAM_ANSWER;
 
 #ifdef __cplusplus
 }

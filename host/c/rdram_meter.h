@@ -4,6 +4,7 @@
 #ifndef RDRAM_METER_H
 #define RDRAM_METER_H
 
+#include "rdram_attributes.h"
 #include <stdint.h>
 
 #ifdef __cplusplus
@@ -41,7 +42,7 @@ typedef struct {
 } rdram_shared;
 
 /* A fresh meter: no instant was fed, and its count is 0. */
-rdram_meter rdram_meter_fresh(void);
+rdram_meter rdram_meter_fresh(void) RDRAM_ANSWER;
 
 /*
  * Feeds a data instant: that of a D record, or the instant of an RD and tCAC. The meter becomes the
@@ -56,7 +57,7 @@ rdram_meter rdram_meter_fresh(void);
  *   16  overlap: at is less than 4 after the newest instant. Feed each dualoct once, in rising
  *       order.
  */
-uint32_t rdram_meter_feed(rdram_meter *meter, uint32_t at);
+uint32_t rdram_meter_feed(rdram_meter *meter, uint32_t at) RDRAM_CHANGES_ONE(1) RDRAM_ANSWER;
 
 /*
  * How many of the 1,024 cycles that end with the newest dualoct's fourth cycle carried data: a count
@@ -64,14 +65,14 @@ uint32_t rdram_meter_feed(rdram_meter *meter, uint32_t at);
  *
  * Refusal 1: as in rdram_meter_feed.
  */
-rdram_counted rdram_meter_count(rdram_meter meter);
+rdram_counted rdram_meter_count(rdram_meter meter) RDRAM_ANSWER;
 
 /*
  * That count over 1,024, which a float has exactly.
  *
  * Refusal 1: as in rdram_meter_feed.
  */
-rdram_shared rdram_meter_share(rdram_meter meter);
+rdram_shared rdram_meter_share(rdram_meter meter) RDRAM_ANSWER;
 
 #ifdef __cplusplus
 }

@@ -4,6 +4,7 @@
 #ifndef RDRAM_MODEL_H
 #define RDRAM_MODEL_H
 
+#include "rdram_attributes.h"
 #include <stddef.h>
 #include <stdint.h>
 
@@ -51,7 +52,7 @@ typedef struct {
  * Writes a fresh model: banks closed, write buffer empty, no earlier record, REFR 0. Answers 0, or
  * refusal 1 where model_len is not 792: pass RDRAM_MODEL_BYTES bytes.
  */
-uint32_t rdram_model_fresh(uint8_t *model, size_t model_len);
+uint32_t rdram_model_fresh(uint8_t *model, size_t model_len) RDRAM_WRITES(1, 2) RDRAM_ANSWER;
 
 /*
  * Takes one record, as the device would: tests it by the rules of rdram_check, given the records
@@ -87,10 +88,13 @@ uint32_t rdram_model_fresh(uint8_t *model, size_t model_len);
  *    8  answer has fewer than 16 bytes for an RD or RDA: pass the same record again with a longer
  *       answer. Other records need none.
  */
-rdram_stepped rdram_model_step(const uint8_t *settings, size_t settings_len,
-                               uint8_t *model, size_t model_len,
-                               uint8_t *store, size_t store_len, const uint8_t *record,
-                               size_t record_len, uint8_t *answer, size_t answer_len);
+rdram_stepped rdram_model_step(const uint8_t *RDRAM_RESTRICT settings, size_t settings_len,
+                               uint8_t *RDRAM_RESTRICT model, size_t model_len,
+                               uint8_t *RDRAM_RESTRICT store, size_t store_len,
+                               const uint8_t *RDRAM_RESTRICT record, size_t record_len,
+                               uint8_t *RDRAM_RESTRICT answer, size_t answer_len)
+    RDRAM_READS(1, 2) RDRAM_CHANGES(3, 4) RDRAM_CHANGES(5, 6) RDRAM_READS(7, 8)
+    RDRAM_WRITES(9, 10) RDRAM_ANSWER;
 
 #ifdef __cplusplus
 }

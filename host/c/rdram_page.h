@@ -5,6 +5,7 @@
 #define RDRAM_PAGE_H
 
 #include "rdram_answers.h"
+#include "rdram_attributes.h"
 #include <stddef.h>
 #include <stdint.h>
 
@@ -39,8 +40,10 @@ extern "C" {
  *   10, 11  as in rdram_check: only a list that passes is drawn.
  *    8  room_len is below 292: pass RDRAM_PAGE_BYTES bytes.
  */
-rdram_judged rdram_page(const uint8_t *settings, size_t settings_len, const uint8_t *list,
-                        size_t list_len, uint32_t start, uint8_t *room, size_t room_len);
+rdram_judged rdram_page(const uint8_t *RDRAM_RESTRICT settings, size_t settings_len,
+                        const uint8_t *RDRAM_RESTRICT list, size_t list_len, uint32_t start,
+                        uint8_t *RDRAM_RESTRICT room, size_t room_len)
+    RDRAM_READS(1, 2) RDRAM_READS(3, 4) RDRAM_WRITES(6, 7) RDRAM_ANSWER;
 
 #ifdef __cplusplus
 }

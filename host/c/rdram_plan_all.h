@@ -4,6 +4,7 @@
 #ifndef RDRAM_PLAN_ALL_H
 #define RDRAM_PLAN_ALL_H
 
+#include "rdram_attributes.h"
 #include <stddef.h>
 #include <stdint.h>
 
@@ -43,10 +44,11 @@ typedef struct {
  *    8  room has fewer whole records left than request `place` needs: take the records out, and
  *       pass the requests from there on with a room that has RDRAM_REQUEST_RECORDS at least.
  */
-rdram_planned_all rdram_plan_all(const uint8_t *settings, size_t settings_len,
-                                 uint8_t *planner, size_t planner_len,
-                                 const uint8_t *requests, size_t requests_len,
-                                 uint8_t *room, size_t room_len);
+rdram_planned_all rdram_plan_all(const uint8_t *RDRAM_RESTRICT settings, size_t settings_len,
+                                 uint8_t *RDRAM_RESTRICT planner, size_t planner_len,
+                                 const uint8_t *RDRAM_RESTRICT requests, size_t requests_len,
+                                 uint8_t *RDRAM_RESTRICT room, size_t room_len)
+    RDRAM_READS(1, 2) RDRAM_CHANGES(3, 4) RDRAM_READS(5, 6) RDRAM_WRITES(7, 8) RDRAM_ANSWER;
 
 #ifdef __cplusplus
 }

@@ -5,6 +5,7 @@
 #ifndef RDRAM_SHORTEST_H
 #define RDRAM_SHORTEST_H
 
+#include "rdram_attributes.h"
 #include <stddef.h>
 #include <stdint.h>
 
@@ -38,8 +39,9 @@ typedef struct {
  * k * (k + 1) / 2 records more, by k and not by the list. Where the run from a record is refused before
  * `place`, so is every run from a record before it up to the next ACT or REFA: these are passed over.
  */
-rdram_shortest_run rdram_shortest(const uint8_t *settings, size_t settings_len,
-                                  const uint8_t *list, size_t list_len);
+rdram_shortest_run rdram_shortest(const uint8_t *RDRAM_RESTRICT settings, size_t settings_len,
+                                  const uint8_t *RDRAM_RESTRICT list, size_t list_len)
+    RDRAM_READS(1, 2) RDRAM_READS(3, 4) RDRAM_ANSWER;
 
 #ifdef __cplusplus
 }

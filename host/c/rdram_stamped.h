@@ -5,6 +5,7 @@
 #define RDRAM_STAMPED_H
 
 #include "rdram_answers.h"
+#include "rdram_attributes.h"
 #include "rdram_index.h"
 #include <stddef.h>
 #include <stdint.h>
@@ -33,9 +34,10 @@ extern "C" {
  *
  * Refusals, in this order: 1, 13, 10, 8 as in rdram_log_encode.
  */
-rdram_copied rdram_stamped_encode(const uint8_t *settings, size_t settings_len,
-                                  const uint8_t *list, size_t list_len,
-                                  uint8_t *log, size_t log_len);
+rdram_copied rdram_stamped_encode(const uint8_t *RDRAM_RESTRICT settings, size_t settings_len,
+                                  const uint8_t *RDRAM_RESTRICT list, size_t list_len,
+                                  uint8_t *RDRAM_RESTRICT log, size_t log_len)
+    RDRAM_READS(1, 2) RDRAM_READS(3, 4) RDRAM_WRITES(5, 6) RDRAM_ANSWER;
 
 /*
  * Unpacks a stamped log into a list of records. Timing rules are not tested. Otherwise as
@@ -43,8 +45,9 @@ rdram_copied rdram_stamped_encode(const uint8_t *settings, size_t settings_len,
  *
  * Refusals, in this order: 13, 12, 17, 10, 8.
  */
-rdram_copied rdram_stamped_decode(const uint8_t *log, size_t log_len,
-                                  uint8_t *list, size_t list_len);
+rdram_copied rdram_stamped_decode(const uint8_t *RDRAM_RESTRICT log, size_t log_len,
+                                  uint8_t *RDRAM_RESTRICT list, size_t list_len)
+    RDRAM_READS(1, 2) RDRAM_WRITES(3, 4) RDRAM_ANSWER;
 
 /*
  * Tests whether the list that a stamped log keeps obeys the rules under the settings that it
@@ -53,7 +56,7 @@ rdram_copied rdram_stamped_decode(const uint8_t *log, size_t log_len,
  * Refusals, in this order: 13, 12, 17, 10, and then
  *   11  rule: rule is the lowest rule that record `place` breaks, the first that breaks one.
  */
-rdram_judged rdram_stamped_check(const uint8_t *log, size_t log_len);
+rdram_judged rdram_stamped_check(const uint8_t *log, size_t log_len) RDRAM_READS(1, 2) RDRAM_ANSWER;
 
 /*
  * Makes the index of a stamped log at the start of a buffer of which the first `kept` words are in
@@ -61,17 +64,19 @@ rdram_judged rdram_stamped_check(const uint8_t *log, size_t log_len);
  *
  * Refusals, in this order: 13, 12, 17, 10, 14 of the kept words, 8.
  */
-rdram_indexed rdram_stamped_index(const uint8_t *log, size_t log_len, size_t kept,
-                                  uint8_t *index, size_t index_len);
+rdram_indexed rdram_stamped_index(const uint8_t *RDRAM_RESTRICT log, size_t log_len, size_t kept,
+                                  uint8_t *RDRAM_RESTRICT index, size_t index_len)
+    RDRAM_READS(1, 2) RDRAM_ANSWER;
 
 /*
  * Lists the numbers of the blocks of a stamped log that touch a bank: as rdram_index_query.
  *
  * Refusals, in this order: 13 (log, then index), 4, 12, 17, 10, 14, 8.
  */
-rdram_indexed rdram_stamped_query(const uint8_t *log, size_t log_len,
-                                  const uint8_t *index, size_t index_len,
-                                  uint32_t bank, uint8_t *out, size_t out_len);
+rdram_indexed rdram_stamped_query(const uint8_t *RDRAM_RESTRICT log, size_t log_len,
+                                  const uint8_t *RDRAM_RESTRICT index, size_t index_len, uint32_t bank,
+                                  uint8_t *RDRAM_RESTRICT out, size_t out_len)
+    RDRAM_READS(1, 2) RDRAM_READS(3, 4) RDRAM_WRITES(6, 7) RDRAM_ANSWER;
 
 /*
  * Moves a log of blocks of 15 records to a stamped one, with these settings, at the start of out;
@@ -84,9 +89,10 @@ rdram_indexed rdram_stamped_query(const uint8_t *log, size_t log_len,
  *   12  block, 10 word: as in rdram_log_decode.
  *    8  out has fewer whole blocks than needed, or a block number would pass 32 bits.
  */
-rdram_copied rdram_log_stamp(const uint8_t *settings, size_t settings_len,
-                             const uint8_t *log, size_t log_len,
-                             uint8_t *out, size_t out_len);
+rdram_copied rdram_log_stamp(const uint8_t *RDRAM_RESTRICT settings, size_t settings_len,
+                             const uint8_t *RDRAM_RESTRICT log, size_t log_len,
+                             uint8_t *RDRAM_RESTRICT out, size_t out_len)
+    RDRAM_READS(1, 2) RDRAM_READS(3, 4) RDRAM_WRITES(5, 6) RDRAM_ANSWER;
 
 /*
  * Moves a stamped log to one of blocks of 15 records at the start of out; the settings are lost.
@@ -94,8 +100,9 @@ rdram_copied rdram_log_stamp(const uint8_t *settings, size_t settings_len,
  *
  * Refusals, in this order: 13, 12, 17, 10, 8.
  */
-rdram_copied rdram_log_unstamp(const uint8_t *log, size_t log_len,
-                               uint8_t *out, size_t out_len);
+rdram_copied rdram_log_unstamp(const uint8_t *RDRAM_RESTRICT log, size_t log_len,
+                               uint8_t *RDRAM_RESTRICT out, size_t out_len)
+    RDRAM_READS(1, 2) RDRAM_WRITES(3, 4) RDRAM_ANSWER;
 
 #ifdef __cplusplus
 }

@@ -4,6 +4,7 @@
 #ifndef RDRAM_VERSION_H
 #define RDRAM_VERSION_H
 
+#include "rdram_attributes.h"
 #include <stdint.h>
 
 #ifdef __cplusplus
@@ -26,7 +27,7 @@ extern "C" {
  * The version of the archive that is linked, as the same number. Where it is not RDRAM_VERSION the program was compiled
  * with headers of another version: if (rdram_version() != RDRAM_VERSION) stop, and compile it again.
  */
-uint32_t rdram_version(void);
+uint32_t rdram_version(void) RDRAM_ANSWER;
 
 #ifdef __cplusplus
 }

@@ -5,7 +5,7 @@
  *
  * cc -std=c11 -O2 -Ihost/c host/c/examples/busy_bar.c target/staticlib/librdram.a -o busy_bar
  */
-#include "rdram.h"
+#include "rdram_util.h"
 #include <inttypes.h>
 #include <stdio.h>
 
@@ -14,18 +14,13 @@
 
 static const uint8_t SET_H[RDRAM_SETTINGS_BYTES] = RDRAM_SET_H;
 
-static uint64_t get(const uint8_t *from, int bytes)
-{
-    return bytes == 0 ? 0 : get(from + 1, bytes - 1) << 8 | *from;
-}
-
 /* The data instant of a record, or 0. */
 static uint32_t data_instant(const uint8_t *record)
 {
-    uint32_t at = (uint32_t)get(record, 4);
+    uint32_t at = rdram_record_get(record).instant;
     if (record[4] == RDRAM_KIND_D)
         return at;
-    rdram_packet p = rdram_word_decode(SET_H, sizeof SET_H, record[4], get(record + 8, 8));
+    rdram_packet p = rdram_packet_get(record, SET_H);
     return p.number == RDRAM_OK && (p.command == RDRAM_RD || p.command == RDRAM_RDA) ? at + T_CAC : 0;
 }
 
@@ -42,15 +37,13 @@ static void draw(uint32_t at, const rdram_meter *meter)
 /* 320 reads in a row; then reads and writes with waits between them, of 12 cycles and later of 60. */
 static void make(uint8_t request[RDRAM_REQUEST_BYTES], int i)
 {
-    for (int k = 0; k < RDRAM_REQUEST_BYTES; k++)
-        request[k] = 0;
-    request[0] = i < 320 || i % 2 == 0 ? RDRAM_REQUEST_READ : RDRAM_REQUEST_WAIT;
-    if (request[0] == RDRAM_REQUEST_WAIT)
-        request[8] = i < 480 ? 12 : 60;
+    static const uint8_t data[RDRAM_DUALOCT_BYTES];
+    if (i > 320 && i % 2 == 1)
+        rdram_request_wait(request, i < 480 ? 12 : 60);
     else if (i > 320 && i % 8 == 0)
-        request[0] = RDRAM_REQUEST_WRITE;
+        rdram_request_write(request, 0, 0, 0, 0, data);
     else
-        request[4] = (uint8_t)(i % 3);
+        rdram_request_read(request, 0, 0, (uint32_t)i % 3);
 }
 
 int main(void)
@@ -59,7 +52,8 @@ int main(void)
     uint8_t room[RDRAM_REQUEST_RECORDS * RDRAM_RECORD_BYTES];
     rdram_meter meter = rdram_meter_fresh();
     uint32_t at = 0;
-    rdram_planner_fresh(planner, sizeof planner);
+    if (rdram_planner_fresh(planner, sizeof planner) != RDRAM_OK)
+        return 1;
     for (int i = 0; i < 640; i++) {
         make(request, i);
         rdram_planned made = rdram_plan(SET_H, sizeof SET_H, planner, sizeof planner, request, sizeof request, room,

@@ -5,7 +5,7 @@
  *
  * cc -std=c11 -O2 -Ihost/c host/c/examples/draw_page.c target/staticlib/librdram.a -o draw_page
  */
-#include "rdram.h"
+#include "rdram_util.h"
 #include <inttypes.h>
 #include <stdio.h>
 #include <stdlib.h>
@@ -34,7 +34,7 @@ static int plan(uint8_t *planner, const uint8_t *request, size_t request_len, ui
     rdram_planned made = rdram_plan(SET_H, sizeof SET_H, planner, RDRAM_PLANNER_BYTES, request, request_len,
                                     list + length, size - length);
     if (made.number != RDRAM_OK)
-        fprintf(stderr, "request %" PRIu64 ": refusal %" PRIu32 "\n", place, made.number);
+        fprintf(stderr, "request %" PRIu64 ": %s\n", place, rdram_refusal_text(made.number));
     length += made.records * RDRAM_RECORD_BYTES;
     return 1;
 }
@@ -46,7 +46,7 @@ int main(int count, char **words)
     unsigned long long start = count > 1 ? strtoull(words[1], &end, 10) : 0;
     int right = count < 3 && !*end && start <= UINT32_MAX;
     uint64_t place = 0;
-    rdram_planner_fresh(planner, sizeof planner);
+    right = right && rdram_planner_fresh(planner, sizeof planner) == RDRAM_OK;
     for (size_t n; right && count > 1 && (n = fread(request, 1, sizeof request, stdin)) > 0; place++)
         right = plan(planner, request, n, place);
     for (; right && count == 1 && place < sizeof RUN_1 / sizeof RUN_1[0]; place++)
@@ -57,7 +57,7 @@ int main(int count, char **words)
     }
     rdram_judged paged = rdram_page(SET_H, sizeof SET_H, list, length, (uint32_t)start, page, sizeof page);
     if (paged.number != RDRAM_OK) {
-        fprintf(stderr, "no page: refusal %" PRIu32 "\n", paged.number);
+        fprintf(stderr, "no page: %s\n", rdram_refusal_text(paged.number));
         return 1;
     }
     fwrite(page, 1, sizeof page, stdout);

@@ -5,7 +5,7 @@
  *
  * cc -std=c11 -O2 -Ihost/c host/c/examples/follow_bank.c target/staticlib/librdram.a -o follow_bank
  */
-#include "rdram.h"
+#include "rdram_util.h"
 #include <inttypes.h>
 #include <stdio.h>
 #include <string.h>
@@ -13,27 +13,22 @@
 #define BANK 7
 #define REQUESTS 200
 #define RECORDS (REQUESTS * RDRAM_REQUEST_RECORDS)
-#define BLOCKS ((RECORDS + 14) / 15)
+#define BLOCKS (RECORDS / RDRAM_BLOCK_RECORDS + 1)
 
 static const uint8_t SET_H[RDRAM_SETTINGS_BYTES] = RDRAM_SET_H;
 static uint8_t list[RECORDS * RDRAM_RECORD_BYTES], blocks[BLOCKS * RDRAM_BLOCK_BYTES];
 static uint8_t words[BLOCKS * RDRAM_INDEX_WORD_BYTES], found[BLOCKS * 4];
-
-static uint64_t get(const uint8_t *from, int bytes)
-{
-    return bytes == 0 ? 0 : get(from + 1, bytes - 1) << 8 | *from;
-}
 
 /* A list of records of reads of one bank after another; answers how many. */
 static size_t plan(void)
 {
     uint8_t planner[RDRAM_PLANNER_BYTES];
     size_t records = 0;
-    rdram_planner_fresh(planner, sizeof planner);
-    for (int i = 0; i < REQUESTS; i++) {
-        uint8_t request[RDRAM_REQUEST_BYTES] = {0};
-        request[1] = (uint8_t)(i / 3 * 5 % 32);
-        request[4] = (uint8_t)(i % 4);
+    if (rdram_planner_fresh(planner, sizeof planner) != RDRAM_OK)
+        return 0;
+    for (uint32_t i = 0; i < REQUESTS; i++) {
+        uint8_t request[RDRAM_REQUEST_BYTES];
+        rdram_request_read(request, i / 3 * 5 % 32, 0, i % 4);
         rdram_planned made = rdram_plan(SET_H, sizeof SET_H, planner, sizeof planner, request, sizeof request,
                                         list + records * RDRAM_RECORD_BYTES, sizeof list - records * RDRAM_RECORD_BYTES);
         if (made.number != RDRAM_OK)
@@ -58,14 +53,12 @@ static size_t load(FILE *file, uint8_t *bytes, size_t room)
 static void show(uint64_t k)
 {
     const uint8_t *block = blocks + k * RDRAM_BLOCK_BYTES;
-    printf("block %" PRIu64 ", %" PRIu32 " banks:", k, rdram_index_banks((uint32_t)get(words + 4 * k, 4)));
-    for (uint64_t i = 0; i < get(block + 484, 4); i++) {
+    printf("block %" PRIu64 ", %" PRIu32 " banks:", k, rdram_index_banks((uint32_t)rdram_get(words + 4 * k, 4)));
+    for (uint64_t i = 0; i < rdram_get(block + 484, 4); i++) {
         const uint8_t *record = block + i * RDRAM_RECORD_BYTES;
-        if (record[4] == RDRAM_KIND_D)
-            continue;
-        rdram_packet p = rdram_word_decode(SET_H, sizeof SET_H, record[4], get(record + 8, 8));
-        if (p.command != RDRAM_NOCOP && p.bank == BANK)
-            printf(" %" PRIu64, get(record, 4));
+        rdram_packet p = rdram_packet_get(record, SET_H);
+        if (p.number == RDRAM_OK && p.command != RDRAM_NOCOP && p.bank == BANK)
+            printf(" %" PRIu32, rdram_record_get(record).instant);
     }
     putchar('\n');
 }
@@ -84,12 +77,12 @@ int main(void)
     size_t log_len = load(log_file, blocks, sizeof blocks), index_len = load(index_file, words, sizeof words);
     rdram_indexed lines = rdram_index_query(SET_H, sizeof SET_H, blocks, log_len, words, index_len, BANK, found, sizeof found);
     if (lines.number != RDRAM_OK) {
-        fprintf(stderr, "refusal %" PRIu32 " at %" PRIu64 "\n", lines.number, lines.place);
+        fprintf(stderr, "%s, at %" PRIu64 "\n", rdram_refusal_text(lines.number), lines.place);
         return 1;
     }
     printf("bank %d: %" PRIu64 " of %zu blocks\n", BANK, lines.count, log_len / RDRAM_BLOCK_BYTES);
     for (uint64_t i = 0; i < lines.count; i++)
-        show(get(found + 4 * i, 4));
+        show(rdram_get(found + 4 * i, 4));
     fclose(log_file);
     fclose(index_file);
     return 0;

@@ -6,8 +6,7 @@
  *
  * cc -std=c11 -O2 -Ihost/c host/c/examples/judge_list.c target/staticlib/librdram.a -o judge_list
  */
-#include "rdram.h"
-#include "rule_words.h"
+#include "rdram_util.h"
 #include <inttypes.h>
 #include <stdio.h>
 
@@ -19,22 +18,22 @@ static rdram_judged judge(const uint8_t *list, size_t length)
     if (answer.number == RDRAM_OK)
         printf("the list passes\n");
     else if (answer.number == RDRAM_REFUSED_RULE)
-        printf("record %" PRIu64 " breaks rule %" PRIu32 ": %s\n", answer.place, answer.rule, RULES[answer.rule]);
-    else if (answer.number == RDRAM_REFUSED_WORD)
-        printf("record %" PRIu64 " is not well formed under set H\n", answer.place);
-    else /* set H is never refused */
-        printf("the list is not one of whole records of %d bytes\n", RDRAM_RECORD_BYTES);
+        printf("record %" PRIu64 " breaks rule %" PRIu32 ": %s\n", answer.place, answer.rule, rdram_rule_text(answer.rule));
+    else
+        printf("record %" PRIu64 ": %s\n", answer.place, rdram_refusal_text(answer.number));
     return answer;
 }
 
-/* ACT of bank 0, row 0 at 4 (word 401000) and RD of column 1 at 13 (8000260000), then at 12. */
+/* ACT of bank 0, row 0 at 4 and RD of column 1 at 13, then at 12. */
 static int judge_two(void)
 {
-    uint8_t list[2][RDRAM_RECORD_BYTES] = {{4, 0, 0, 0, RDRAM_KIND_ROW, 0, 0, 0, 0x00, 0x10, 0x40},
-                                           {13, 0, 0, 0, RDRAM_KIND_COL, 0, 0, 0, 0x00, 0x00, 0x26, 0x00, 0x80}};
-    rdram_judged first = judge(list[0], sizeof list);
-    list[1][0] = 12;
-    rdram_judged second = judge(list[0], sizeof list);
+    uint8_t list[2 * RDRAM_RECORD_BYTES];
+    if (rdram_packet_put(list, SET_H, 4, RDRAM_ACT, 0, 0, 0) != RDRAM_OK
+        || rdram_packet_put(list + RDRAM_RECORD_BYTES, SET_H, 13, RDRAM_RD, 0, 1, RDRAM_MASK_FULL) != RDRAM_OK)
+        return 1;
+    rdram_judged first = judge(list, sizeof list);
+    rdram_put(list + RDRAM_RECORD_BYTES, 12, 4);
+    rdram_judged second = judge(list, sizeof list);
     int right = second.number == RDRAM_REFUSED_RULE && second.rule == 10 && second.place == 1;
     return first.number == RDRAM_OK && right ? 0 : 1;
 }

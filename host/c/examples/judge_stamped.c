@@ -6,7 +6,7 @@
  *
  * cc -std=c11 -O2 -Ihost/c host/c/examples/judge_stamped.c target/staticlib/librdram.a -o judge_stamped
  */
-#include "rdram.h"
+#include "rdram_util.h"
 #include <inttypes.h>
 #include <stdio.h>
 
@@ -17,37 +17,26 @@ static rdram_judged judge(FILE *file)
 {
     size_t length = fread(log_bytes, 1, sizeof log_bytes, file);
     rdram_judged answer = rdram_stamped_check(log_bytes, length);
-    switch (answer.number) {
-    case RDRAM_OK:
+    int block = answer.number == RDRAM_REFUSED_BLOCK || answer.number == RDRAM_REFUSED_STAMP;
+    if (answer.number == RDRAM_OK)
         printf("the log passes\n");
-        break;
-    case RDRAM_REFUSED_RULE:
-        printf("record %" PRIu64 " breaks rule %" PRIu32 "\n", answer.place, answer.rule);
-        break;
-    case RDRAM_REFUSED_WORD:
-        printf("record %" PRIu64 " is not well formed under the settings of the log\n", answer.place);
-        break;
-    case RDRAM_REFUSED_STAMP:
-        printf("the settings of block %" PRIu64 " are out of range or differ from block 0's\n", answer.place);
-        break;
-    case RDRAM_REFUSED_BLOCK:
-        printf("block %" PRIu64 " is damaged or out of order\n", answer.place);
-        break;
-    default:
-        printf("the log is not one of whole blocks of %d bytes\n", RDRAM_BLOCK_BYTES);
-    }
+    else if (answer.number == RDRAM_REFUSED_RULE)
+        printf("record %" PRIu64 " breaks rule %" PRIu32 ": %s\n", answer.place, answer.rule, rdram_rule_text(answer.rule));
+    else
+        printf("%s %" PRIu64 ": %s\n", block ? "block" : "record", answer.place, rdram_refusal_text(answer.number));
     return answer;
 }
 
 /* ACT of bank 0, row 0 at 4 and RD of column 1 at an instant, kept in a log on disk under set H. */
-static rdram_judged judge_pair(uint8_t at)
+static rdram_judged judge_pair(uint32_t at)
 {
     static const uint8_t settings[RDRAM_SETTINGS_BYTES] = RDRAM_SET_H;
-    uint8_t list[2][RDRAM_RECORD_BYTES] = {{4, 0, 0, 0, RDRAM_KIND_ROW, 0, 0, 0, 0x00, 0x10, 0x40},
-                                           {at, 0, 0, 0, RDRAM_KIND_COL, 0, 0, 0, 0x00, 0x00, 0x26, 0x00, 0x80}};
-    uint8_t block[RDRAM_BLOCK_BYTES];
+    uint8_t list[2 * RDRAM_RECORD_BYTES], block[RDRAM_BLOCK_BYTES];
     rdram_judged none = {1, 0, 0};
-    rdram_copied made = rdram_stamped_encode(settings, sizeof settings, list[0], sizeof list, block, sizeof block);
+    if (rdram_packet_put(list, settings, 4, RDRAM_ACT, 0, 0, 0) != RDRAM_OK
+        || rdram_packet_put(list + RDRAM_RECORD_BYTES, settings, at, RDRAM_RD, 0, 1, RDRAM_MASK_FULL) != RDRAM_OK)
+        return none;
+    rdram_copied made = rdram_stamped_encode(settings, sizeof settings, list, sizeof list, block, sizeof block);
     FILE *file = tmpfile();
     if (!file || made.number != RDRAM_OK || fwrite(block, 1, sizeof block, file) != sizeof block)
         return none;

@@ -6,7 +6,7 @@
  *
  * cc -std=c11 -O2 -Ihost/c host/c/examples/plan_file.c target/staticlib/librdram.a -o plan_file
  */
-#include "rdram.h"
+#include "rdram_util.h"
 #include <inttypes.h>
 #include <stdio.h>
 
@@ -16,29 +16,12 @@
 static const uint8_t SET_H[RDRAM_SETTINGS_BYTES] = RDRAM_SET_H;
 static uint8_t requests[PART * RDRAM_REQUEST_BYTES], room[1024 * RDRAM_RECORD_BYTES];
 
-static const char *why(uint32_t number)
-{
-    switch (number) {
-    case RDRAM_REFUSED_SETTINGS: return "the planner is none under these settings";
-    case RDRAM_REFUSED_KIND: return "its kind is unknown";
-    case RDRAM_REFUSED_SPARE: return "a byte that its kind does not use is not 0";
-    case RDRAM_REFUSED_BANK: return "its bank is above 31";
-    case RDRAM_REFUSED_ROW: return "its row is not below rows";
-    case RDRAM_REFUSED_COLUMN: return "its column is not below columns";
-    case RDRAM_REFUSED_HORIZON: return "an instant would pass 1,000,000,000";
-    case RDRAM_REFUSED_LENGTH: return "the file ends inside a request";
-    case RDRAM_REFUSED_UNRETIRED: return "it closes while a write waits";
-    default: return "see enum rdram_refusal";
-    }
-}
-
 /* Reads of one bank after another, and one of a bank that there is not. */
 static int make(FILE *file)
 {
-    for (unsigned i = 0; i < 4000; i++) {
-        uint8_t request[RDRAM_REQUEST_BYTES] = {RDRAM_REQUEST_READ, (uint8_t)(i / 8 % 32), 0, 0, (uint8_t)(i % 4)};
-        if (i == BAD)
-            request[1] = 99;
+    for (uint32_t i = 0; i < 4000; i++) {
+        uint8_t request[RDRAM_REQUEST_BYTES];
+        rdram_request_read(request, i == BAD ? 99 : i / 8 % 32, 0, i % 4);
         if (fwrite(request, 1, sizeof request, file) != sizeof request)
             return 0;
     }
@@ -76,13 +59,14 @@ int main(int count, char **names)
         fprintf(stderr, "no file\n");
         return 2;
     }
-    rdram_planner_fresh(planner, sizeof planner);
+    number = rdram_planner_fresh(planner, sizeof planner);
     while (number == RDRAM_OK && (length = fread(requests, 1, sizeof requests, file)) > 0) {
         number = plan(planner, length, list, &planned, &records);
         printf("%" PRIu64 " requests planned, %" PRIu64 " records\n", planned, records);
     }
     if (number != RDRAM_OK)
-        printf("stopped at request %" PRIu64 " (from 0), refusal %" PRIu32 ": %s\n", planned, number, why(number));
+        printf("stopped at request %" PRIu64 " (from 0), refusal %" PRIu32 ": %s\n", planned, number,
+               rdram_refusal_text(number));
     if (fclose(list) != 0)
         number = 100;
     if (count <= 2)

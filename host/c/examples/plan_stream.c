@@ -1,30 +1,15 @@
 /*
  * Plans a stream of requests under set H and prints the packets: instant, name,
- * bank, row or column; and how many banks the close looked at. The stream is
+ * bank, row or column, mask; and how many banks the close looked at. The stream is
  * run 1 of document 01, and a read that closes its bank: RDA has a PRER in it.
  *
  * cc -std=c11 -O2 -Ihost/c host/c/examples/plan_stream.c target/staticlib/librdram.a -o plan_stream
  */
-#include "rdram.h"
+#include "rdram_util.h"
 #include <inttypes.h>
 #include <stdio.h>
 
 static const uint8_t SET_H[RDRAM_SETTINGS_BYTES] = RDRAM_SET_H;
-
-static uint64_t get(const uint8_t *from, int bytes)
-{
-    return bytes == 0 ? 0 : get(from + 1, bytes - 1) << 8 | *from;
-}
-
-static void print(const uint8_t *record)
-{
-    static const char *const NAMES[] = {"ACT", "PRER", "REFA", "REFP", "NOCOP", "WR", "RD", "WRA", "RDA"};
-    rdram_packet p = rdram_word_decode(SET_H, sizeof SET_H, record[4], get(record + 8, 8));
-    if (record[4] == RDRAM_KIND_D)
-        printf("%" PRIu64 " D\n", get(record, 4));
-    else
-        printf("%" PRIu64 " %s %" PRIu32 " %" PRIu32 "\n", get(record, 4), NAMES[p.command], p.bank, p.place);
-}
 
 int main(void)
 {
@@ -35,14 +20,18 @@ int main(void)
         {RDRAM_REQUEST_READ_CLOSE, 5, 1, 0, 2}};
     uint8_t planner[RDRAM_PLANNER_BYTES], room[RDRAM_REQUEST_RECORDS * RDRAM_RECORD_BYTES];
     uint64_t records = 0;
-    rdram_planner_fresh(planner, sizeof planner);
+    char line[RDRAM_LINE_BYTES];
+    rdram_lines lines = {0, 0};
+    if (rdram_planner_fresh(planner, sizeof planner) != RDRAM_OK)
+        return 1;
     for (size_t i = 0; i < sizeof requests / sizeof requests[0]; i++) {
         rdram_planned made = rdram_plan(SET_H, sizeof SET_H, planner, sizeof planner, requests[i], sizeof requests[i],
                                         room, sizeof room);
         if (made.number != RDRAM_OK)
-            printf("refused %" PRIu32 "\n", made.number);
+            printf("refused: %s\n", rdram_refusal_text(made.number));
         for (uint64_t k = 0; k < made.records; k++)
-            print(room + k * RDRAM_RECORD_BYTES);
+            if (rdram_line(&lines, SET_H, room + k * RDRAM_RECORD_BYTES, line))
+                puts(line);
         if (requests[i][0] == RDRAM_REQUEST_CLOSE)
             printf("banks looked at %" PRIu32 "\n", made.banks);
         records += made.records;

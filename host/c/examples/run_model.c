@@ -80,8 +80,8 @@ int main(void)
     srand(1);
     for (int i = 0; i < STORE; i++)
         store[i] = array[i] = (uint8_t)rand();
-    rdram_planner_fresh(planner, sizeof planner);
-    rdram_model_fresh(model, sizeof model);
+    if (rdram_planner_fresh(planner, sizeof planner) != RDRAM_OK || rdram_model_fresh(model, sizeof model) != RDRAM_OK)
+        return 1;
     for (int i = 0; i < REQUESTS; i++) {
         make(request, i);
         rdram_planned made =

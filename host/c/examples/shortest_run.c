@@ -7,8 +7,7 @@
  *
  * cc -std=c11 -O2 -Ihost/c host/c/examples/shortest_run.c target/staticlib/librdram.a -o shortest_run
  */
-#include "rdram.h"
-#include "rule_words.h"
+#include "rdram_util.h"
 #include <inttypes.h>
 #include <stdio.h>
 
@@ -18,47 +17,26 @@
 static const uint8_t SET_H[RDRAM_SETTINGS_BYTES] = RDRAM_SET_H;
 static uint8_t blocks[BLOCKS * RDRAM_BLOCK_BYTES + 1], list[MOST * RDRAM_RECORD_BYTES];
 
-static uint64_t get(const uint8_t *from, int bytes)
-{
-    return bytes == 0 ? 0 : get(from + 1, bytes - 1) << 8 | *from;
-}
-
 /* A log of reads and writes that close their banks, of one that does not, and of an ACT beside that bank. */
 static int make(FILE *file)
 {
-    static const uint8_t ACT_1[8] = {0x00, 0x30, 0x40}; /* the word of ACT, bank 1, row 0 */
     uint8_t planner[RDRAM_PLANNER_BYTES];
     size_t length = 0;
-    rdram_planner_fresh(planner, sizeof planner);
-    for (int i = 3000; i >= 0; i--) {
-        uint8_t request[RDRAM_REQUEST_BYTES] = {i % 3 == 1 ? RDRAM_REQUEST_WRITE_CLOSE : RDRAM_REQUEST_READ_CLOSE};
-        if (i == 0)
-            request[0] = RDRAM_REQUEST_READ;
-        request[1] = (uint8_t)(i * 5 % 32);
-        request[4] = (uint8_t)(i % 4);
+    if (rdram_planner_fresh(planner, sizeof planner) != RDRAM_OK)
+        return 0;
+    for (uint32_t i = 3001; i-- > 0;) {
+        uint8_t request[RDRAM_REQUEST_BYTES];
+        uint32_t kind = i % 3 == 1 ? RDRAM_REQUEST_WRITE_CLOSE : RDRAM_REQUEST_READ_CLOSE;
+        rdram_request_put(request, i == 0 ? (uint32_t)RDRAM_REQUEST_READ : kind, i * 5 % 32, 0, i % 4);
         length += RDRAM_RECORD_BYTES
                   * rdram_plan(SET_H, sizeof SET_H, planner, sizeof planner, request, sizeof request, list + length,
                                sizeof list - length).records;
     }
-    uint32_t at = (uint32_t)get(list + length - RDRAM_RECORD_BYTES, 4) + 64;
-    for (int i = 0; i < 4; i++)
-        list[length + (size_t)i] = (uint8_t)(at >> 8 * i);
-    for (int i = 0; i < 8; i++)
-        list[length + 8 + (size_t)i] = ACT_1[i];
+    if (rdram_packet_put(list + length, SET_H, rdram_planner_now(planner) + 64, RDRAM_ACT, 1, 0, 0) != RDRAM_OK)
+        return 0;
     length += RDRAM_RECORD_BYTES;
     rdram_copied log = rdram_log_encode(SET_H, sizeof SET_H, list, length, blocks, sizeof blocks - 1);
     return fwrite(blocks, RDRAM_BLOCK_BYTES, log.count, file) == log.count && log.number == RDRAM_OK;
-}
-
-static void show(const uint8_t *record)
-{
-    static const char *const NAMES[] = {"ACT", "PRER", "REFA", "REFP", "NOCOP", "WR", "RD", "WRA", "RDA"};
-    if (record[4] == RDRAM_KIND_D) {
-        printf("%" PRIu64 " D\n", get(record, 4));
-        return;
-    }
-    rdram_packet p = rdram_word_decode(SET_H, sizeof SET_H, record[4], get(record + 8, 8));
-    printf("%" PRIu64 " %s %" PRIu32 " %" PRIu32 "\n", get(record, 4), NAMES[p.command], p.bank, p.place);
 }
 
 /* Prints the shortest run of a log and writes it; answers 1 where there is one. */
@@ -66,7 +44,7 @@ static int cut(size_t length, FILE *file)
 {
     rdram_copied log = rdram_log_decode(SET_H, sizeof SET_H, blocks, length, list, sizeof list);
     if (log.number != RDRAM_OK) {
-        printf("no log under set H: refusal %" PRIu32 " at %" PRIu64 "\n", log.number, log.place);
+        printf("no log under set H: %s, at %" PRIu64 "\n", rdram_refusal_text(log.number), log.place);
         return 0;
     }
     rdram_shortest_run run = rdram_shortest(SET_H, sizeof SET_H, list, log.count * RDRAM_RECORD_BYTES);
@@ -74,10 +52,14 @@ static int cut(size_t length, FILE *file)
         printf("the log passes\n");
         return 0;
     }
-    printf("record %" PRIu64 " of %" PRIu64 " breaks rule %" PRIu32 ": %s\n", run.place, log.count, run.rule, RULES[run.rule]);
+    printf("record %" PRIu64 " of %" PRIu64 " breaks rule %" PRIu32 ": %s\n", run.place, log.count, run.rule,
+           rdram_rule_text(run.rule));
     printf("records %" PRIu64 " to %" PRIu64 " tell it:\n", run.start, run.place);
+    rdram_lines lines = {0, 0};
+    char line[RDRAM_LINE_BYTES];
     for (uint64_t i = run.start; i <= run.place; i++)
-        show(list + i * RDRAM_RECORD_BYTES);
+        if (rdram_line(&lines, SET_H, list + i * RDRAM_RECORD_BYTES, line))
+            puts(line);
     rdram_copied out = rdram_log_encode(SET_H, sizeof SET_H, list + run.start * RDRAM_RECORD_BYTES,
                                         (run.place - run.start + 1) * RDRAM_RECORD_BYTES, blocks, sizeof blocks - 1);
     return out.number == RDRAM_OK && fwrite(blocks, RDRAM_BLOCK_BYTES, out.count, file) == out.count && fflush(file) == 0;

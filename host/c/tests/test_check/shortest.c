@@ -71,7 +71,7 @@ static size_t plan_random(int requests)
     static const uint8_t KINDS[] = {0, 0, 0, 1, 1, 1, 2, 3, 4, 5, 6, 7};
     uint8_t planner[RDRAM_PLANNER_BYTES];
     size_t length = 0;
-    rdram_planner_fresh(planner, sizeof planner);
+    check(rdram_planner_fresh(planner, sizeof planner) == 0, "a fresh planner");
     for (int i = 0; i < requests; i++) {
         uint8_t request[RDRAM_REQUEST_BYTES] = {KINDS[below(sizeof KINDS)]};
         int kind = request[0], writes = kind == 1 || kind == 7;

@@ -35,8 +35,10 @@ static int answers(rdram_meter m)
 static rdram_meter some_meter(uint32_t first, uint32_t feeds, uint32_t spread)
 {
     rdram_meter m = rdram_meter_fresh();
+    int ok = 1;
     for (uint32_t at = first; feeds-- > 0; at += 4 + below(spread))
-        rdram_meter_feed(&m, at);
+        ok &= rdram_meter_feed(&m, at) == RDRAM_OK;
+    check(ok, "feeds from %" PRIu32, first);
     return m;
 }
 

@@ -263,7 +263,7 @@ void test_states_by_core(void)
         for (int a = 0; a < 32; a++)
             for (int b = 0; b < 32; b++) {
                 int neighbours = (a - b == 1 || b - a == 1) && (core == 1 || (core == 0 && a / 16 == b / 16));
-                rdram_model_fresh(model, MODEL);
+                ok &= rdram_model_fresh(model, MODEL) == 0;
                 put(model + 640 + 2 * a, 1, 2);
                 put(model + 640 + 2 * b, 65535, 2);
                 /* a record without coding, whose refusal comes after that of a state */

@@ -59,7 +59,7 @@ static int want(uint32_t start, unsigned cac) {
 /* Requests of all kinds, the first a wait of so many cycles. */
 static void plan(unsigned requests, uint32_t wait) {
     uint8_t planner[RDRAM_PLANNER_BYTES];
-    rdram_planner_fresh(planner, sizeof planner);
+    check(rdram_planner_fresh(planner, sizeof planner) == 0, "a fresh planner");
     records = 0;
     for (unsigned i = 0; i < requests; i++) {
         uint8_t request[RDRAM_REQUEST_BYTES] = {(uint8_t)draw(8)};

@@ -215,7 +215,7 @@ void test_states_by_core(void)
                 int neighbours = (a - b == 1 || b - a == 1) && (core == 1 || (core == 0 && a / 16 == b / 16));
                 uint8_t one_open[PLANNER];
                 field other = {640 + 2 * b, 2, 2};
-                rdram_planner_fresh(one_open, PLANNER);
+                ok &= rdram_planner_fresh(one_open, PLANNER) == 0;
                 put(one_open + 640 + 2 * a, 1, 2);
                 ok &= neighbours ? refused_with(one_open, other) : comes_back_with(one_open, other);
             }
