@@ -49,24 +49,24 @@ static inline void rdram_assert_apart(const rdram_lent *lent, size_t count)
 #define RDRAM_LENT(x) {x, x##_len},
 
 /* NAME_apart: call NAME after the test, by the number of its buffers. */
-#define RDRAM_APART(answer, name, parameters, arguments, buffers)   \
-    RDRAM_ANSWER static inline answer name##_apart parameters       \
-    {                                                               \
-        const rdram_lent lent[] = {buffers};                        \
-        rdram_assert_apart(lent, sizeof lent / sizeof lent[0]);     \
-        return name arguments;                                      \
+#define RDRAM_APART(answer, name, parameters, arguments, buffers) \
+    RDRAM_ANSWER static inline answer name##_apart parameters \
+    { \
+        const rdram_lent lent[] = {buffers}; \
+        rdram_assert_apart(lent, sizeof lent / sizeof lent[0]); \
+        return name arguments; \
     }
-#define RDRAM_APART_2(answer, name, A, B)                           \
+#define RDRAM_APART_2(answer, name, A, B) \
     RDRAM_APART(answer, name, (RDRAM_TAKE_##A(a), RDRAM_TAKE_##B(b)), (RDRAM_PASS_##A(a), RDRAM_PASS_##B(b)), \
                 RDRAM_LENT(a) RDRAM_LENT(b))
-#define RDRAM_APART_3(answer, name, A, B, C)                        \
+#define RDRAM_APART_3(answer, name, A, B, C) \
     RDRAM_APART(answer, name, (RDRAM_TAKE_##A(a), RDRAM_TAKE_##B(b), RDRAM_TAKE_##C(c)), \
                 (RDRAM_PASS_##A(a), RDRAM_PASS_##B(b), RDRAM_PASS_##C(c)), RDRAM_LENT(a) RDRAM_LENT(b) RDRAM_LENT(c))
-#define RDRAM_APART_4(answer, name, A, B, C, D)                     \
+#define RDRAM_APART_4(answer, name, A, B, C, D) \
     RDRAM_APART(answer, name, (RDRAM_TAKE_##A(a), RDRAM_TAKE_##B(b), RDRAM_TAKE_##C(c), RDRAM_TAKE_##D(d)), \
                 (RDRAM_PASS_##A(a), RDRAM_PASS_##B(b), RDRAM_PASS_##C(c), RDRAM_PASS_##D(d)), \
                 RDRAM_LENT(a) RDRAM_LENT(b) RDRAM_LENT(c) RDRAM_LENT(d))
-#define RDRAM_APART_5(answer, name, A, B, C, D, E)                  \
+#define RDRAM_APART_5(answer, name, A, B, C, D, E) \
     RDRAM_APART(answer, name, (RDRAM_TAKE_##A(a), RDRAM_TAKE_##B(b), RDRAM_TAKE_##C(c), RDRAM_TAKE_##D(d), RDRAM_TAKE_##E(e)), \
                 (RDRAM_PASS_##A(a), RDRAM_PASS_##B(b), RDRAM_PASS_##C(c), RDRAM_PASS_##D(d), RDRAM_PASS_##E(e)), \
                 RDRAM_LENT(a) RDRAM_LENT(b) RDRAM_LENT(c) RDRAM_LENT(d) RDRAM_LENT(e))
