@@ -16,10 +16,11 @@ static jmp_buf failed_assertion;
 
 static uint8_t bytes[16 * LENGTH];
 static uint8_t *at[5];
+static size_t length[5];
 
-#define B(n) at[n], LENGTH
+#define B(n) at[n], length[n]
 
-/* Makes call number n with the buffers that `at` names; answers the number of its refusal. */
+/* Makes call number n with the buffers of `at` and `length`; answers the number of its refusal. */
 static uint32_t make_call(int n)
 {
     switch (n) {
@@ -50,15 +51,19 @@ static const int BUFFERS[] = {3, 3, 2, 2, 4, 4, 5, 2, 3, 3, 3, 4, 3, 3, 3, 2, 2,
 /* 100 where an assertion failed, else what the call answers. */
 static uint32_t watched(int n)
 {
-    return setjmp(failed_assertion) ? 100 : make_call(n);
+    if (setjmp(failed_assertion))
+        return 100;
+    return make_call(n);
 }
 
-/* Every pair of buffers: apart, side by side, and with one byte in common, either first. */
+/* Every pair of buffers, either first: apart, side by side, with one byte in common, the same, and one empty. */
 static void test_call(int n)
 {
     uint32_t refusal = n < 15 ? RDRAM_REFUSED_SETTINGS : RDRAM_REFUSED_LENGTH;
-    for (int i = 0; i < 5; i++)
+    for (int i = 0; i < 5; i++) {
         at[i] = bytes + 3 * LENGTH * i;
+        length[i] = LENGTH;
+    }
     check(watched(n) == refusal, "call %d, buffers apart", n);
     for (int i = 0; i < BUFFERS[n]; i++)
         for (int k = 0; k < BUFFERS[n]; k++) {
@@ -71,16 +76,20 @@ static void test_call(int n)
             check(watched(n) == 100, "call %d, buffer %d from the last byte of %d on", n, k, i);
             at[k] = at[i];
             check(watched(n) == 100, "call %d, buffer %d is %d", n, k, i);
+            at[k] = at[i] + 1;
+            length[k] = 0;
+            check(watched(n) != 100, "call %d, an empty buffer %d in %d", n, k, i);
             at[k] = kept;
+            length[k] = LENGTH;
         }
 }
 
-/* A buffer without bytes overlaps none, and arguments are evaluated once. */
-static void test_empty(void)
+/* Arguments are evaluated once, and answers handed on. */
+static void test_arguments(void)
 {
     static const uint8_t set_h[RDRAM_SETTINGS_BYTES] = RDRAM_SET_H;
-    const uint8_t *list = set_h + 8;
-    check(rdram_check(set_h, sizeof set_h, list++, 0).number == RDRAM_OK && list == set_h + 9, "an empty list inside the settings");
+    const uint8_t *list = bytes;
+    check(rdram_check(set_h, sizeof set_h, list++, 0).number == RDRAM_OK && list == bytes + 1, "arguments evaluated once");
     check(rdram_check(set_h, sizeof set_h, NULL, 0).number == RDRAM_OK, "an empty list at a null pointer");
 }
 
@@ -88,6 +97,6 @@ int main(void)
 {
     for (int n = 0; n < (int)COUNT(BUFFERS); n++)
         test_call(n);
-    test_empty();
+    test_arguments();
     return report();
 }

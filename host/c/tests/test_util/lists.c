@@ -31,7 +31,8 @@ static void same_record(const uint8_t *record, const char *text)
     rdram_record of = rdram_record_get(record);
     fill(back, sizeof back);
     rdram_record_put(back, &of);
-    check(memcmp(back, record, RECORD) == 0, "a record taken apart and put together: %s", text);
+    check(memcmp(back, record, RECORD) == 0 && memcmp(of.data, record + 16, sizeof of.data) == 0,
+          "a record taken apart and put together: %s", text);
     rdram_packet ours = rdram_packet_get(record, settings);
     rdram_packet theirs = rdram_word_decode(settings, sizeof settings, of.kind, of.word);
     check(memcmp(&ours, &theirs, sizeof ours) == 0 && (ours.number != 0) == (of.kind == RDRAM_KIND_D), "the packet of %s", text);
@@ -53,7 +54,8 @@ void test_lines(void)
     rdram_lines lines = {0, 0};
     use_set_h();
     for (size_t i = 0; i < COUNT(TEXTS); i++) {
-        put_line(record, TEXTS[i]);
+        if (put_line(record, TEXTS[i]))
+            fill(record + 16, RDRAM_DUALOCT_BYTES);
         same_record(record, TEXTS[i]);
         memset(line, 'x', sizeof line);
         size_t length = rdram_line(&lines, settings, record, line);
