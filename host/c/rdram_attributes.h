@@ -1,8 +1,8 @@
 /*
  * rdram_attributes.h: what the declarations tell a compiler of the buffers that a call is lent. Part of
- * rdram.h, which includes it. With gcc from 10 on, -O2 and -Wall a program is warned of one buffer lent
- * twice to a call, of a length above that of its buffer, of a buffer that is read before anything was
- * put there, and of an answer that is not looked at. Other compilers say less, or nothing.
+ * rdram.h, which includes it. With -O2 -Wall gcc from 10 on warns, where it can see it, of one buffer lent
+ * twice to a call, of a length above that of its buffer, of a buffer that is read before anything was put
+ * there, and of an answer that is not looked at. Other compilers say less, or nothing.
  */
 #ifndef RDRAM_ATTRIBUTES_H
 #define RDRAM_ATTRIBUTES_H

@@ -19,8 +19,10 @@ static rdram_judged judge(const uint8_t *list, size_t length)
         printf("the list passes\n");
     else if (answer.number == RDRAM_REFUSED_RULE)
         printf("record %" PRIu64 " breaks rule %" PRIu32 ": %s\n", answer.place, answer.rule, rdram_rule_text(answer.rule));
-    else
+    else if (answer.number == RDRAM_REFUSED_WORD)
         printf("record %" PRIu64 ": %s\n", answer.place, rdram_refusal_text(answer.number));
+    else
+        printf("%s\n", rdram_refusal_text(answer.number));
     return answer;
 }
 

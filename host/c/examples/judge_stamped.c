@@ -17,13 +17,15 @@ static rdram_judged judge(FILE *file)
 {
     size_t length = fread(log_bytes, 1, sizeof log_bytes, file);
     rdram_judged answer = rdram_stamped_check(log_bytes, length);
-    int block = answer.number == RDRAM_REFUSED_BLOCK || answer.number == RDRAM_REFUSED_STAMP;
     if (answer.number == RDRAM_OK)
         printf("the log passes\n");
     else if (answer.number == RDRAM_REFUSED_RULE)
         printf("record %" PRIu64 " breaks rule %" PRIu32 ": %s\n", answer.place, answer.rule, rdram_rule_text(answer.rule));
+    else if (answer.number == RDRAM_REFUSED_LENGTH)
+        printf("%s\n", rdram_refusal_text(answer.number));
     else
-        printf("%s %" PRIu64 ": %s\n", block ? "block" : "record", answer.place, rdram_refusal_text(answer.number));
+        printf("%s %" PRIu64 ": %s\n", answer.number == RDRAM_REFUSED_WORD ? "record" : "block", answer.place,
+               rdram_refusal_text(answer.number));
     return answer;
 }
 
