@@ -80,7 +80,13 @@ fn plain_index_make(settings: &[u8], log: &[u8], index: &mut [u8]) -> Result<usi
 }
 
 #[inline(never)]
-fn plain_index_query(settings: &[u8], log: &[u8], index: &[u8], bank: u32, out: &mut [u8]) -> Result<usize, (u32, usize)> {
+fn plain_index_query(
+    settings: &[u8],
+    log: &[u8],
+    index: &[u8],
+    bank: u32,
+    out: &mut [u8],
+) -> Result<usize, (u32, usize)> {
     plain::index_query(settings, log, index, bank, out)
 }
 
@@ -138,8 +144,16 @@ fn measure_index(log: &[u8], records: usize, runs: usize, stream: &str) {
         records,
         runs,
         [
-            &mut || vec![timed(|| rdram::index_make(&SETTINGS, black_box(log), &mut index))],
-            &mut || vec![timed(|| plain_index_make(&settings, black_box(log), &mut plain_index))],
+            &mut || {
+                vec![timed(|| {
+                    rdram::index_make(&SETTINGS, black_box(log), &mut index)
+                })]
+            },
+            &mut || {
+                vec![timed(|| {
+                    plain_index_make(&settings, black_box(log), &mut plain_index)
+                })]
+            },
         ],
     );
     assert!(index == plain_index, "other words");
@@ -150,8 +164,16 @@ fn measure_index(log: &[u8], records: usize, runs: usize, stream: &str) {
         records,
         runs,
         [
-            &mut || vec![timed(|| rdram::index_query(&SETTINGS, black_box(log), &index, 7, &mut found))],
-            &mut || vec![timed(|| plain_index_query(&settings, black_box(log), &index, 7, &mut plain_found))],
+            &mut || {
+                vec![timed(|| {
+                    rdram::index_query(&SETTINGS, black_box(log), &index, 7, &mut found)
+                })]
+            },
+            &mut || {
+                vec![timed(|| {
+                    plain_index_query(&settings, black_box(log), &index, 7, &mut plain_found)
+                })]
+            },
         ],
     );
     assert!(found == plain_found, "other blocks");

@@ -2,7 +2,10 @@
 //! its index to two files, opens them again, and lists the blocks that touch bank 7. Run with
 //! `cargo run --release --offline --manifest-path host/rust/Cargo.toml --example follow_bank`.
 
-use rdram::{index_banks, index_make, index_query, log_encode, Planner, Request, Settings, BLOCK_BYTES, RECORD_BYTES};
+use rdram::{
+    index_banks, index_make, index_query, log_encode, Planner, Request, Settings, BLOCK_BYTES,
+    RECORD_BYTES,
+};
 use std::{env, error::Error, fs, process};
 
 const SET_H: Settings = Settings::SET_H;
@@ -13,7 +16,11 @@ fn log() -> Result<Vec<u8>, rdram::Refusal> {
     let (mut planner, mut list) = (Planner::fresh(), Vec::new());
     for i in 0..200 {
         let mut room = [0; rdram::REQUEST_RECORDS * RECORD_BYTES];
-        let request = Request::Read { bank: (i / 3 * 5 % 32) as u8, row: 0, column: (i % 4) as u8 };
+        let request = Request::Read {
+            bank: (i / 3 * 5 % 32) as u8,
+            row: 0,
+            column: (i % 4) as u8,
+        };
         let made = planner.plan(&SET_H, &request, &mut room)?;
         list.extend_from_slice(&room[..made.records * RECORD_BYTES]);
     }

@@ -44,7 +44,12 @@ pub fn index_make(settings: &Settings, log: &[u8], index: &mut [u8]) -> Result<u
 ///
 /// As [`index_make`], and after 10 [`Refusal::Index`] for the first of the kept words that is wrong,
 /// missing or surplus.
-pub fn index_add(settings: &Settings, log: &[u8], kept: usize, index: &mut [u8]) -> Result<usize, Refusal> {
+pub fn index_add(
+    settings: &Settings,
+    log: &[u8],
+    kept: usize,
+    index: &mut [u8],
+) -> Result<usize, Refusal> {
     let s = settings.to_bytes();
     // SAFETY: each pointer and length are those of one slice; `index` is lent by `&mut`, so it
     // overlaps neither `log` nor `s`.

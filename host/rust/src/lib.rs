@@ -39,7 +39,10 @@ pub use planner::{Planned, PlannedAll, Planner, Request};
 pub use refusal::Refusal;
 pub use settings::{Core, Settings};
 pub use shortest::{shortest, ShortestRun};
-pub use stamped::{log_stamp, log_unstamp, stamped_check, stamped_decode, stamped_encode, stamped_index, stamped_query};
+pub use stamped::{
+    log_stamp, log_unstamp, stamped_check, stamped_decode, stamped_encode, stamped_index,
+    stamped_query,
+};
 pub use version::{version, Version, VERSION};
 
 /// Bytes of the settings.

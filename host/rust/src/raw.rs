@@ -154,7 +154,12 @@ extern "C" {
         log_len: usize,
     ) -> Copied;
 
-    pub fn rdram_stamped_decode(log: *const u8, log_len: usize, list: *mut u8, list_len: usize) -> Copied;
+    pub fn rdram_stamped_decode(
+        log: *const u8,
+        log_len: usize,
+        list: *mut u8,
+        list_len: usize,
+    ) -> Copied;
 
     pub fn rdram_stamped_check(log: *const u8, log_len: usize) -> Judged;
 
@@ -185,7 +190,12 @@ extern "C" {
         out_len: usize,
     ) -> Copied;
 
-    pub fn rdram_log_unstamp(log: *const u8, log_len: usize, out: *mut u8, out_len: usize) -> Copied;
+    pub fn rdram_log_unstamp(
+        log: *const u8,
+        log_len: usize,
+        out: *mut u8,
+        out_len: usize,
+    ) -> Copied;
 
     pub fn rdram_index_make(
         settings: *const u8,

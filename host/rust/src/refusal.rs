@@ -82,7 +82,10 @@ impl Refusal {
     pub fn place(&self) -> Option<u64> {
         match *self {
             Refusal::Word { place } => place,
-            Refusal::Rule { place, .. } | Refusal::Block { place } | Refusal::Index { place } | Refusal::Stamp { place } => Some(place),
+            Refusal::Rule { place, .. }
+            | Refusal::Block { place }
+            | Refusal::Index { place }
+            | Refusal::Stamp { place } => Some(place),
             _ => None,
         }
     }

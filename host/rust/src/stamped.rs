@@ -27,7 +27,14 @@ pub fn stamped_encode(settings: &Settings, list: &[u8], log: &mut [u8]) -> Resul
     // SAFETY: each pointer and length are those of one slice; `log` is lent by `&mut`, so it overlaps
     // neither `list` nor `s`.
     copied(unsafe {
-        raw::rdram_stamped_encode(s.as_ptr(), s.len(), list.as_ptr(), list.len(), log.as_mut_ptr(), log.len())
+        raw::rdram_stamped_encode(
+            s.as_ptr(),
+            s.len(),
+            list.as_ptr(),
+            list.len(),
+            log.as_mut_ptr(),
+            log.len(),
+        )
     })
 }
 
@@ -39,7 +46,9 @@ pub fn stamped_encode(settings: &Settings, list: &[u8], log: &mut [u8]) -> Resul
 /// [`Refusal::Full`].
 pub fn stamped_decode(log: &[u8], list: &mut [u8]) -> Result<usize, Refusal> {
     // SAFETY: each pointer and length are those of one slice; `list` is lent by `&mut`.
-    copied(unsafe { raw::rdram_stamped_decode(log.as_ptr(), log.len(), list.as_mut_ptr(), list.len()) })
+    copied(unsafe {
+        raw::rdram_stamped_decode(log.as_ptr(), log.len(), list.as_mut_ptr(), list.len())
+    })
 }
 
 /// Judges the list that a log keeps by the settings that it carries.
@@ -62,7 +71,15 @@ pub fn stamped_check(log: &[u8]) -> Result<(), Refusal> {
 /// [`Refusal::Index`], [`Refusal::Full`].
 pub fn stamped_index(log: &[u8], kept: usize, index: &mut [u8]) -> Result<usize, Refusal> {
     // SAFETY: each pointer and length are those of one slice; `index` is lent by `&mut`.
-    indexed(unsafe { raw::rdram_stamped_index(log.as_ptr(), log.len(), kept, index.as_mut_ptr(), index.len()) })
+    indexed(unsafe {
+        raw::rdram_stamped_index(
+            log.as_ptr(),
+            log.len(),
+            kept,
+            index.as_mut_ptr(),
+            index.len(),
+        )
+    })
 }
 
 /// Lists the numbers of the blocks of a log that carries its settings which touch a bank.
@@ -71,7 +88,12 @@ pub fn stamped_index(log: &[u8], kept: usize, index: &mut [u8]) -> Result<usize,
 ///
 /// In this order: [`Refusal::Length`] (log, then index), [`Refusal::Bank`], [`Refusal::Block`],
 /// [`Refusal::Stamp`], [`Refusal::Word`], [`Refusal::Index`], [`Refusal::Full`].
-pub fn stamped_query(log: &[u8], index: &[u8], bank: u32, out: &mut [u8]) -> Result<usize, Refusal> {
+pub fn stamped_query(
+    log: &[u8],
+    index: &[u8],
+    bank: u32,
+    out: &mut [u8],
+) -> Result<usize, Refusal> {
     // SAFETY: each pointer and length are those of one slice; `out` is lent by `&mut`.
     indexed(unsafe {
         raw::rdram_stamped_query(
@@ -97,7 +119,14 @@ pub fn log_stamp(settings: &Settings, log: &[u8], out: &mut [u8]) -> Result<usiz
     let s = settings.to_bytes();
     // SAFETY: each pointer and length are those of one slice; `out` is lent by `&mut`.
     copied(unsafe {
-        raw::rdram_log_stamp(s.as_ptr(), s.len(), log.as_ptr(), log.len(), out.as_mut_ptr(), out.len())
+        raw::rdram_log_stamp(
+            s.as_ptr(),
+            s.len(),
+            log.as_ptr(),
+            log.len(),
+            out.as_mut_ptr(),
+            out.len(),
+        )
     })
 }
 

@@ -1,7 +1,9 @@
 //! The index of a log, and queries by bank, against a scan of the log's records.
 
 use crate::random::{bytes, Random};
-use crate::reference::{blocks, figures, first_bad_block, first_bad_record, number, packet, records, NOCOP};
+use crate::reference::{
+    blocks, figures, first_bad_block, first_bad_record, number, packet, records, NOCOP,
+};
 use rdram::raw;
 
 /// A refusal's number and place, or the count.
@@ -35,10 +37,13 @@ fn scanned(settings: &[u8], log: &[u8]) -> Vec<u32> {
     let f = figures(settings).unwrap();
     let word = |block: &[u8]| {
         let used = number(&block[484..488]) as usize;
-        let banks = block[..32 * used].chunks(32).filter(|r| r[4] < 2).filter_map(|r| {
-            let p = packet(&f, r[4].into(), number(&r[8..16]))?;
-            (p.command != NOCOP).then_some(p.bank)
-        });
+        let banks = block[..32 * used]
+            .chunks(32)
+            .filter(|r| r[4] < 2)
+            .filter_map(|r| {
+                let p = packet(&f, r[4].into(), number(&r[8..16]))?;
+                (p.command != NOCOP).then_some(p.bank)
+            });
         banks.fold(0, |word, bank| word | 1 << bank)
     };
     log.chunks(512).map(word).collect()
@@ -50,11 +55,18 @@ fn in_bytes(words: &[u32]) -> Vec<u8> {
 
 /// The first word that differs, of so many.
 fn first_wrong(index: &[u8], words: &[u32], n: usize) -> Option<usize> {
-    (0..n).find(|&k| k >= words.len() || index.get(4 * k..4 * k + 4) != Some(&words[k].to_le_bytes()[..]))
+    (0..n).find(|&k| {
+        k >= words.len() || index.get(4 * k..4 * k + 4) != Some(&words[k].to_le_bytes()[..])
+    })
 }
 
 /// What is to be answered, and what the buffer is to hold then.
-fn finish(tested: Option<Answer>, wrong: impl Fn() -> Option<usize>, new: impl Fn() -> Vec<u8>, buffer: &mut [u8]) -> Answer {
+fn finish(
+    tested: Option<Answer>,
+    wrong: impl Fn() -> Option<usize>,
+    new: impl Fn() -> Vec<u8>,
+    buffer: &mut [u8],
+) -> Answer {
     if let Some(answer) = tested {
         return answer;
     }
@@ -73,9 +85,24 @@ fn add(settings: &[u8], log: &[u8], kept: usize, buffer: &[u8]) {
     let (mut wanted, mut got) = (buffer.to_vec(), buffer.to_vec());
     let tested = tests(settings, log, None, 0);
     let words = || scanned(settings, log);
-    let answer = finish(tested, || first_wrong(buffer, &words(), kept), || in_bytes(&words()), &mut wanted);
+    let answer = finish(
+        tested,
+        || first_wrong(buffer, &words(), kept),
+        || in_bytes(&words()),
+        &mut wanted,
+    );
     // SAFETY: each pointer and length are those of one vector.
-    let a = unsafe { raw::rdram_index_add(settings.as_ptr(), settings.len(), log.as_ptr(), log.len(), kept, got.as_mut_ptr(), got.len()) };
+    let a = unsafe {
+        raw::rdram_index_add(
+            settings.as_ptr(),
+            settings.len(),
+            log.as_ptr(),
+            log.len(),
+            kept,
+            got.as_mut_ptr(),
+            got.len(),
+        )
+    };
     assert_eq!((seen(a), got), (answer, wanted), "{kept} words kept");
 }
 
@@ -84,12 +111,29 @@ fn query(settings: &[u8], log: &[u8], index: &[u8], bank: u32, room: &[u8]) -> u
     let tested = tests(settings, log, Some(index), bank);
     let words = || scanned(settings, log);
     let wrong = || first_wrong(index, &words(), (log.len() / 512).max(index.len() / 4));
-    let list = || in_bytes(&words().iter().enumerate().filter(|w| w.1 >> bank & 1 == 1).map(|w| w.0 as u32).collect::<Vec<_>>());
+    let list = || {
+        in_bytes(
+            &words()
+                .iter()
+                .enumerate()
+                .filter(|w| w.1 >> bank & 1 == 1)
+                .map(|w| w.0 as u32)
+                .collect::<Vec<_>>(),
+        )
+    };
     let answer = finish(tested, wrong, list, &mut wanted);
     // SAFETY: each pointer and length are those of one vector.
     let a = unsafe {
         raw::rdram_index_query(
-            settings.as_ptr(), settings.len(), log.as_ptr(), log.len(), index.as_ptr(), index.len(), bank, got.as_mut_ptr(), got.len(),
+            settings.as_ptr(),
+            settings.len(),
+            log.as_ptr(),
+            log.len(),
+            index.as_ptr(),
+            index.len(),
+            bank,
+            got.as_mut_ptr(),
+            got.len(),
         )
     };
     assert_eq!((seen(a), got), (answer, wanted), "bank {bank}");

@@ -42,14 +42,22 @@ fn character(marked: &[(usize, i64, char)], line: usize, cycle: i64) -> char {
     if line == 3 {
         return if cycle % 8 == 0 { '|' } else { ' ' };
     }
-    let mut found = marked.iter().filter(|(l, first, _)| *l == line && *first <= cycle && cycle <= first + 3);
+    let mut found = marked
+        .iter()
+        .filter(|(l, first, _)| *l == line && *first <= cycle && cycle <= first + 3);
     let letter = found.next().map_or('.', |m| m.2);
-    assert!(found.next().is_none(), "two marks at cycle {cycle} of line {line}");
+    assert!(
+        found.next().is_none(),
+        "two marks at cycle {cycle} of line {line}"
+    );
     letter
 }
 
 fn drawing(numbers: &[u16; 16], items: &[Item], start: u32) -> Vec<u8> {
-    let marked: Vec<_> = items.iter().flat_map(|i| marks(numbers[T_CAC].into(), i)).collect();
+    let marked: Vec<_> = items
+        .iter()
+        .flat_map(|i| marks(numbers[T_CAC].into(), i))
+        .collect();
     let mut text = String::new();
     for (line, name) in ["ROW", "COL", "DQ", ""].iter().enumerate() {
         text += &format!("{name:8}");
@@ -71,7 +79,14 @@ fn answer(settings: &[u8], list: &[u8], start: u32, room: usize) -> Answer {
 }
 
 /// Calls by the C function and by the safe wrapper: answer and every byte of the room.
-fn compare(seen: &mut Seen, numbers: &[u16; 16], (settings, list): (&[u8], &[u8]), items: &[Item], start: u32, room: usize) {
+fn compare(
+    seen: &mut Seen,
+    numbers: &[u16; 16],
+    (settings, list): (&[u8], &[u8]),
+    items: &[Item],
+    start: u32,
+    room: usize,
+) {
     let want = answer(settings, list, start, room);
     let mut left = pattern(room);
     if want.0 == 0 {
@@ -81,14 +96,33 @@ fn compare(seen: &mut Seen, numbers: &[u16; 16], (settings, list): (&[u8], &[u8]
     let out = lent(&mut buffer);
     // SAFETY: each pointer and length are those of one slice.
     let a = unsafe {
-        raw::rdram_page(settings.as_ptr(), settings.len(), list.as_ptr(), list.len(), start, out.as_mut_ptr(), out.len())
+        raw::rdram_page(
+            settings.as_ptr(),
+            settings.len(),
+            list.as_ptr(),
+            list.len(),
+            start,
+            out.as_mut_ptr(),
+            out.len(),
+        )
     };
-    assert_eq!((a.number, a.rule, a.place), want, "start {start}, room {room}");
-    assert!(buffer == guarded(&left), "start {start}:\n{}", String::from_utf8_lossy(lent(&mut buffer)));
+    assert_eq!(
+        (a.number, a.rule, a.place),
+        want,
+        "start {start}, room {room}"
+    );
+    assert!(
+        buffer == guarded(&left),
+        "start {start}:\n{}",
+        String::from_utf8_lossy(lent(&mut buffer))
+    );
     if let Some(s) = typed(settings) {
         let mut buffer = pattern(room);
         let said = rdram::page(&s, list, start, &mut buffer);
-        let said = said.map_or_else(|r| (r.number(), r.rule().unwrap_or(0), r.place().unwrap_or(0)), |()| (0, 0, 0));
+        let said = said.map_or_else(
+            |r| (r.number(), r.rule().unwrap_or(0), r.place().unwrap_or(0)),
+            |()| (0, 0, 0),
+        );
         assert_eq!(said, want);
         assert!(buffer == left);
     }
@@ -97,13 +131,26 @@ fn compare(seen: &mut Seen, numbers: &[u16; 16], (settings, list): (&[u8], &[u8]
 
 /// A start: at an edge, about an item, or any.
 fn some_start(random: &mut Random, items: &[Item]) -> u32 {
-    let edges = [0, 1, 2, 3, 4, LAST - 63, LAST - 3, LAST - 1, LAST, LAST + 1, u32::MAX];
+    let edges = [
+        0,
+        1,
+        2,
+        3,
+        4,
+        LAST - 63,
+        LAST - 3,
+        LAST - 1,
+        LAST,
+        LAST + 1,
+        u32::MAX,
+    ];
     match random.below(8) {
         0 | 1 => random.pick(&edges),
         2 => LAST - random.below(100) as u32,
         3 => random.below(100) as u32,
         _ if items.is_empty() => random.below(8) as u32,
-        _ => (items[random.below(items.len())].at.min(LAST) + 20).saturating_sub(random.below(90) as u32),
+        _ => (items[random.below(items.len())].at.min(LAST) + 20)
+            .saturating_sub(random.below(90) as u32),
     }
 }
 
@@ -115,7 +162,9 @@ fn hand_lists_at_every_edge() {
     for text in PASS {
         let items = lines(text);
         let list = list_bytes(&settings, &items);
-        let ends = items.iter().flat_map(|i| i.at.saturating_sub(70)..=i.at + 13);
+        let ends = items
+            .iter()
+            .flat_map(|i| i.at.saturating_sub(70)..=i.at + 13);
         for start in (0..4).chain(ends).chain(LAST - 70..=LAST + 1) {
             compare(&mut seen, &numbers, (&settings, &list), &items, start, PAGE);
         }
@@ -166,12 +215,28 @@ fn records_outside() {
         let start = some_start(random, &items).min(LAST);
         let meets = |i: &Item| {
             let (first, end) = (i64::from(start), i64::from(start) + 64);
-            marks(numbers[T_CAC].into(), i).iter().any(|m| first < m.1 + 4 && m.1 < end)
+            marks(numbers[T_CAC].into(), i)
+                .iter()
+                .any(|m| first < m.1 + 4 && m.1 < end)
         };
         let about = items.iter().rposition(meets).map_or(0, |last| last + 1);
         let list = list_bytes(&settings, &items);
-        compare(&mut seen, &numbers, (&settings, &list), &items[..about], start, PAGE);
-        compare(&mut seen, &numbers, (&settings, &list[..32 * about]), &items, start, PAGE);
+        compare(
+            &mut seen,
+            &numbers,
+            (&settings, &list),
+            &items[..about],
+            start,
+            PAGE,
+        );
+        compare(
+            &mut seen,
+            &numbers,
+            (&settings, &list[..32 * about]),
+            &items,
+            start,
+            PAGE,
+        );
     }
     seen.report("records outside", &[0]);
 }

@@ -1,7 +1,9 @@
 //! Logs that carry their settings, against an implementation written from document 02 i alone.
 
 use crate::random::{bytes, rounds, set_h, Random};
-use crate::reference::{blocks, figures, first_bad_block, first_bad_record, number, packet, records, seal, NOCOP};
+use crate::reference::{
+    blocks, figures, first_bad_block, first_bad_record, number, packet, records, seal, NOCOP,
+};
 use crate::reference_rules::check;
 use rdram::raw;
 
@@ -27,7 +29,9 @@ fn stamped(settings: &[u8], list: &[u8]) -> Vec<u8> {
 
 fn block_fits(block: &[u8], k: usize, n: usize) -> bool {
     let used = number(&block[484..488]) as usize;
-    let sum = block.chunks(4).fold(0u32, |s, w| s.wrapping_add(number(w) as u32));
+    let sum = block
+        .chunks(4)
+        .fold(0u32, |s, w| s.wrapping_add(number(w) as u32));
     (used == 14 || (k + 1 == n && (1..14).contains(&used)))
         && number(&block[480..484]) == k as u64
         && block[32 * used..448].iter().all(|b| *b == 0)
@@ -45,7 +49,9 @@ fn tested(log: &[u8]) -> Result<(Vec<u8>, Vec<u8>), (u32, usize)> {
         return Err((12, k));
     }
     let stamp = |k: usize| &blocks[k][448..480];
-    if let Some(k) = (0..blocks.len()).find(|&k| figures(stamp(k)).is_none() || stamp(k) != stamp(0)) {
+    if let Some(k) =
+        (0..blocks.len()).find(|&k| figures(stamp(k)).is_none() || stamp(k) != stamp(0))
+    {
         return Err((17, k));
     }
     let list = records(log);
@@ -87,13 +93,18 @@ fn old_tested(settings: &[u8], log: &[u8]) -> Result<Vec<u8>, (u32, usize)> {
 }
 
 fn words(settings: &[u8], log: &[u8]) -> Vec<u32> {
-    let Some(f) = figures(settings) else { return Vec::new() };
+    let Some(f) = figures(settings) else {
+        return Vec::new();
+    };
     let word = |block: &[u8]| {
         let used = number(&block[484..488]) as usize;
-        let banks = block[..32 * used].chunks(32).filter(|r| r[4] < 2).filter_map(|r| {
-            let p = packet(&f, r[4].into(), number(&r[8..16]))?;
-            (p.command != NOCOP).then_some(p.bank)
-        });
+        let banks = block[..32 * used]
+            .chunks(32)
+            .filter(|r| r[4] < 2)
+            .filter_map(|r| {
+                let p = packet(&f, r[4].into(), number(&r[8..16]))?;
+                (p.command != NOCOP).then_some(p.bank)
+            });
         banks.fold(0, |word, bank| word | 1 << bank)
     };
     log.chunks(512).map(word).collect()
@@ -127,7 +138,14 @@ impl Seen {
         let answer = put(made, 512, &mut wanted);
         // SAFETY: here and below, each pointer and length are those of one vector.
         let a = unsafe {
-            raw::rdram_stamped_encode(settings.as_ptr(), settings.len(), list.as_ptr(), list.len(), got.as_mut_ptr(), got.len())
+            raw::rdram_stamped_encode(
+                settings.as_ptr(),
+                settings.len(),
+                list.as_ptr(),
+                list.len(),
+                got.as_mut_ptr(),
+                got.len(),
+            )
         };
         self.copied("encode", a, got, (answer, wanted));
     }
@@ -135,22 +153,36 @@ impl Seen {
     fn decode(&mut self, log: &[u8], room: &[u8]) {
         let (mut wanted, mut got) = (room.to_vec(), room.to_vec());
         let answer = put(tested(log).map(|t| t.1), 32, &mut wanted);
-        let a = unsafe { raw::rdram_stamped_decode(log.as_ptr(), log.len(), got.as_mut_ptr(), got.len()) };
+        let a = unsafe {
+            raw::rdram_stamped_decode(log.as_ptr(), log.len(), got.as_mut_ptr(), got.len())
+        };
         self.copied("decode", a, got, (answer, wanted));
     }
 
     fn unstamp(&mut self, log: &[u8], room: &[u8]) {
         let (mut wanted, mut got) = (room.to_vec(), room.to_vec());
         let answer = put(tested(log).map(|t| blocks(&t.1)), 512, &mut wanted);
-        let a = unsafe { raw::rdram_log_unstamp(log.as_ptr(), log.len(), got.as_mut_ptr(), got.len()) };
+        let a =
+            unsafe { raw::rdram_log_unstamp(log.as_ptr(), log.len(), got.as_mut_ptr(), got.len()) };
         self.copied("unstamp", a, got, (answer, wanted));
     }
 
     fn stamp(&mut self, settings: &[u8], log: &[u8], room: &[u8]) {
         let (mut wanted, mut got) = (room.to_vec(), room.to_vec());
-        let answer = put(old_tested(settings, log).map(|list| stamped(settings, &list)), 512, &mut wanted);
+        let answer = put(
+            old_tested(settings, log).map(|list| stamped(settings, &list)),
+            512,
+            &mut wanted,
+        );
         let a = unsafe {
-            raw::rdram_log_stamp(settings.as_ptr(), settings.len(), log.as_ptr(), log.len(), got.as_mut_ptr(), got.len())
+            raw::rdram_log_stamp(
+                settings.as_ptr(),
+                settings.len(),
+                log.as_ptr(),
+                log.len(),
+                got.as_mut_ptr(),
+                got.len(),
+            )
         };
         self.copied("stamp", a, got, (answer, wanted));
     }
@@ -173,12 +205,20 @@ impl Seen {
         let (mut wanted, mut got) = (room.to_vec(), room.to_vec());
         let made = tested(log).and_then(|(settings, _)| {
             let words = words(&settings, log);
-            let wrong = (0..kept).find(|&k| k >= words.len() || room.get(4 * k..4 * k + 4) != Some(&words[k].to_le_bytes()[..]));
+            let wrong = (0..kept).find(|&k| {
+                k >= words.len() || room.get(4 * k..4 * k + 4) != Some(&words[k].to_le_bytes()[..])
+            });
             wrong.map_or(Ok(in_bytes(&words)), |k| Err((14, k)))
         });
         let answer = put(made, 4, &mut wanted);
-        let a = unsafe { raw::rdram_stamped_index(log.as_ptr(), log.len(), kept, got.as_mut_ptr(), got.len()) };
-        assert_eq!(((a.number, a.place, a.count), a.rule, got), (answer, 0, wanted), "index");
+        let a = unsafe {
+            raw::rdram_stamped_index(log.as_ptr(), log.len(), kept, got.as_mut_ptr(), got.len())
+        };
+        assert_eq!(
+            ((a.number, a.place, a.count), a.rule, got),
+            (answer, 0, wanted),
+            "index"
+        );
         self.0[a.number as usize] += 1;
     }
 
@@ -192,24 +232,43 @@ impl Seen {
             tested(log).and_then(|(settings, _)| {
                 let words = words(&settings, log);
                 let n = words.len().max(index.len() / 4);
-                let wrong = (0..n).find(|&k| k >= words.len() || index.get(4 * k..4 * k + 4) != Some(&words[k].to_le_bytes()[..]));
-                let found: Vec<u32> = (0..words.len()).filter(|&k| words[k] >> bank & 1 == 1).map(|k| k as u32).collect();
+                let wrong = (0..n).find(|&k| {
+                    k >= words.len()
+                        || index.get(4 * k..4 * k + 4) != Some(&words[k].to_le_bytes()[..])
+                });
+                let found: Vec<u32> = (0..words.len())
+                    .filter(|&k| words[k] >> bank & 1 == 1)
+                    .map(|k| k as u32)
+                    .collect();
                 wrong.map_or(Ok(in_bytes(&found)), |k| Err((14, k)))
             })
         };
         let answer = put(made, 4, &mut wanted);
         let a = unsafe {
             raw::rdram_stamped_query(
-                log.as_ptr(), log.len(), index.as_ptr(), index.len(), bank, got.as_mut_ptr(), got.len(),
+                log.as_ptr(),
+                log.len(),
+                index.as_ptr(),
+                index.len(),
+                bank,
+                got.as_mut_ptr(),
+                got.len(),
             )
         };
-        assert_eq!(((a.number, a.place, a.count), a.rule, got), (answer, 0, wanted), "query");
+        assert_eq!(
+            ((a.number, a.place, a.count), a.rule, got),
+            (answer, 0, wanted),
+            "query"
+        );
         self.0[a.number as usize] += 1;
     }
 
     fn report(&self, name: &str, expected: &[usize]) {
         println!("{name}: by answer {:?}", self.0);
-        assert!(expected.iter().all(|&n| self.0[n] > 0), "{name}: an answer is missing");
+        assert!(
+            expected.iter().all(|&n| self.0[n] > 0),
+            "{name}: an answer is missing"
+        );
     }
 }
 
@@ -230,10 +289,19 @@ fn lists_of_every_length() {
                 seen.unstamp(&new, &room);
                 seen.decode(&new, &room);
                 seen.index(&new, 0, &room[..room.len() / 128]);
-                seen.query(&new, &index, random.below(33) as u32, &room[..room.len() / 128]);
+                seen.query(
+                    &new,
+                    &index,
+                    random.below(33) as u32,
+                    &room[..room.len() / 128],
+                );
             }
             seen.check(&new);
-            seen.encode(&settings, &list[..list.len() - list.len().min(1)], &random.bytes(600));
+            seen.encode(
+                &settings,
+                &list[..list.len() - list.len().min(1)],
+                &random.bytes(600),
+            );
         }
     }
     seen.report("stamped logs of 0 to 100 records", &[0, 4, 8, 11, 13]);

@@ -125,12 +125,14 @@ pub fn log_decode(settings: &[u8], log: &[u8], list: &mut [u8]) -> Result<usize,
 
 /// The word of a block whose used records are well formed.
 fn banks_of(block: &[u8; 512], used: usize) -> u32 {
-    block.as_chunks::<32>().0[..used].iter().fold(0, |words, record| {
-        let word = u64::from_le_bytes(record[8..16].try_into().unwrap());
-        let (row, col) = (record[4] == 0, record[4] == 1 && word >> 17 & 15 != 0);
-        let bank = if row { word >> 13 } else { word >> 29 } & 31;
-        words | u32::from(row | col) << bank
-    })
+    block.as_chunks::<32>().0[..used]
+        .iter()
+        .fold(0, |words, record| {
+            let word = u64::from_le_bytes(record[8..16].try_into().unwrap());
+            let (row, col) = (record[4] == 0, record[4] == 1 && word >> 17 & 15 != 0);
+            let bank = if row { word >> 13 } else { word >> 29 } & 31;
+            words | u32::from(row | col) << bank
+        })
 }
 
 /// The words of a log that passes, in one pass.
@@ -164,14 +166,22 @@ pub fn index_make(settings: &[u8], log: &[u8], index: &mut [u8]) -> Result<usize
     Ok(words.len())
 }
 
-pub fn index_query(settings: &[u8], log: &[u8], index: &[u8], bank: u32, out: &mut [u8]) -> Result<usize, Refused> {
+pub fn index_query(
+    settings: &[u8],
+    log: &[u8],
+    index: &[u8],
+    bank: u32,
+    out: &mut [u8],
+) -> Result<usize, Refused> {
     let words = words(settings, log)?;
     let held = index.as_chunks::<4>().0;
     let wrong = |k: &usize| held.get(*k) != words.get(*k).map(|w| w.to_le_bytes()).as_ref();
     if let Some(k) = (0..held.len().max(words.len())).find(wrong) {
         return Err((14, k));
     }
-    let found: Vec<u32> = (0..words.len() as u32).filter(|k| words[*k as usize] >> bank & 1 == 1).collect();
+    let found: Vec<u32> = (0..words.len() as u32)
+        .filter(|k| words[*k as usize] >> bank & 1 == 1)
+        .collect();
     let places = out.as_chunks_mut::<4>().0;
     if places.len() < found.len() {
         return Err((8, 0));
