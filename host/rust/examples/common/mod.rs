@@ -1,6 +1,7 @@
 //! What the benches have in common: size, settings, random numbers, times and the table.
 
 #![allow(dead_code)] // each bench uses a part
+#![allow(clippy::incompatible_msrv)] // built with today's compiler; rust-version is what the crate asks of its users
 
 pub mod streams;
 

@@ -33,7 +33,7 @@ impl Plain {
     }
 
     /// Every mark is of an instant from 4 on.
-    fn from_4(&self) -> bool {
+    fn all_from_4(&self) -> bool {
         let limit = (self.newest as usize).saturating_sub(3);
         let words = self.marks.iter().enumerate();
         let mut rest = words.map(|(k, w)| match limit.saturating_sub(64 * k) {
@@ -49,7 +49,7 @@ impl Plain {
             clash |= near(self.marks[k], self.marks[k + 1]);
         }
         let marked = self.newest == 0 || self.marks[0] & 1 == 1;
-        let fits = self.newest <= LAST.into() && (self.newest >= 1027 || self.from_4());
+        let fits = self.newest <= LAST.into() && (self.newest >= 1027 || self.all_from_4());
         clash == 0 && marked && fits
     }
 

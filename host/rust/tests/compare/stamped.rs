@@ -193,7 +193,7 @@ impl Seen {
             Ok((_, list)) if list.is_empty() => (0, 0, 0),
             Ok((settings, list)) => {
                 let a = check(&settings, &list);
-                (a.number, a.rule, a.place as u64)
+                (a.number, a.rule, a.place)
             }
         };
         let a = unsafe { raw::rdram_stamped_check(log.as_ptr(), log.len()) };
