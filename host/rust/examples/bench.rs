@@ -5,7 +5,7 @@ mod common;
 mod rivals;
 
 use common::{below, best, print_head, print_row, timed, Size, SETTINGS};
-use rdram::{data_record, packet_record, word_encode, Kind, Packet, MASK_FULL};
+use rdram::{Packet, Record, MASK_FULL};
 use rivals::plain::log as plain;
 use std::hint::black_box;
 
@@ -16,48 +16,32 @@ const IN_CACHE: usize = 3_000;
 fn make_list(records: usize) -> Vec<u8> {
     let mut list: Vec<u8> = Vec::new();
     let (mut x, mut instant) = (0x1234_5678_9ABC_DEF1, 4);
-    let word = |packet| word_encode(&SETTINGS, packet).expect("a packet with a word");
+    let record = |instant, packet| {
+        let record = Record::packet(&SETTINGS, instant, packet);
+        record.expect("a packet with a word").to_bytes()
+    };
+    let mask = MASK_FULL;
     while list.len() < 32 * records {
         let (bank, row) = (below(&mut x, 32) as u8, below(&mut x, 512) as u16);
-        list.extend(packet_record(
-            instant,
-            Kind::Row,
-            word(Packet::Act { bank, row }),
-        ));
+        list.extend(record(instant, Packet::Act { bank, row }));
         for _ in 0..=below(&mut x, 8) {
             instant += 4;
             let (column, read) = (below(&mut x, 128) as u8, below(&mut x, 2) == 0);
             if read {
-                let rd = word(Packet::Rd {
-                    bank,
-                    column,
-                    mask: MASK_FULL,
-                });
-                list.extend(packet_record(instant, Kind::Col, rd));
+                list.extend(record(instant, Packet::Rd { bank, column, mask }));
             } else {
                 let mask = if below(&mut x, 4) == 0 {
                     below(&mut x, 0xFFFF) as u16
                 } else {
                     MASK_FULL
                 };
-                list.extend(packet_record(
-                    instant,
-                    Kind::Col,
-                    word(Packet::Wr { bank, column, mask }),
-                ));
-                list.extend(data_record(instant + 6, &[below(&mut x, 256) as u8; 16]));
+                list.extend(record(instant, Packet::Wr { bank, column, mask }));
+                let data = [below(&mut x, 256) as u8; 16];
+                list.extend(Record::data(instant + 6, data).to_bytes());
             }
         }
-        list.extend(packet_record(
-            instant + 4,
-            Kind::Col,
-            word(Packet::Nocop { mask: MASK_FULL }),
-        ));
-        list.extend(packet_record(
-            instant + 8,
-            Kind::Row,
-            word(Packet::Prer { bank }),
-        ));
+        list.extend(record(instant + 4, Packet::Nocop { mask }));
+        list.extend(record(instant + 8, Packet::Prer { bank }));
         instant += 20;
     }
     list.truncate(32 * records);

@@ -7,14 +7,14 @@ mod common;
 mod rivals;
 
 use common::{below, best, print_head, print_row, timed, Size, SETTINGS};
-use rdram::{data_record, packet_record, word_encode, Kind, Packet, Refusal, MASK_FULL};
+use rdram::{Packet, Record, Refusal, MASK_FULL};
 use rivals::plain::checker::{self as plain, Checker};
 use std::hint::black_box;
 
 /// Records that are checked in so short a time that mostly no other program runs meanwhile.
 const SHORT: usize = 15_000;
 
-fn random_packet(x: &mut u64, close: bool) -> (Kind, Packet) {
+fn random_packet(x: &mut u64, close: bool) -> Packet {
     let (bank, row, column) = (
         below(x, 32) as u8,
         below(x, 512) as u16,
@@ -22,18 +22,17 @@ fn random_packet(x: &mut u64, close: bool) -> (Kind, Packet) {
     );
     let mask = MASK_FULL;
     match below(x, 64) {
-        0..8 => (Kind::Row, Packet::Act { bank, row }),
-        8..14 => (Kind::Row, Packet::Prer { bank }),
-        14 => (Kind::Row, Packet::Refa { bank }),
-        15 => (Kind::Row, Packet::Refp { bank }),
-        16..40 if close => (Kind::Col, Packet::Rda { bank, column, mask }),
-        40..52 if close => (Kind::Col, Packet::Wra { bank, column, mask }),
-        16..40 => (Kind::Col, Packet::Rd { bank, column, mask }),
-        40..60 if !close => (Kind::Col, Packet::Wr { bank, column, mask }),
-        _ => {
-            let mask = below(x, 0xFFFF) as u16;
-            (Kind::Col, Packet::Nocop { mask })
-        }
+        0..8 => Packet::Act { bank, row },
+        8..14 => Packet::Prer { bank },
+        14 => Packet::Refa { bank },
+        15 => Packet::Refp { bank },
+        16..40 if close => Packet::Rda { bank, column, mask },
+        40..52 if close => Packet::Wra { bank, column, mask },
+        16..40 => Packet::Rd { bank, column, mask },
+        40..60 if !close => Packet::Wr { bank, column, mask },
+        _ => Packet::Nocop {
+            mask: below(x, 0xFFFF) as u16,
+        },
     }
 }
 
@@ -42,13 +41,13 @@ fn make_list(records: usize, close: bool) -> Vec<u8> {
     let mut checker = Checker::new(&SETTINGS.to_bytes()).unwrap();
     let (mut list, mut now, mut x) = (Vec::new(), 4, 0x9E37_79B9_7F4A_7C15);
     while list.len() < 32 * records {
-        let (kind, packet) = random_packet(&mut x, close);
-        let word = word_encode(&SETTINGS, packet).unwrap();
+        let packet = random_packet(&mut x, close);
+        let mut record = Record::packet(&SETTINGS, now, packet).unwrap();
         for at in now.. {
-            let record = packet_record(at, kind, word);
-            match checker.take(&record).unwrap() {
+            record.instant = at;
+            match checker.take(&record.to_bytes()).unwrap() {
                 0 => {
-                    list.extend(record);
+                    list.extend(record.to_bytes());
                     now = at;
                     break;
                 }
@@ -58,7 +57,8 @@ fn make_list(records: usize, close: bool) -> Vec<u8> {
             }
         }
         if let Packet::Wr { .. } | Packet::Wra { .. } = packet {
-            let data = data_record(now + 6, &[below(&mut x, 256) as u8; 16]);
+            let data = [below(&mut x, 256) as u8; 16];
+            let data = Record::data(now + 6, data).to_bytes();
             if checker.take(&data) == Some(0) {
                 list.extend(data);
             }
@@ -119,8 +119,8 @@ fn with_fault(list: &[u8]) -> Vec<u8> {
     let last = &list[list.len() - 32..];
     let at = u32::from_le_bytes(last[..4].try_into().unwrap()) + 64;
     for bank in 0..32 {
-        let act = word_encode(&SETTINGS, Packet::Act { bank, row: 0 }).unwrap();
-        let broken = [list, &packet_record(at, Kind::Row, act)].concat();
+        let act = Record::packet(&SETTINGS, at, Packet::Act { bank, row: 0 });
+        let broken = [list, &act.unwrap().to_bytes()].concat();
         let found = rdram::check(&SETTINGS, &broken).map_err(|r| r.rule());
         if found == Err(Some(4)) {
             return broken;

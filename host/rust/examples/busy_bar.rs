@@ -3,24 +3,10 @@
 //! RDA; in a planned list these instants rise. Run with
 //! `cargo run --release --offline --manifest-path host/rust/Cargo.toml --example busy_bar`.
 
-use rdram::{word_decode, Kind, Meter, Packet, Planner, Refusal, Request, Settings, RECORD_BYTES};
+use rdram::{records, Meter, Planner, Refusal, Request, Settings, RECORD_BYTES};
 
 const SET_H: Settings = Settings::SET_H;
 const CELLS: usize = 32;
-
-/// The data instant of a record, if it has one.
-fn data_instant(record: &[u8]) -> Result<Option<u32>, Refusal> {
-    let at = u32::from_le_bytes(record[..4].try_into().unwrap());
-    let word = u64::from_le_bytes(record[8..16].try_into().unwrap());
-    Ok(match record[4] {
-        0 => None,
-        1 => match word_decode(&SET_H, Kind::Col, word)? {
-            Packet::Rd { .. } | Packet::Rda { .. } => Some(at + u32::from(SET_H.t_cac)),
-            _ => None,
-        },
-        _ => Some(at),
-    })
-}
 
 /// 320 reads in a row; then reads and writes with waits between them, of 12 cycles and later of 60.
 fn request(i: usize) -> Request {
@@ -49,11 +35,10 @@ fn main() -> Result<(), Refusal> {
     for i in 0..640 {
         let mut room = [0; rdram::REQUEST_RECORDS * RECORD_BYTES];
         let made = planner.plan(&SET_H, &request(i), &mut room)?;
-        for record in room.chunks(RECORD_BYTES).take(made.records) {
-            if let Some(at) = data_instant(record)? {
-                meter.feed(at)?;
-                newest = at;
-            }
+        let made = records(&SET_H, made.list(&room))?;
+        for at in made.filter_map(|record| record.data_instant(&SET_H)) {
+            meter.feed(at)?;
+            newest = at;
         }
         if i % 32 == 31 {
             let (count, share) = (meter.count()?, meter.share()?);

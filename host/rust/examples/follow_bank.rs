@@ -1,10 +1,11 @@
 //! Follows one bank through a log on disk: plans reads of many banks under set H, writes the log and
-//! its index to two files, opens them again, and lists the blocks that touch bank 7. Run with
+//! its index to two files, opens them again, and lists the blocks that touch bank 7, with the records
+//! of the first of them that name it. Run with
 //! `cargo run --release --offline --manifest-path host/rust/Cargo.toml --example follow_bank`.
 
 use rdram::{
-    index_banks, index_make, index_query, log_encode, Planner, Request, Settings, BLOCK_BYTES,
-    RECORD_BYTES,
+    blocks, index_banks, index_make, index_query, lines, log_encode, Planner, Request, Settings,
+    BLOCK_BYTES, RECORD_BYTES,
 };
 use std::{env, error::Error, fs, process};
 
@@ -22,7 +23,7 @@ fn log() -> Result<Vec<u8>, rdram::Refusal> {
             column: (i % 4) as u8,
         };
         let made = planner.plan(&SET_H, &request, &mut room)?;
-        list.extend_from_slice(&room[..made.records * RECORD_BYTES]);
+        list.extend_from_slice(made.list(&room));
     }
     let mut log = vec![0; (list.len() / RECORD_BYTES).div_ceil(15) * BLOCK_BYTES];
     log_encode(&SET_H, &list, &mut log)?;
@@ -47,9 +48,19 @@ fn main() -> Result<(), Box<dyn Error>> {
     let mut found = vec![0; index.len()];
     let n = index_query(&SET_H, &log, &index, BANK, &mut found).map_err(|r| r.to_string())?;
     println!("bank {BANK}: {n} of {} blocks", log.len() / BLOCK_BYTES);
-    for block in found.chunks(4).take(n).map(number) {
-        let word = number(&index[4 * block as usize..][..4]);
+    let found: Vec<usize> = found
+        .chunks(4)
+        .take(n)
+        .map(|n| number(n) as usize)
+        .collect();
+    for block in &found {
+        let word = number(&index[4 * block..][..4]);
         println!("block {block}, {} banks", index_banks(word));
+    }
+    let mut blocks = blocks(&SET_H, &log).map_err(|r| r.to_string())?;
+    let first = blocks.nth(found[0]).expect("a block of the log");
+    for line in lines(first).filter(|line| u32::from(line.bank) == BANK) {
+        println!("{line}");
     }
     Ok(())
 }

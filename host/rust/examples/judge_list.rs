@@ -3,7 +3,7 @@
 //! 13, and with RD at 12, which is too soon. Run with
 //! `cargo run --release --offline --manifest-path host/rust/Cargo.toml --example judge_list`.
 
-use rdram::{check, packet_record, Kind, Refusal, Settings};
+use rdram::{check, Packet, Record, Refusal, Settings, MASK_FULL};
 use std::process::ExitCode;
 
 const SET_H: Settings = Settings::SET_H;
@@ -17,6 +17,14 @@ fn judge(list: &[u8]) -> Result<(), Refusal> {
     answer
 }
 
+/// ACT at 4 and RD at an instant.
+fn act_rd(instant: u32) -> Result<Vec<u8>, Refusal> {
+    let (bank, column, mask) = (0, 1, MASK_FULL);
+    let act = Record::packet(&SET_H, 4, Packet::Act { bank, row: 0 })?;
+    let rd = Record::packet(&SET_H, instant, Packet::Rd { bank, column, mask })?;
+    Ok([act.to_bytes(), rd.to_bytes()].concat())
+}
+
 fn main() -> ExitCode {
     if let Some(name) = std::env::args().nth(1) {
         return match std::fs::read(&name) {
@@ -28,10 +36,8 @@ fn main() -> ExitCode {
             }
         };
     }
-    let act = packet_record(4, Kind::Row, 0x401000); // bank 0, row 0
-    let rd = |instant| packet_record(instant, Kind::Col, 0x80_0026_0000); // bank 0, column 1
-    assert_eq!(judge(&[act, rd(13)].concat()), Ok(()));
+    let judged = [13, 12].map(|instant| act_rd(instant).and_then(|list| judge(&list)));
     let early = Refusal::Rule { rule: 10, place: 1 };
-    assert_eq!(judge(&[act, rd(12)].concat()), Err(early));
+    assert_eq!(judged, [Ok(()), Err(early)]);
     ExitCode::SUCCESS
 }

@@ -98,7 +98,7 @@ fn main() -> Result<(), Refusal> {
         let mut room = [0; REQUEST_RECORDS * RECORD_BYTES];
         let made = planner.plan(&SET_H, &request, &mut room)?;
         let wanted = flat(&mut array, &request);
-        for record in room.chunks(RECORD_BYTES).take(made.records) {
+        for record in made.list(&room).chunks(RECORD_BYTES) {
             let mut answer = [0; 16];
             match model.step(&SET_H, &mut store, record, &mut answer)? {
                 Event::Read => {

@@ -4,8 +4,8 @@
 //! Run with `cargo run --release --offline --manifest-path host/rust/Cargo.toml --example shortest_run`.
 
 use rdram::{
-    check_log, log_decode, log_encode, packet_record, shortest, Kind, Planner, Refusal, Request,
-    Settings, BLOCK_BYTES, BLOCK_RECORDS, RECORD_BYTES,
+    check_log, lines, log_decode, log_encode, records, shortest, Packet, Planner, Record, Refusal,
+    Request, Settings, BLOCK_BYTES, BLOCK_RECORDS, RECORD_BYTES,
 };
 use std::{env, error::Error, fs, process};
 
@@ -28,26 +28,32 @@ fn faulty() -> Result<Vec<u8>, Refusal> {
             _ => Request::ReadClose { bank, row, column },
         };
         let made = planner.plan(&SET_H, &request, &mut room)?;
-        list.extend_from_slice(&room[..made.records * RECORD_BYTES]);
+        list.extend_from_slice(made.list(&room));
     }
-    let last = &list[list.len() - RECORD_BYTES..];
-    let at = u32::from_le_bytes(last[..4].try_into().unwrap()) + 64;
-    list.extend(packet_record(at, Kind::Row, 0x403000));
+    let act = Packet::Act { bank: 1, row: 0 };
+    list.extend(Record::packet(&SET_H, planner.now() + 64, act)?.to_bytes());
     log_of(&list)
 }
 
 /// The log of the shortest run, or none where the log passes; says what is broken.
 fn cut(log: &[u8]) -> Result<Option<Vec<u8>>, Refusal> {
     let mut list = vec![0; log.len() / BLOCK_BYTES * BLOCK_RECORDS * RECORD_BYTES];
-    let records = log_decode(&SET_H, log, &mut list)?;
-    list.truncate(records * RECORD_BYTES);
+    let count = log_decode(&SET_H, log, &mut list)?;
+    list.truncate(count * RECORD_BYTES);
     let Some(run) = shortest(&SET_H, &list)? else {
         println!("the log passes");
         return Ok(None);
     };
     let (rule, place) = (run.rule, run.place as u64);
     println!("{}", Refusal::Rule { rule, place });
-    println!("records {} to {} tell it", run.start, run.place);
+    println!("records {} to {} tell it:", run.start, run.place);
+    // of the whole list, since a D may stand before its run's first WR
+    for line in lines(records(&SET_H, &list)?)
+        .take(run.place + 1)
+        .skip(run.start)
+    {
+        println!("{line}");
+    }
     log_of(run.records(&list)).map(Some)
 }
 

@@ -20,9 +20,10 @@ pub(crate) fn indexed(answer: raw::Indexed) -> Result<usize, Refusal> {
 ///
 /// ```
 /// # let settings = rdram::Settings::SET_H;
-/// use rdram::{index_banks, index_make, index_query, log_encode, packet_record, Kind};
+/// use rdram::{index_banks, index_make, index_query, log_encode, Packet, Record};
+/// let act = Record::packet(&settings, 4, Packet::Act { bank: 0, row: 0 })?;
 /// let mut log = [0; 512];
-/// log_encode(&settings, &packet_record(4, Kind::Row, 0x401000), &mut log)?;
+/// log_encode(&settings, &act.to_bytes(), &mut log)?;
 /// let mut index = [0; 4];
 /// assert_eq!(index_make(&settings, &log, &mut index), Ok(1));
 /// assert_eq!(index, [1, 0, 0, 0]);

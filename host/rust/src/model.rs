@@ -1,5 +1,6 @@
 //! The device model: banks, write buffer and store.
 
+use crate::version::debug_check;
 use crate::{raw, Refusal, Settings, MODEL_BYTES};
 
 /// What a record that a model took did.
@@ -36,7 +37,7 @@ pub enum Event {
 /// for request in &requests {
 ///     let mut room = [0; REQUEST_RECORDS * RECORD_BYTES];
 ///     let made = planner.plan(&settings, request, &mut room)?;
-///     for record in room.chunks(RECORD_BYTES).take(made.records) {
+///     for record in made.list(&room).chunks(RECORD_BYTES) {
 ///         if let Event::Retired(bytes) = model.step(&settings, &mut store, record, &mut read)? {
 ///             written += bytes;
 ///         }
@@ -63,8 +64,7 @@ impl Model {
         let mut bytes = [0; MODEL_BYTES];
         // SAFETY: the pointer and the length are those of `bytes`.
         let number = unsafe { raw::rdram_model_fresh(bytes.as_mut_ptr(), bytes.len()) };
-        // Refused only for another length, thus where crate and archive are of different versions.
-        debug_assert_eq!(number, 0);
+        debug_check(number);
         Model { bytes }
     }
 
@@ -107,17 +107,21 @@ impl Model {
     ///
     /// ```
     /// # let settings = rdram::Settings::SET_H;
-    /// use rdram::{packet_record, Event, Kind, Model, Refusal};
-    /// let act = packet_record(4, Kind::Row, 0x401000); // bank 0, row 0
-    /// let rd = |instant| packet_record(instant, Kind::Col, 0x80_0026_0000); // bank 0, column 1
+    /// use rdram::{Event, Model, Packet, Record, Refusal, MASK_FULL};
+    /// let act = Record::packet(&settings, 4, Packet::Act { bank: 0, row: 0 })?.to_bytes();
+    /// let rd = Packet::Rd { bank: 0, column: 1, mask: MASK_FULL };
+    /// let mut rd = Record::packet(&settings, 12, rd)?;
     /// let (mut model, mut store, mut answer) = (Model::fresh(), [7; 2 * 4 * 512], [0; 16]);
     /// assert_eq!(model.step(&settings, &mut store, &act, &mut []), Ok(Event::Neither));
     /// // tRCD is 9, so 12 is too soon after the ACT at 4.
-    /// let early = model.step(&settings, &mut store, &rd(12), &mut answer);
+    /// let early = model.step(&settings, &mut store, &rd.to_bytes(), &mut answer);
     /// assert_eq!(early, Err(Refusal::Broken { rule: 10 }));
-    /// assert_eq!(model.step(&settings, &mut store, &rd(13), &mut []), Err(Refusal::Full));
-    /// assert_eq!(model.step(&settings, &mut store, &rd(13), &mut answer), Ok(Event::Read));
+    /// rd.instant = 13;
+    /// let rd = rd.to_bytes();
+    /// assert_eq!(model.step(&settings, &mut store, &rd, &mut []), Err(Refusal::Full));
+    /// assert_eq!(model.step(&settings, &mut store, &rd, &mut answer), Ok(Event::Read));
     /// assert_eq!(answer, [7; 16]);
+    /// # Ok::<(), Refusal>(())
     /// ```
     pub fn step(
         &mut self,

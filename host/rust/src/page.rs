@@ -14,10 +14,12 @@ use crate::{raw, Refusal, Settings};
 ///
 /// ```
 /// # let settings = rdram::Settings::SET_H;
-/// use rdram::{packet_record, page, Kind, PAGE_BYTES};
-/// let list = [packet_record(4, Kind::Row, 0x401000), packet_record(13, Kind::Col, 0x80_0026_0000)];
+/// use rdram::{page, Packet, Record, MASK_FULL, PAGE_BYTES};
+/// let act = Record::packet(&settings, 4, Packet::Act { bank: 0, row: 0 })?;
+/// let rd = Packet::Rd { bank: 0, column: 1, mask: MASK_FULL };
+/// let rd = Record::packet(&settings, 13, rd)?;
 /// let mut room = [0; PAGE_BYTES];
-/// page(&settings, list.as_flattened(), 2, &mut room)?;
+/// page(&settings, &[act.to_bytes(), rd.to_bytes()].concat(), 2, &mut room)?;
 /// let lines: Vec<&str> = core::str::from_utf8(&room).unwrap().lines().collect();
 /// assert!(lines[0].starts_with("ROW     AA.........."));
 /// assert!(lines[1].starts_with("COL     .......RRRR."));

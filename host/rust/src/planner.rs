@@ -1,6 +1,8 @@
 //! Requests, and the planner that makes packets of them.
 
-use crate::{raw, Refusal, Settings, PLANNER_BYTES, RECORD_BYTES, REQUEST_BYTES};
+use crate::version::debug_check;
+use crate::{raw, Refusal, Settings};
+use crate::{DUALOCT_BYTES, PLANNER_BYTES, RECORD_BYTES, REQUEST_BYTES};
 
 /// What a planner is asked for.
 ///
@@ -8,22 +10,33 @@ use crate::{raw, Refusal, Settings, PLANNER_BYTES, RECORD_BYTES, REQUEST_BYTES};
 /// and rows and columns below those of the settings.
 #[derive(Clone, Copy, Debug, PartialEq, Eq)]
 pub enum Request {
+    /// A read of a dualoct.
     Read {
+        /// 0 to 31.
         bank: u8,
+        /// Below the settings' rows.
         row: u16,
+        /// Below the settings' columns.
         column: u8,
     },
+    /// A write of a dualoct, which waits until a later request retires it.
     Write {
+        /// 0 to 31.
         bank: u8,
+        /// Below the settings' rows.
         row: u16,
+        /// Below the settings' columns.
         column: u8,
+        /// The bytes that are written.
         mask: u16,
-        data: [u8; 16],
+        /// The dualoct.
+        data: [u8; DUALOCT_BYTES],
     },
     /// A refresh of the planner's refresh bank, which then rises, modulo 32.
     Refresh,
     /// No packet for so many cycles.
     Wait {
+        /// Any number; now may not pass 1,000,000,000.
         cycles: u32,
     },
     /// The waiting writes are retired; rows stay open.
@@ -32,17 +45,25 @@ pub enum Request {
     Close,
     /// A read after which its bank is closed, without a ROW packet: an RDA.
     ReadClose {
+        /// 0 to 31.
         bank: u8,
+        /// Below the settings' rows.
         row: u16,
+        /// Below the settings' columns.
         column: u8,
     },
     /// A write that is retired at once and after which its bank is closed, without a ROW packet: a WRA.
     WriteClose {
+        /// 0 to 31.
         bank: u8,
+        /// Below the settings' rows.
         row: u16,
+        /// Below the settings' columns.
         column: u8,
+        /// The bytes that are written.
         mask: u16,
-        data: [u8; 16],
+        /// The dualoct.
+        data: [u8; DUALOCT_BYTES],
     },
 }
 
@@ -117,6 +138,22 @@ pub struct Planned {
     pub banks: u32,
 }
 
+impl Planned {
+    /// The records, of the room that they were written to.
+    ///
+    /// ```
+    /// # let settings = rdram::Settings::SET_H;
+    /// use rdram::{Planner, Request, RECORD_BYTES, REQUEST_RECORDS};
+    /// let mut room = [0; REQUEST_RECORDS * RECORD_BYTES];
+    /// let made = Planner::fresh().plan(&settings, &Request::Refresh, &mut room)?;
+    /// assert_eq!(made.list(&room).len(), 2 * RECORD_BYTES); // REFA, REFP
+    /// # Ok::<(), rdram::Refusal>(())
+    /// ```
+    pub fn list<'r>(&self, room: &'r [u8]) -> &'r [u8] {
+        &room[..self.records * RECORD_BYTES]
+    }
+}
+
 /// What a planner made of many requests.
 #[derive(Clone, Copy, Debug, PartialEq, Eq)]
 pub struct PlannedAll<'r> {
@@ -146,7 +183,7 @@ pub struct PlannedAll<'r> {
 /// for request in &requests {
 ///     let mut room = [0; REQUEST_RECORDS * RECORD_BYTES];
 ///     let made = planner.plan(&settings, request, &mut room)?;
-///     list.extend_from_slice(&room[..made.records * RECORD_BYTES]);
+///     list.extend_from_slice(made.list(&room));
 /// }
 /// // ACT RD, ACT WR D, NOCOP, PRER PRER
 /// assert_eq!(list.len(), 8 * RECORD_BYTES);
@@ -168,8 +205,7 @@ impl Planner {
         let mut bytes = [0; PLANNER_BYTES];
         // SAFETY: the pointer and the length are those of `bytes`.
         let number = unsafe { raw::rdram_planner_fresh(bytes.as_mut_ptr(), bytes.len()) };
-        // Refused only for another length, thus where crate and archive are of different versions.
-        debug_assert_eq!(number, 0);
+        debug_check(number);
         Planner { bytes }
     }
 
@@ -217,13 +253,13 @@ impl Planner {
     ///
     /// ```
     /// # let settings = rdram::Settings::SET_H;
-    /// use rdram::{packet_record, Kind, Planner, Refusal, Request};
+    /// use rdram::{records, Planner, Refusal, Request};
     /// let (mut planner, mut room) = (Planner::fresh(), [0; 3 * 32]);
     /// let read = Request::Read { bank: 0, row: 0, column: 1 };
     /// assert_eq!(planner.plan(&settings, &read, &mut room[..63]), Err(Refusal::Full));
-    /// assert_eq!(planner.plan(&settings, &read, &mut room)?.records, 2);
-    /// assert_eq!(room[..32], packet_record(4, Kind::Row, 0x401000)); // ACT
-    /// assert_eq!(room[32..64], packet_record(13, Kind::Col, 0x80_0026_0000)); // RD
+    /// let made = planner.plan(&settings, &read, &mut room)?;
+    /// let texts = records(&settings, made.list(&room))?.map(|record| record.to_string());
+    /// assert!(texts.eq(["4 ACT 0 0 -", "13 RD 0 1 -"]));
     /// // The row is open now, so RD alone.
     /// assert_eq!(planner.plan(&settings, &read, &mut room)?.records, 1);
     /// assert_eq!(planner.now(), 17);

@@ -26,31 +26,53 @@ pub enum Refusal {
     Full,
     /// 9: the store is not of the settings' rows × columns × 512 bytes.
     Store,
-    /// 10: a packet, word or record has no coding under the settings. `place` is the first such
-    /// record of a list, from 0; a single packet, word or record has none.
-    Word { place: Option<u64> },
-    /// 11: a record breaks a rule, given the records before it. `place` is the first such record,
-    /// from 0, and `rule` the lowest rule that it breaks, 1 to 17.
-    Rule { rule: u32, place: u64 },
-    /// 11: the record that a model was given breaks a rule, given the records that it has taken.
-    /// `rule` is the lowest that it breaks, 1 to 17.
-    Broken { rule: u32 },
-    /// 12: a block is damaged or out of order. `place` is the first such block, from 0.
-    Block { place: u64 },
+    /// 10: a packet, word or record has no coding under the settings. Of a list the first such record
+    /// is named; a single packet, word or record has no place.
+    Word {
+        /// The record, from 0.
+        place: Option<u64>,
+    },
+    /// 11: a record breaks a rule, given the records before it: the first such record, and the lowest
+    /// rule that it breaks.
+    Rule {
+        /// 1 to 17.
+        rule: u32,
+        /// The record, from 0.
+        place: u64,
+    },
+    /// 11: the record that a model was given breaks a rule, given the records that it has taken: the
+    /// lowest that it breaks.
+    Broken {
+        /// 1 to 17.
+        rule: u32,
+    },
+    /// 12: a block is damaged or out of order: the first such block.
+    Block {
+        /// The block, from 0.
+        place: u64,
+    },
     /// 13: a length is not one of whole records or blocks, or of one request or record.
     Length,
-    /// 14: an index differs from its log. `place` is the first word that is wrong, missing or surplus,
-    /// from 0.
-    Index { place: u64 },
+    /// 14: an index differs from its log: the first word that is wrong, missing or surplus.
+    Index {
+        /// The word, from 0.
+        place: u64,
+    },
     /// 15: a close while a write waits.
     Unretired,
     /// 16: an instant that is fed to a meter is less than 4 after the newest.
     Overlap,
-    /// 17: a block of a stamped log whose settings are out of range or differ from block 0's. `place` is the
-    /// first such block, from 0.
-    Stamp { place: u64 },
+    /// 17: a block of a stamped log whose settings are out of range or differ from block 0's: the first
+    /// such block.
+    Stamp {
+        /// The block, from 0.
+        place: u64,
+    },
     /// A number that this crate does not know: crate and archive are of different versions.
-    Other { number: u32 },
+    Other {
+        /// The number.
+        number: u32,
+    },
 }
 
 impl Refusal {

@@ -1,6 +1,6 @@
 //! Settings: timings, size, device number and core form.
 
-use crate::SETTINGS_BYTES;
+use crate::{check, part, Refusal, SETTINGS_BYTES};
 
 /// Which banks of a device are neighbours. Neighbours share sense amps: before an ACT or a refresh
 /// the bank and its neighbours are closed, and a PRER to a bank closes its open neighbours too.
@@ -34,30 +34,45 @@ pub enum Core {
 /// The nine timings from `t_rc` to `t_rtp` are 4 to 64, `t_cc` 4 to 16, `t_cac` 7 to 12, `t_cwd`
 /// 1 to `t_cac` − 1, `t_offp` 4 to 32, `rows` 1 to 512, `columns` 1 to 128 and `device` 0 to 31. Every call tests
 /// this and answers [`Refusal::Settings`] otherwise: correct the figure that is out of its range.
+/// [`Settings::check`] tests it alone.
 ///
 /// A planner, a model and a list go on under the settings that they were made with, the core form
 /// included: a state may be one under one form and none under another.
-///
-/// [`Refusal::Settings`]: crate::Refusal::Settings
 #[derive(Clone, Copy, Debug, PartialEq, Eq)]
 pub struct Settings {
+    /// From an ACT to the next of the same or a neighbour bank.
     pub t_rc: u16,
+    /// From an ACT to a PRER of the same or a neighbour bank.
     pub t_ras: u16,
+    /// From a PRER to an ACT of the same or a neighbour bank.
     pub t_rp: u16,
+    /// From a PRER to the next, of any bank.
     pub t_pp: u16,
+    /// From an ACT to the next of a bank that is neither the same nor a neighbour.
     pub t_rr: u16,
+    /// From an ACT to an RD or a retire in its bank.
     pub t_rcd: u16,
+    /// From a WR to its retire.
     pub t_rtr: u16,
+    /// From an RD to a PRER of the same or a neighbour bank.
     pub t_rdp: u16,
+    /// From a retire to a PRER of the same or a neighbour bank.
     pub t_rtp: u16,
+    /// From a COL packet to the next.
     pub t_cc: u16,
+    /// From an RD to its data.
     pub t_cac: u16,
+    /// From a WR to its data.
     pub t_cwd: u16,
     /// From an RDA, or the retire of a WRA, to the PRER that it implies.
     pub t_offp: u16,
+    /// Rows of a bank.
     pub rows: u16,
+    /// Columns of a row.
     pub columns: u16,
+    /// The number of the device on its channel.
     pub device: u8,
+    /// Which banks are neighbours.
     pub core: Core,
 }
 
@@ -105,6 +120,65 @@ impl Settings {
             pair.copy_from_slice(&figure.to_le_bytes());
         }
         bytes
+    }
+
+    /// The settings of 32 bytes, as [`Settings::to_bytes`] writes them and a stamped log carries them.
+    ///
+    /// # Errors
+    ///
+    /// [`Refusal::Settings`] for a figure that is outside its range.
+    ///
+    /// ```
+    /// use rdram::{Refusal, Settings};
+    /// let mut bytes = Settings::SET_H.to_bytes();
+    /// assert_eq!(Settings::from_bytes(&bytes), Ok(Settings::SET_H));
+    /// bytes[31] = 3; // no core form
+    /// assert_eq!(Settings::from_bytes(&bytes), Err(Refusal::Settings));
+    /// ```
+    pub fn from_bytes(bytes: &[u8; SETTINGS_BYTES]) -> Result<Settings, Refusal> {
+        let figure = |i: usize| u16::from_le_bytes(part(bytes, 2 * i));
+        let core = match bytes[31] {
+            0 => Core::Split,
+            1 => Core::OneRun,
+            2 => Core::Independent,
+            _ => return Err(Refusal::Settings),
+        };
+        let settings = Settings {
+            t_rc: figure(0),
+            t_ras: figure(1),
+            t_rp: figure(2),
+            t_pp: figure(3),
+            t_rr: figure(4),
+            t_rcd: figure(5),
+            t_rtr: figure(6),
+            t_rdp: figure(7),
+            t_rtp: figure(8),
+            t_cc: figure(9),
+            t_cac: figure(10),
+            t_cwd: figure(11),
+            t_offp: figure(12),
+            rows: figure(13),
+            columns: figure(14),
+            device: bytes[30],
+            core,
+        };
+        settings.check().map(|()| settings)
+    }
+
+    /// Tests that each figure is in its range.
+    ///
+    /// # Errors
+    ///
+    /// [`Refusal::Settings`] where one is not.
+    ///
+    /// ```
+    /// use rdram::{Refusal, Settings};
+    /// assert_eq!(Settings::SET_H.check(), Ok(()));
+    /// let settings = Settings { t_cwd: 8, ..Settings::SET_H }; // tCAC is 8
+    /// assert_eq!(settings.check(), Err(Refusal::Settings));
+    /// ```
+    pub fn check(&self) -> Result<(), Refusal> {
+        check(self, &[])
     }
 
     /// The length of a [`Model`](crate::Model)'s store: rows × columns × 512.

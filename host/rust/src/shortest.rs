@@ -32,11 +32,17 @@ impl ShortestRun {
 ///
 /// ```
 /// # let settings = rdram::Settings::SET_H;
-/// use rdram::{check, packet_record, shortest, Kind, Refusal, ShortestRun};
-/// let act = packet_record(4, Kind::Row, 0x401000); // bank 0
-/// let rd = packet_record(13, Kind::Col, 0x80_0026_0000);
-/// let prer = |instant, bank: u64| packet_record(instant, Kind::Row, 0x400600 | bank << 13);
-/// let list = [act, rd, prer(35, 5), prer(38, 9)].concat();
+/// use rdram::{check, shortest, Packet, Record, Refusal, ShortestRun, MASK_FULL};
+/// let packets = [
+///     (4, Packet::Act { bank: 0, row: 0 }),
+///     (13, Packet::Rd { bank: 0, column: 1, mask: MASK_FULL }),
+///     (35, Packet::Prer { bank: 5 }),
+///     (38, Packet::Prer { bank: 9 }),
+/// ];
+/// let mut list = Vec::new();
+/// for (instant, packet) in packets {
+///     list.extend(Record::packet(&settings, instant, packet)?.to_bytes());
+/// }
 /// // ROW to ROW is 4: of the four records two tell it. A run from the RD is refused at the RD.
 /// let run = shortest(&settings, &list)?.unwrap();
 /// assert_eq!(run, ShortestRun { rule: 2, place: 3, start: 2 });

@@ -10,15 +10,16 @@ use crate::{copied, indexed, judged, raw, Refusal, Settings};
 /// In this order: [`Refusal::Settings`], [`Refusal::Length`], [`Refusal::Word`], [`Refusal::Full`].
 ///
 /// ```
-/// use rdram::{log_stamp, log_unstamp, packet_record, stamped_check, stamped_encode, Kind, Settings};
+/// # let settings = rdram::Settings::SET_H;
+/// use rdram::{log_stamp, log_unstamp, stamped_check, stamped_encode, Packet, Record};
 /// let mut log = [0; 512];
-/// let list = packet_record(4, Kind::Row, 0x401000);
-/// assert_eq!(stamped_encode(&Settings::SET_H, &list, &mut log)?, 1);
+/// let act = Record::packet(&settings, 4, Packet::Act { bank: 0, row: 0 })?;
+/// assert_eq!(stamped_encode(&settings, &act.to_bytes(), &mut log)?, 1);
 /// stamped_check(&log)?; // by the settings that it carries
 /// let mut old = [0; 512];
 /// assert_eq!(log_unstamp(&log, &mut old)?, 1);
 /// let mut back = [0; 512];
-/// assert_eq!(log_stamp(&Settings::SET_H, &old, &mut back)?, 1);
+/// assert_eq!(log_stamp(&settings, &old, &mut back)?, 1);
 /// assert_eq!(back, log);
 /// # Ok::<(), rdram::Refusal>(())
 /// ```

@@ -1,5 +1,4 @@
-//! The public constants against what the calls do, and the texts of the rules against the rules. The version is compared in
-//! the documentation of `rdram::version`.
+//! The public constants against what the calls do, and the texts of the rules against the rules.
 
 use rdram::*;
 
@@ -36,7 +35,7 @@ fn rule_texts_in_order() {
 #[test]
 fn a_block_takes_its_records() {
     let list: Vec<u8> = (0..=BLOCK_RECORDS as u32)
-        .flat_map(|i| packet_record(4 + 4 * i, Kind::Row, 0x401000))
+        .flat_map(|i| Record::data(4 + 4 * i, [7; DUALOCT_BYTES]).to_bytes())
         .collect();
     assert_eq!(list.len(), (BLOCK_RECORDS + 1) * RECORD_BYTES);
     let mut log = vec![0; 2 * BLOCK_BYTES];
