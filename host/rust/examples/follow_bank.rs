@@ -1,6 +1,6 @@
 //! Follows one bank through a log on disk: plans reads of many banks under set H, writes the log and
-//! its index to two files, opens them again, and lists the blocks that touch bank 7, with the records
-//! of the first of them that name it. Run with
+//! its index to two files, opens them again, and lists the blocks that touch bank 7, each with its
+//! records that name it. Run with
 //! `cargo run --release --offline --manifest-path host/rust/Cargo.toml --example follow_bank`.
 
 use rdram::{
@@ -48,19 +48,14 @@ fn main() -> Result<(), Box<dyn Error>> {
     let mut found = vec![0; index.len()];
     let n = index_query(&SET_H, &log, &index, BANK, &mut found).map_err(|r| r.to_string())?;
     println!("bank {BANK}: {n} of {} blocks", log.len() / BLOCK_BYTES);
-    let found: Vec<usize> = found
-        .chunks(4)
-        .take(n)
-        .map(|n| number(n) as usize)
-        .collect();
-    for block in &found {
+    let blocks = blocks(&SET_H, &log).map_err(|r| r.to_string())?;
+    for block in found.chunks(4).take(n).map(|n| number(n) as usize) {
         let word = number(&index[4 * block..][..4]);
         println!("block {block}, {} banks", index_banks(word));
-    }
-    let mut blocks = blocks(&SET_H, &log).map_err(|r| r.to_string())?;
-    let first = blocks.nth(found[0]).expect("a block of the log");
-    for line in lines(first).filter(|line| u32::from(line.bank) == BANK) {
-        println!("{line}");
+        let used = blocks.clone().nth(block).into_iter().flatten();
+        for line in lines(used).filter(|line| u32::from(line.bank) == BANK) {
+            println!("  {line}");
+        }
     }
     Ok(())
 }

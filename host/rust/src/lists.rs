@@ -42,7 +42,17 @@ pub fn records<'a>(settings: &Settings, list: &'a [u8]) -> Result<Records<'a>, R
     Ok(Records::new(settings, list))
 }
 
-/// The iterator of [`records`], and of the records that a block uses.
+/// The iterator of [`records`], and of the records that a block uses: of known size, from both ends.
+///
+/// ```
+/// # let settings = rdram::Settings::SET_H;
+/// use rdram::{records, Record};
+/// let list = [4, 8, 12].map(|instant| Record::data(instant, [7; 16]).to_bytes()).concat();
+/// let mut rest = records(&settings, &list)?;
+/// assert_eq!(rest.next_back().map(|record| record.instant), Some(12));
+/// assert_eq!((rest.len(), rest.nth(1).map(|record| record.instant)), (2, Some(8)));
+/// # Ok::<(), rdram::Refusal>(())
+/// ```
 #[derive(Clone, Debug)]
 pub struct Records<'a> {
     settings: Settings,
@@ -164,7 +174,18 @@ pub fn stamped_settings(log: &[u8]) -> Result<Option<Settings>, Refusal> {
 const STAMP: usize = 448;
 const USED: usize = 484;
 
-/// The iterator of [`blocks`] and [`stamped_blocks`].
+/// The iterator of [`blocks`] and [`stamped_blocks`]: of known size, from both ends.
+///
+/// ```
+/// # let settings = rdram::Settings::SET_H;
+/// use rdram::{blocks, log_encode, Record};
+/// let list = [Record::data(4, [7; 16]).to_bytes(); 31].concat();
+/// let mut log = [0; 3 * 512];
+/// log_encode(&settings, &list, &mut log)?;
+/// let mut rest = blocks(&settings, &log)?;
+/// assert_eq!((rest.len(), rest.next_back().map(|records| records.len())), (3, Some(1)));
+/// # Ok::<(), rdram::Refusal>(())
+/// ```
 #[derive(Clone, Debug)]
 pub struct Blocks<'a> {
     settings: Settings,
@@ -233,6 +254,17 @@ pub fn lines<I: IntoIterator<Item = Record>>(records: I) -> Lines<I::IntoIter> {
 
 /// A record as a line of the listing: instant, name, bank, row or column (0 if none), mask. The mask is
 /// four hexadecimal digits, or `-` where M = 0 and on every ROW and D line.
+///
+/// ```
+/// # let settings = rdram::Settings::SET_H;
+/// use rdram::{lines, Packet, Record, MASK_FULL};
+/// let wr = Packet::Wr { bank: 3, column: 2, mask: MASK_FULL };
+/// let wr = Record::packet(&settings, 5, wr)?;
+/// let d = lines([wr, Record::data(11, [7; 16])]).last().unwrap();
+/// assert_eq!((d.bank, d.place, d.record.instant), (3, 2, 11));
+/// assert_eq!(d.to_string(), "11 D 3 2 -");
+/// # Ok::<(), rdram::Refusal>(())
+/// ```
 #[derive(Clone, Copy, Debug, PartialEq, Eq)]
 pub struct Line {
     /// The record.
@@ -255,7 +287,14 @@ impl fmt::Display for Line {
     }
 }
 
-/// The iterator of [`lines`].
+/// The iterator of [`lines`]: of known size where that of the records is.
+///
+/// ```
+/// use rdram::{lines, Record};
+/// let mut rest = lines([Record::data(4, [7; 16])]);
+/// assert_eq!(rest.len(), 1);
+/// assert_eq!(rest.next().unwrap().to_string(), "4 D 0 0 -"); // no write before it
+/// ```
 #[derive(Clone, Debug)]
 pub struct Lines<I> {
     records: I,

@@ -5,6 +5,19 @@ use crate::{DUALOCT_BYTES, RECORD_BYTES};
 use core::fmt;
 
 /// What a record holds beside its instant.
+///
+/// ```
+/// # let settings = rdram::Settings::SET_H;
+/// use rdram::{Content, Packet, Record};
+/// let sent = |record: &Record| match record.content() {
+///     Content::Packet { packet, word } => format!("{:?} word {word:x}", packet.kind()),
+///     Content::Data(data) => format!("first byte {:x}", data[0]),
+/// };
+/// let act = Record::packet(&settings, 4, Packet::Act { bank: 0, row: 0 })?;
+/// assert_eq!(sent(&act), "Row word 401000");
+/// assert_eq!(sent(&Record::data(11, [7; 16])), "first byte 7");
+/// # Ok::<(), rdram::Refusal>(())
+/// ```
 #[derive(Clone, Copy, Debug, PartialEq, Eq)]
 pub enum Content {
     /// A ROW or COL packet.
@@ -103,7 +116,7 @@ impl Record {
         Record { instant, content }
     }
 
-    /// What the record holds beside its instant.
+    /// What the record holds beside its instant: [`Content`] has an example.
     pub fn content(&self) -> Content {
         self.content
     }

@@ -67,6 +67,13 @@ pub fn version() -> Version {
 }
 
 /// The archive that is linked is not one for this crate ([`Version::serves`]).
+///
+/// ```
+/// use rdram::{OtherVersion, Version};
+/// let archive = Version { major: 9, minor: 8, patch: 7 };
+/// let text = OtherVersion { archive }.to_string();
+/// assert!(text.starts_with("librdram.a is of version 9.8.7, and the crate rdram of "));
+/// ```
 #[derive(Clone, Copy, Debug, PartialEq, Eq)]
 pub struct OtherVersion {
     /// The version of the archive.

@@ -70,7 +70,7 @@ pub fn typed(settings: &[u8]) -> Option<Settings> {
 // ---- Words ----
 
 /// The wrapper's packet, where it can hold the fields.
-fn typed_packet(p: Fields) -> Option<Packet> {
+pub fn typed_packet(p: Fields) -> Option<Packet> {
     let bank = u8::try_from(p.bank).ok()?;
     let mask = u16::try_from(p.mask).ok()?;
     let row = u16::try_from(p.place).ok()?;

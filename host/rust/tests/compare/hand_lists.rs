@@ -8,7 +8,7 @@ use crate::random::{bytes, set_h};
 use crate::reference::{blocks, Fields, NOCOP};
 use crate::rule_calls::{check, check_both, check_log, Verdicts};
 
-const NAMES: [&str; 9] = [
+pub const NAMES: [&str; 9] = [
     "ACT", "PRER", "REFA", "REFP", "NOCOP", "WR", "RD", "WRA", "RDA",
 ];
 

@@ -3,7 +3,7 @@
 use rdram::{raw, Refusal};
 use std::mem::{align_of, offset_of, size_of};
 
-const ALL: [Refusal; 18] = [
+const ALL: [Refusal; 20] = [
     Refusal::Settings,
     Refusal::Kind,
     Refusal::Spare,
@@ -19,8 +19,10 @@ const ALL: [Refusal; 18] = [
     Refusal::Broken { rule: 12 },
     Refusal::Block { place: 3 },
     Refusal::Length,
+    Refusal::Index { place: 9 },
     Refusal::Unretired,
     Refusal::Overlap,
+    Refusal::Stamp { place: 4 },
     Refusal::Other { number: 99 },
 ];
 
@@ -28,7 +30,7 @@ const ALL: [Refusal; 18] = [
 fn numbers_and_places() {
     assert_eq!(
         ALL.map(|r| r.number()),
-        [1, 2, 3, 4, 5, 6, 7, 8, 9, 10, 10, 11, 11, 12, 13, 15, 16, 99]
+        [1, 2, 3, 4, 5, 6, 7, 8, 9, 10, 10, 11, 11, 12, 13, 14, 15, 16, 17, 99]
     );
     assert_eq!(
         ALL.map(|r| r.place()),
@@ -48,8 +50,10 @@ fn numbers_and_places() {
             None,
             Some(3),
             None,
+            Some(9),
             None,
             None,
+            Some(4),
             None
         ]
     );
@@ -68,6 +72,20 @@ fn texts_name_number_and_place() {
         }
         assert!(text.contains("; "), "what to do is missing: {text}");
     }
+}
+
+/// Each refusal has a text of its own, in one line.
+#[test]
+fn texts_distinct() {
+    let mut texts = ALL.map(|refusal| refusal.to_string()).to_vec();
+    assert!(texts.iter().all(|text| !text.contains('\n')));
+    // by what they say, not by the number before it
+    texts
+        .iter_mut()
+        .for_each(|text| drop(text.drain(..text.find(": ").unwrap())));
+    texts.sort();
+    texts.dedup();
+    assert_eq!(texts.len(), ALL.len());
 }
 
 /// Each rule has a text of its own, in one line; a number that is no rule has one too.

@@ -1,9 +1,9 @@
 //! Settings at and beyond the ends of every range, through all four calls on words and logs.
 
-use crate::calls::{log_decode, log_encode, word_decode, word_encode, Seen};
+use crate::calls::{log_decode, log_encode, typed, word_decode, word_encode, Seen};
 use crate::random::{bytes, rounds, set_h, with_core, Random};
 use crate::reference::{blocks, figures, Fields, ACT, BOUNDS, CORES, DEVICE, T_CAC, T_CWD, T_OFFP};
-use rdram::{Core, Settings};
+use rdram::{Core, Refusal, Settings};
 
 /// ACT of bank 0, row 0, device 0: a packet, its word, a list and a log.
 fn all_calls(seen: &mut Seen, settings: &[u8]) {
@@ -33,6 +33,34 @@ fn set_h_of_the_crate() {
         assert_eq!(settings.to_bytes()[..], bytes(&numbers));
     }
     assert_eq!(Settings::SET_H.core, Core::Split);
+}
+
+/// Settings of bytes are those that the calls take, and go back to the same bytes.
+#[test]
+fn from_bytes() {
+    let (mut taken, mut random) = ([0, 0], Random::new(2));
+    for _ in 0..rounds(100_000) {
+        let mut numbers = random.numbers();
+        if random.chance(2) {
+            let (low, high) = BOUNDS[random.below(16)];
+            let any = random.word() as u16;
+            let value = [low.wrapping_sub(1), low, high, high + 1, high + 256, any];
+            numbers[random.below(16)] = random.pick(&value);
+        }
+        let bytes: [u8; 32] = bytes(&numbers).try_into().unwrap();
+        let settings = Settings::from_bytes(&bytes);
+        let fits = figures(&bytes).is_some();
+        assert_eq!(settings.is_ok(), fits, "{numbers:?}");
+        if let Some(typed) = typed(&bytes) {
+            assert_eq!(typed.check(), settings.map(|_| ()));
+        }
+        match settings {
+            Ok(settings) => assert_eq!(settings.to_bytes(), bytes),
+            Err(refusal) => assert_eq!(refusal, Refusal::Settings),
+        }
+        taken[usize::from(fits)] += 1;
+    }
+    assert!(taken.iter().all(|n| *n > 10_000), "{taken:?}");
 }
 
 #[test]
