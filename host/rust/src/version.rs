@@ -38,9 +38,9 @@ impl Version {
     /// assert!(version(1, 2, 0).serves(version(1, 1, 5)));
     /// assert!(!version(1, 1, 5).serves(version(1, 2, 0)));
     /// ```
-    pub const fn serves(self, crates: Version) -> bool {
-        let calls_may_come = self.major > 0 && self.minor > crates.minor;
-        self.major == crates.major && (self.minor == crates.minor || calls_may_come)
+    pub const fn serves(self, wanted: Version) -> bool {
+        let calls_may_come = self.major > 0 && self.minor > wanted.minor;
+        self.major == wanted.major && (self.minor == wanted.minor || calls_may_come)
     }
 }
 
