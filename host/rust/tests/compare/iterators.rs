@@ -136,7 +136,7 @@ fn refused() {
     seen.report("iterators refused", &[0, 1, 10, 12, 13, 17]);
 }
 
-/// A list whose records are read, changed and written goes back to the same bytes.
+/// A list whose records are read and written goes back to the same bytes.
 #[test]
 fn written_again() {
     let random = &mut Random::new(86);

@@ -96,13 +96,14 @@ fn every_packet() {
 #[test]
 fn texts_distinct() {
     let numbers = set_h(8, 8, 0);
-    let mut texts: Vec<String> = packets(&numbers).into_iter().map(|p| text(4, p)).collect();
-    texts.push(Record::data(4, [0; 16]).to_string());
-    texts.push(Record::data(4, [1; 16]).to_string());
-    let all = texts.len();
+    let settings = typed(&bytes(&numbers)).expect("settings of the struct");
+    let record = |p| Record::packet(&settings, 4, typed_packet(p).unwrap()).unwrap();
+    let mut records: Vec<Record> = packets(&numbers).into_iter().map(record).collect();
+    records.extend([0, 1].map(|byte| Record::data(4, [byte; 16])));
+    let mut texts: Vec<String> = records.iter().map(|record| record.to_string()).collect();
     texts.sort();
     texts.dedup();
-    assert_eq!(texts.len(), all);
+    assert_eq!(texts.len(), records.len());
 }
 
 /// What a record of any bytes must be read as, by the papers.
