@@ -34,7 +34,8 @@ impl Meter {
         Meter { held }
     }
 
-    /// Feeds a data instant. A refused one changes nothing.
+    /// Feeds a data instant, not that of a packet:
+    /// [`Record::data_instant`](crate::Record::data_instant) gives it. A refused one changes nothing.
     ///
     /// # Errors
     ///

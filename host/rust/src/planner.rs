@@ -14,7 +14,8 @@ pub struct Planned {
 }
 
 impl Planned {
-    /// The records, of the room that they were written to.
+    /// The records, of the room that they were written to: `records` times 32 bytes. Of another room it
+    /// is other bytes, and it panics where that is shorter.
     ///
     /// ```
     /// # let settings = rdram::Settings::SET_H;

@@ -4,8 +4,8 @@ use crate::{DUALOCT_BYTES, REQUEST_BYTES};
 
 /// What a planner is asked for.
 ///
-/// Bit i of a `mask` governs byte i of the `data`. [`Planner::plan`](crate::Planner::plan) tests that banks are below 32
-/// and rows and columns below those of the settings.
+/// Bit i of a `mask` governs byte i of the `data`. [`Planner::plan`](crate::Planner::plan) tests that
+/// banks are below 32 and rows and columns below those of the settings.
 #[derive(Clone, Copy, Debug, PartialEq, Eq)]
 pub enum Request {
     /// A read of a dualoct.
