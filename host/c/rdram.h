@@ -30,11 +30,11 @@
  *   Calls may run at the same time, in threads and in interrupts, where none of them writes a buffer
  *   that another one is lent.
  * - Stack, without that of memcpy and memset, at most so many bytes (docs/PERFORMANCE.md: by processor):
- *     6800  rdram_check, rdram_check_log, rdram_index_check, rdram_page, rdram_shortest,
+ *     7000  rdram_check, rdram_check_log, rdram_index_check, rdram_page, rdram_shortest,
  *           rdram_stamped_check
- *     5000  rdram_plan, rdram_plan_all
+ *     5500  rdram_plan, rdram_plan_all
  *     1700  rdram_model_step
- *     1200  every other call
+ *     1500  every other call
  * - A state (planner, model or meter) is of one version of the library. A version that changes its form
  *   changes its length too: an old planner or model is then refused under 1, and the bytes of an old
  *   meter do not fit the struct.

@@ -29,7 +29,7 @@ class File:
     def __init__(self, crate, name, uses):
         self.crate, self.uses = crate, uses
         self.path = "crates/%s/src/%s.rt" % (crate, name)
-        self.module = "crate::" + crate + ("" if name == "lib" else "::" + name)
+        self.module = "::".join(["crate", crate] + ([] if name == "lib" else name.split("/")))
         self.functions, self.structs, self.at = [], [], 0
         self.tokens = self.lexed(calls.read(self.path))
         self.code = [token for token in self.tokens if token.kind != "space"]

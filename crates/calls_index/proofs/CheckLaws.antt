@@ -6,10 +6,10 @@ use mathlib.Core.List.{List}
 use borrow.Author.Tests.{eq-eqb}
 use lib.ListN.{length}
 use Rattle.settings.specs.declared.Settings.{Settings}
-use Rattle.blocks.specs.Block.{listOf}
+use Rattle.log_block.specs.Block.{listOf}
 use Rattle.spec_rules.specs.Neighbour.{contextOf}
 use Rattle.spec_check.specs.Check.{recordsOf, ruleAnswer, recordsAnswer, logAnswer}
-use Rattle.index_make.proofs.MakeLaws.{Passed}
+use Rattle.log_index.proofs.make.MakeLaws.{Passed}
 
 pub rules-after : (s : Settings) (log : List ℕ) → length log % 512 ≡ 0 → Passed 15 s log → logAnswer (contextOf s) log ≡ ruleAnswer (contextOf s) (recordsOf s (listOf log))
 unfolding logAnswer recordsAnswer contextOf

@@ -17,20 +17,20 @@ use Rattle.settings.specs.declared.SettingsRead.the-variants as read
 use Rattle.settings.specs.Settings.{settingsRead}
 use Rattle.record.specs.declared.Refusal.the-variants as refusal
 use Rattle.record.proofs.RefusalLaws.{refused-number}
-use Rattle.blocks.specs.Block.{blocksIn, blockAt}
+use Rattle.log_block.specs.Block.{blocksIn, blockAt}
 use Rattle.spec_calls.specs.Settings.{bySettings, underSettings}
-use Rattle.log_index.specs.declared.Indexed.{Indexed}
-use Rattle.log_index.specs.declared.Indexed.the-variants.{Refused, Differs, Count}
-use Rattle.log_index.specs.Touched.{touchedWord}
-use Rattle.marks.specs.Marks.{countUpTo}
-use Rattle.log_index.specs.Index.{indexWords, wordsUpTo, indexOf}
-use Rattle.log_index.specs.Query.{queried, scanned, hasBit}
-use Rattle.log_index.specs.Answers.{lentAfter, addAnswer, besideAnswer, queryAnswer}
-use Rattle.log_index.proofs.IndexLaws.{length-words, kept-are, kept-most, passes-is}
-use Rattle.log_index.proofs.ListLaws.{length-listed}
-use Rattle.log_index.proofs.QueryLaws.{query-is-scan, scan-lists}
-use Rattle.index_make.proofs.MakeLaws.{fifteen, pick, added}
-use Rattle.index_query.proofs.QueryLaws.{Queried, query-passed, beside-passed}
+use Rattle.spec_index.specs.declared.Indexed.{Indexed}
+use Rattle.spec_index.specs.declared.Indexed.the-variants.{Refused, Differs, Count}
+use Rattle.spec_index.specs.Touched.{touchedWord}
+use Rattle.num.specs.Marks.{countUpTo}
+use Rattle.spec_index.specs.Index.{indexWords, wordsUpTo, indexOf}
+use Rattle.spec_index.specs.Query.{queried, scanned, hasBit}
+use Rattle.spec_index.specs.Answers.{lentAfter, addAnswer, besideAnswer, queryAnswer}
+use Rattle.spec_index.proofs.IndexLaws.{length-words, kept-are, kept-most, passes-is}
+use Rattle.spec_index.proofs.ListLaws.{length-listed}
+use Rattle.spec_index.proofs.QueryLaws.{query-is-scan, scan-lists}
+use Rattle.log_index.proofs.make.MakeLaws.{fifteen, pick, added}
+use Rattle.log_index.proofs.query.QueryLaws.{Queried, query-passed, beside-passed}
 use Rattle.calls_index.specs.Results.{indexAnswer, IndexResult, indexBy, indexAddCall, indexQueryCall, checkedAnswer, indexCheckCall}
 use Rattle.calls_index.specs.Theorems.{RefusedIndexCalls, IndexCalls}
 

@@ -12,12 +12,12 @@ use Rattle.spec_check.specs.declared.Judged.{Judged}
 use Rattle.spec_check.specs.declared.Judged.the-variants.{Passed, Refused as Broken}
 use Rattle.spec_check.specs.Check.{recordsOf, ruleAnswer}
 use Rattle.spec_calls.specs.Settings.{underSettings}
-use Rattle.blocks.specs.Block.{listOf}
-use Rattle.log_index.specs.declared.Indexed.{Indexed}
-use Rattle.log_index.specs.declared.Indexed.the-variants.{Refused, Differs, Count}
-use Rattle.log_index.specs.Index.{indexWords, indexOf}
-use Rattle.log_index.specs.Query.{queried}
-use Rattle.log_index.specs.Answers.{lentAfter, addAnswer, besideAnswer, queryAnswer}
+use Rattle.log_block.specs.Block.{listOf}
+use Rattle.spec_index.specs.declared.Indexed.{Indexed}
+use Rattle.spec_index.specs.declared.Indexed.the-variants.{Refused, Differs, Count}
+use Rattle.spec_index.specs.Index.{indexWords, indexOf}
+use Rattle.spec_index.specs.Query.{queried}
+use Rattle.spec_index.specs.Answers.{lentAfter, addAnswer, besideAnswer, queryAnswer}
 use Rattle.calls_index.specs.declared.IndexAnswer.{IndexAnswer}
 
 -- an answer in numbers: "14 index, with the first word wrong, missing or surplus, from 0"

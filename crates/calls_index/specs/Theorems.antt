@@ -8,11 +8,11 @@ use Rattle.num.specs.Bytes.{splice, Bytes}
 use Rattle.settings.specs.declared.Settings.{Settings}
 use Rattle.settings.specs.declared.SettingsRead.the-variants.{Accepted}
 use Rattle.settings.specs.Settings.{settingsRead}
-use Rattle.blocks.specs.Block.{blocksIn, blockAt}
-use Rattle.marks.specs.Marks.{bit, countUpTo}
-use Rattle.log_index.specs.Touched.{touches, touchedWord}
-use Rattle.log_index.specs.Index.{indexOf}
-use Rattle.log_index.specs.Query.{scanned, Lists}
+use Rattle.log_block.specs.Block.{blocksIn, blockAt}
+use Rattle.num.specs.Marks.{bit, countUpTo}
+use Rattle.spec_index.specs.Touched.{touches, touchedWord}
+use Rattle.spec_index.specs.Index.{indexOf}
+use Rattle.spec_index.specs.Query.{scanned, Lists}
 use Rattle.calls_index.specs.Results.{indexAddCall, indexQueryCall, indexCheckCall}
 
 -- "changes no lent buffer"

@@ -1,11 +1,11 @@
 // The calls on an index of a log, of settings as bytes, answers in numbers (document 02, request b).
 ghost use mathlib.Core.Path.{_≡_};
 ghost use Rattle.calls_index.specs.Results.{indexAnswer, indexAddCall, indexQueryCall, judgedAs, checkedAnswer, indexCheckCall};
-use log_index::Indexed;
 use record::Refusal;
 use settings::Settings;
 use settings::SettingsRead;
 use spec_check::Judged;
+use spec_index::Indexed;
 
 // What a call on an index answers: number is 0 and count how many words or block numbers there are, or the refusal's number with
 // the rule and the place that it names.
@@ -51,7 +51,7 @@ pub fn add_by(settings: &[u8], log: &[u8], kept: usize, index: &mut [u8]) -> Ind
 {
     match settings::read::read_settings(settings) {
         SettingsRead::Refused => index_answer(Indexed::Refused(Refusal::Settings)),
-        SettingsRead::Accepted(s) => index_answer(index_make::add(s, log, kept, index)),
+        SettingsRead::Accepted(s) => index_answer(log_index::make::add(s, log, kept, index)),
     }
 }
 
@@ -61,7 +61,13 @@ pub fn query_by(settings: &[u8], log: &[u8], index: &[u8], bank: u32, out: &mut 
 {
     match settings::read::read_settings(settings) {
         SettingsRead::Refused => index_answer(Indexed::Refused(Refusal::Settings)),
-        SettingsRead::Accepted(s) => index_answer(index_query::query(s, log, index, bank, out)),
+        SettingsRead::Accepted(s) => index_answer(log_index::query::query(
+            s,
+            log,
+            index,
+            bank,
+            out,
+        )),
     }
 }
 
@@ -85,7 +91,7 @@ fn checked(s: Settings, log: &[u8], index: &[u8]) -> Indexed
     if index.len() % 4 != 0 {
         return Indexed::Refused(Refusal::Length);
     }
-    match index_query::beside(s, log, index) {
+    match log_index::query::beside(s, log, index) {
         Indexed::Refused(why) => Indexed::Refused(why),
         Indexed::Differs(k) => Indexed::Differs(k),
         Indexed::Count(_) => judged(check_list::check_log(s, log), index.len() / 4),

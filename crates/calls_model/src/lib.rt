@@ -18,7 +18,7 @@ pub fn model_fresh(model: &mut [u8]) -> u32
     if model.len() != MODEL_BYTES {
         return 1;
     }
-    state_fresh::put_fresh_model(model);
+    state_bytes::fresh::put_fresh_model(model);
     0
 }
 

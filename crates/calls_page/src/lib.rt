@@ -1,4 +1,6 @@
 // A page of the channel, of settings as bytes, with an answer in numbers (document 02, request k).
+pub mod draw;
+
 ghost use mathlib.Core.Path.{_≡_};
 ghost use lib.ListN.{length};
 ghost use Rattle.spec_check.specs.Check.{recordsOf};
@@ -43,7 +45,7 @@ fn put_page(s: Settings, list: &[u8], start: u32, room: &mut [u8]) -> Judged
     let answer = page_answer(s, list, start, room.len());
     match answer {
         Judged::Refused(_) => {}
-        Judged::Passed => page_draw::draw(s, list, num::wide32(start), &mut room[..PAGE]),
+        Judged::Passed => crate::draw::draw(s, list, num::wide32(start), &mut room[..PAGE]),
     }
     answer
 }

@@ -28,8 +28,8 @@ use Rattle.spec_plan.proofs.Bound.{most-any}
 use Rattle.spec_plan.proofs.Timely.{dataBefore}
 use Rattle.spec_plan.proofs.PlannerRoundTrip.{planner-length}
 use Rattle.plan_bytes.specs.form.Numbers.{word, Tops, Below}
-use Rattle.plan_calm.specs.form.Calm.{isCalm}
-use Rattle.plan_calm.proofs.CalmLaws.{calm-below}
+use Rattle.plan_bytes.specs.form.Calm.{isCalm}
+use Rattle.plan_bytes.proofs.calm.CalmLaws.{calm-below}
 use Rattle.state_bytes.specs.form.Stored.{latest}
 use Rattle.state_bytes.specs.form.Tested.{allStored}
 use Rattle.spec_calls.specs.declared.PlanAnswer.{PlanAnswer}

@@ -13,8 +13,8 @@ ghost use Rattle.spec_calls.specs.PlanAll.{requestAt, inTurn, noneYet, allRefus
 ghost use Rattle.spec_calls.proofs.OneCall.{under};
 use crate::ways::asked;
 use num::u32_at;
+use plan_bytes::calm::highest;
 use plan_bytes::latest;
-use plan_calm::highest;
 use record::Refusal;
 use settings::Settings;
 use settings::SettingsRead;

@@ -9,7 +9,7 @@ ghost use Rattle.settings.specs.Settings.{valid};
 ghost use Rattle.spec_rules.specs.Neighbour.{contextOf};
 ghost use Rattle.spec_plan.specs.PlannerBytes.{plannerRight};
 ghost use Rattle.spec_calls.specs.Plans.{plannerFresh, planUnder, planCall};
-ghost use Rattle.plan_calm.specs.form.Calm.{isCalm};
+ghost use Rattle.plan_bytes.specs.form.Calm.{isCalm};
 use crate::ways::answer;
 use crate::ways::asked;
 use record::Refusal;
@@ -29,7 +29,7 @@ pub fn planner_fresh(planner: &mut [u8]) -> u32
     if planner.len() != PLANNER_BYTES {
         return 1;
     }
-    state_fresh::put_fresh_planner(planner);
+    state_bytes::fresh::put_fresh_planner(planner);
     0
 }
 
@@ -55,7 +55,7 @@ fn plan_under(s: Settings, planner: &mut [u8], request: &[u8], room: &mut [u8]) 
     if planner.len() != PLANNER_BYTES {
         return answer(Outcome::Refused(Refusal::Settings), 0);
     }
-    let quick = plan_calm::calm(planner);
+    let quick = plan_bytes::calm::calm(planner);
     if !right(s, planner, quick) {
         return answer(Outcome::Refused(Refusal::Settings), 0);
     }

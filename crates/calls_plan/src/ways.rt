@@ -1,25 +1,30 @@
 // The two ways of a plan call from a state that is not refused: on the lent bytes, and beside them.
 ghost use mathlib.Core.Path.{_≡_};
-ghost use mathlib.Core.Bool.{true};
+ghost use mathlib.Core.Bool.{true, false};
 ghost use Prim.Native.Nat.{_*_, _≤_};
 ghost use lib.ListN.{length};
 ghost use Rattle.num.specs.Bytes.{part, splice};
 ghost use Rattle.settings.specs.Settings.{valid};
-ghost use Rattle.record.proofs.RequestLaws.{InRange};
+ghost use Rattle.record.proofs.RequestLaws.{InPlace, InRange};
+ghost use Rattle.record.specs.declared.Request.the-variants.{Read};
 ghost use Rattle.record.specs.declared.RequestRead.the-variants.{Accepted};
 ghost use Rattle.spec_rules.specs.Neighbour.{contextOf};
 ghost use Rattle.spec_plan.specs.PlannerBytes.{plannerRight};
 ghost use Rattle.plan_bytes.specs.form.Numbers.{Below};
 ghost use Rattle.spec_calls.specs.Plans.{planAnswer, planUnder};
 ghost use Rattle.calls_plan.specs.form.Served.{Granted, served};
+use num::put::put_bytes;
 use plan_in_place::requests::in_time;
 use plan_in_place::requests::left_in_time;
 use plan_in_place::requests::plan;
+use plan_in_place::requests::plan_read;
 use plan_in_place::requests::unretired;
-use puts::put_bytes;
+use record::Place;
 use record::Refusal;
 use record::Request;
 use record::RequestRead;
+use record_bytes::requests::place_of;
+use record_bytes::requests::plain_read;
 use settings::Settings;
 use spec_calls::PlanAnswer;
 use spec_plan::MOST_BYTES;
@@ -63,6 +68,21 @@ fn on_lent(s: Settings, planner: &mut [u8], q: Request, room: &mut [u8]) -> Plan
         return answer(Outcome::Made(made.records as u64), made.banks);
     }
     answer(Outcome::Refused(Refusal::Horizon), 0)
+}
+
+// The same of a read that leaves its bank open.
+fn read_on_lent(s: Settings, planner: &mut [u8], at: Place, room: &mut [u8]) -> PlanAnswer
+    requires { ⌜ valid s ≡ true ⌝ }
+    requires { ⌜ plannerRight (contextOf s) (now planner) ≡ true ⌝ }
+    requires { ⌜ Below 999990000 (now planner) ⌝ }
+    requires { ⌜ InPlace s at ⌝ }
+    requires { ⌜ 1024 ≤ length (now room) ⌝ }
+    ensures { λ r. ⌜ r ≡ served (contextOf s) (now (planner .entry)) (Accepted (Read at false)) (now (room .entry)) .answer ⌝ }
+    ensures { λ _. ⌜ now (planner .exit) ≡ served (contextOf s) (now (planner .entry)) (Accepted (Read at false)) (now (room .entry)) .planner ⌝ }
+    ensures { λ _. ⌜ now (room .exit) ≡ served (contextOf s) (now (planner .entry)) (Accepted (Read at false)) (now (room .entry)) .room ⌝ }
+{
+    let made = plan_read(s, planner, at, room);
+    answer(Outcome::Made(made.records as u64), made.banks)
 }
 
 // Copies the first n records of a list to the start of a room.
@@ -168,7 +188,10 @@ pub(crate) fn asked(
     ensures { λ _. ⌜ now (planner .exit) ≡ planUnder (now (planner .entry)) (now (request .entry)) (now (room .entry)) s .planner ⌝ }
     ensures { λ _. ⌜ now (room .exit) ≡ planUnder (now (planner .entry)) (now (request .entry)) (now (room .entry)) s .room ⌝ }
 {
-    match requests::read_request(s, request) {
+    if quick & (MOST_BYTES <= room.len()) & plain_read(s, request) {
+        return read_on_lent(s, planner, place_of(request), room);
+    }
+    match record_bytes::requests::read_request(s, request) {
         RequestRead::Refused(why) => answer(Outcome::Refused(why), 0),
         RequestRead::Accepted(q) => granted(s, planner, quick, q, room),
     }

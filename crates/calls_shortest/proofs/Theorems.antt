@@ -18,10 +18,10 @@ use Rattle.spec_check.specs.declared.Judged.{Judged}
 use Rattle.spec_check.specs.declared.Judged.the-variants.{Passed, Refused}
 use Rattle.spec_check.specs.Check.{recordsOf, listAnswer, ListBreach}
 use Rattle.spec_check.proofs.BreachLaws.{list-names}
-use Rattle.spec_shortest.specs.declared.Shortest.{Shortest}
-use Rattle.spec_shortest.specs.Shortest.{run, runBytes, startOf, shortestAnswer, ShortestRun}
-use Rattle.spec_shortest.proofs.ShortestLaws.{shortest-names}
-use Rattle.check_shortest.proofs.RunLaws.{length-records, run-breach}
+use Rattle.spec_check.specs.declared.Shortest.{Shortest}
+use Rattle.spec_check.specs.Shortest.{run, runBytes, startOf, shortestAnswer, ShortestRun}
+use Rattle.spec_check.proofs.ShortestLaws.{shortest-names}
+use Rattle.check_list.proofs.shortest.RunLaws.{length-records, run-breach}
 use Rattle.spec_calls.specs.declared.CheckAnswer.{CheckAnswer}
 use Rattle.spec_calls.specs.Settings.{underSettings}
 use Rattle.spec_calls.specs.Checks.{checkAnswer, checkCall}

@@ -4,8 +4,8 @@ use Prim.Native.Nat.{ℕ}
 use mathlib.Core.List.{List}
 use Rattle.spec_rules.specs.Neighbour.{contextOf}
 use Rattle.spec_check.specs.declared.Judged.the-variants.{Refused}
-use Rattle.spec_shortest.specs.declared.Shortest.{Shortest}
-use Rattle.spec_shortest.specs.Shortest.{shortestAnswer}
+use Rattle.spec_check.specs.declared.Shortest.{Shortest}
+use Rattle.spec_check.specs.Shortest.{shortestAnswer}
 use Rattle.spec_calls.specs.declared.CheckAnswer.{CheckAnswer}
 use Rattle.spec_calls.specs.Settings.{underSettings}
 use Rattle.spec_calls.specs.Checks.{checkAnswer}

@@ -4,7 +4,7 @@ use Prim.Native.Nat.{ℕ, _-_, _<_, _≤_}
 use mathlib.Core.Path.{_≡_}
 use mathlib.Core.List.{List}
 use mathlib.Core.Logic.{_↔_}
-use Rattle.spec_shortest.specs.Shortest.{runBytes}
+use Rattle.spec_check.specs.Shortest.{runBytes}
 use Rattle.spec_calls.specs.declared.CheckAnswer.{CheckAnswer}
 use Rattle.spec_calls.specs.Checks.{checkCall}
 use Rattle.calls_shortest.specs.Results.{withStart, shortestCall}

@@ -4,7 +4,7 @@ ghost use Rattle.calls_shortest.specs.Results.{inNumbers, shortestCall};
 use record::Refusal;
 use settings::SettingsRead;
 use spec_check::Judged;
-use spec_shortest::Shortest;
+use spec_check::Shortest;
 
 // What is answered: number, rule and place as of the checker; and where number is 11, the record from which the run starts.
 #[repr(C)]
@@ -37,6 +37,6 @@ pub fn shortest_by(settings: &[u8], list: &[u8]) -> ShortestAnswer
             judged: Judged::Refused(Refusal::Settings),
             start: 0,
         }),
-        SettingsRead::Accepted(s) => in_numbers(check_shortest::check_shortest(s, list)),
+        SettingsRead::Accepted(s) => in_numbers(check_list::shortest::check_shortest(s, list)),
     }
 }

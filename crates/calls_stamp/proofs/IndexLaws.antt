@@ -13,15 +13,15 @@ use Rattle.num.specs.Search.{firstFalse}
 use Rattle.settings.specs.declared.Settings.{Settings}
 use Rattle.record.specs.declared.Refusal.the-variants.{Full, Word, Block, Length, Bank, Stamp}
 use Rattle.record.specs.Record.{firstBad, recordsIn}
-use Rattle.marks.specs.Marks.{countUpTo}
-use Rattle.blocks.specs.Block.{blocksIn, firstBadBlock, listOf}
-use Rattle.log_index.specs.declared.Indexed.{Indexed}
-use Rattle.log_index.specs.declared.Indexed.the-variants.{Refused, Differs, Count}
-use Rattle.log_index.specs.Index.{indexWords, wordRight, firstWrong, wordsOf}
-use Rattle.log_index.specs.Query.{hasBit}
-use Rattle.log_index.specs.Answers.{indexRight, countOrFull}
-use Rattle.index_words.specs.form.Fields.{fieldsWord}
-use Rattle.index_make.proofs.MakeLaws.{Passed as Made, pick, pick-same, wrong-said}
+use Rattle.num.specs.Marks.{countUpTo}
+use Rattle.log_block.specs.Block.{blocksIn, firstBadBlock, listOf}
+use Rattle.spec_index.specs.declared.Indexed.{Indexed}
+use Rattle.spec_index.specs.declared.Indexed.the-variants.{Refused, Differs, Count}
+use Rattle.spec_index.specs.Index.{indexWords, wordRight, firstWrong, wordsOf}
+use Rattle.spec_index.specs.Query.{hasBit}
+use Rattle.spec_index.specs.Answers.{indexRight, countOrFull}
+use Rattle.log_index.specs.form.Fields.{fieldsWord}
+use Rattle.log_index.proofs.make.MakeLaws.{Passed as Made, pick, pick-same, wrong-said}
 use Rattle.log_stamp.specs.Stamp.{firstBadStamp, settingsOf, rightStamped}
 use Rattle.log_stamp.proofs.StampLaws.{fourteen, Passed}
 use Rattle.calls_stamp.specs.Results.{stampedIndexAnswer, stampedQueryAnswer}

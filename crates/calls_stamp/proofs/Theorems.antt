@@ -18,17 +18,17 @@ use Rattle.record.specs.declared.Record.{Record}
 use Rattle.record.specs.declared.Refusal.the-variants as refusal
 use Rattle.record.specs.Record.{firstBad, recordsIn}
 use Rattle.record.proofs.RefusalLaws.{refused-number}
-use Rattle.blocks.specs.Block.{blockCount, logOf, blocksIn, listOf}
-use Rattle.blocks.proofs.LogThenList.{log-length, log-blocks}
-use Rattle.blocks.proofs.ListThenLog.{list-none, list-whole}
+use Rattle.log_block.specs.Block.{blockCount, logOf, blocksIn, listOf}
+use Rattle.log_block.proofs.LogThenList.{log-length, log-blocks}
+use Rattle.log_block.proofs.ListThenLog.{list-none, list-whole}
 use Rattle.log.specs.declared.Copied.{Copied}
 use Rattle.log.specs.declared.Copied.the-variants as copied
 use Rattle.log.specs.Log.{copied, encodeAnswer}
 use Rattle.log.proofs.CopyLaws.{encoded}
-use Rattle.log_index.specs.declared.Indexed.{Indexed}
-use Rattle.log_index.specs.declared.Indexed.the-variants as indexed
-use Rattle.log_index.specs.Index.{indexOf, wordsUpTo}
-use Rattle.log_index.specs.Answers.{lentAfter}
+use Rattle.spec_index.specs.declared.Indexed.{Indexed}
+use Rattle.spec_index.specs.declared.Indexed.the-variants as indexed
+use Rattle.spec_index.specs.Index.{indexOf, wordsUpTo}
+use Rattle.spec_index.specs.Answers.{lentAfter}
 use Rattle.spec_rules.specs.Neighbour.{Context, contextOf}
 use Rattle.spec_rules.specs.Broken.{firstBroken}
 use Rattle.spec_check.specs.declared.Judged.{Judged}

@@ -14,10 +14,10 @@ use Rattle.settings.specs.declared.Settings.{Settings}
 use Rattle.settings.specs.declared.SettingsRead.the-variants.{Refused, Accepted}
 use Rattle.settings.specs.Settings.{valid, settingsIn, settingsRead}
 use Rattle.record.specs.Record.{firstBad, recordsIn}
-use Rattle.blocks.specs.Block.{blockCount, logOf, blocksIn, firstBadBlock, listOf}
-use Rattle.blocks.proofs.CountLaws.{Records}
-use Rattle.blocks.proofs.LogThenList.{log-whole, log-blocks, log-right, log-then-list, stamp-log}
-use Rattle.blocks.proofs.ListThenLog.{list-none, list-whole, list-blocks, blocks-most, list-then-log}
+use Rattle.log_block.specs.Block.{blockCount, logOf, blocksIn, firstBadBlock, listOf}
+use Rattle.log_block.proofs.CountLaws.{Records}
+use Rattle.log_block.proofs.LogThenList.{log-whole, log-blocks, log-right, log-then-list, stamp-log}
+use Rattle.log_block.proofs.ListThenLog.{list-none, list-whole, list-blocks, blocks-most, list-then-log}
 use Rattle.log.specs.declared.Copied.{Copied}
 use Rattle.log.specs.declared.Copied.the-variants as copied
 use Rattle.log.specs.Log.{encodeAnswer, blocksOrFull, recordsOrFull}

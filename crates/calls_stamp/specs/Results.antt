@@ -6,17 +6,17 @@ use mathlib.Core.List.{List, []}
 use lib.Dec.{ltb}
 use lib.ListN.{length}
 use Rattle.record.specs.declared.Refusal.the-variants.{Bank}
-use Rattle.blocks.specs.Block.{logOf, blocksIn, listOf}
+use Rattle.log_block.specs.Block.{logOf, blocksIn, listOf}
 use Rattle.log.specs.Log.{encodeAnswer}
-use Rattle.log_right.specs.Right.{wholeIn}
+use Rattle.log_block.specs.Right.{wholeIn}
 use Rattle.log_stamp.specs.Stamp.{settingsOf, rightStamped}
 use Rattle.log_stamp.specs.Copy.{stampedDecodeAnswer, stampAnswer, unstampAnswer}
-use Rattle.marks.specs.Marks.{countUpTo}
-use Rattle.log_index.specs.declared.Indexed.{Indexed}
-use Rattle.log_index.specs.declared.Indexed.the-variants as indexed
-use Rattle.log_index.specs.Index.{indexWords, indexOf, wordsOf}
-use Rattle.log_index.specs.Query.{hasBit, queried}
-use Rattle.log_index.specs.Answers.{indexRight, countOrFull}
+use Rattle.num.specs.Marks.{countUpTo}
+use Rattle.spec_index.specs.declared.Indexed.{Indexed}
+use Rattle.spec_index.specs.declared.Indexed.the-variants as indexed
+use Rattle.spec_index.specs.Index.{indexWords, indexOf, wordsOf}
+use Rattle.spec_index.specs.Query.{hasBit, queried}
+use Rattle.spec_index.specs.Answers.{indexRight, countOrFull}
 use Rattle.spec_rules.specs.Neighbour.{contextOf}
 use Rattle.spec_check.specs.declared.Judged.{Judged}
 use Rattle.spec_check.specs.declared.Judged.the-variants.{Refused}

@@ -8,8 +8,8 @@ use Rattle.num.specs.Bytes.{splice, Bytes}
 use Rattle.settings.specs.declared.Settings.{Settings}
 use Rattle.settings.specs.declared.SettingsRead.the-variants.{Accepted}
 use Rattle.settings.specs.Settings.{settingsRead}
-use Rattle.blocks.specs.Block.{blocksIn}
-use Rattle.log_index.specs.Index.{indexOf}
+use Rattle.log_block.specs.Block.{blocksIn}
+use Rattle.spec_index.specs.Index.{indexOf}
 use Rattle.log_stamp.specs.Stamp.{stampAt}
 use Rattle.spec_calls.specs.Checks.{checkCall}
 use Rattle.spec_calls.specs.Logs.{CopyResult}

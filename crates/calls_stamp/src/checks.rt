@@ -1,7 +1,7 @@
 // The checker of stamped logs.
 ghost use mathlib.Core.Path.{_≡_};
 ghost use Rattle.record.specs.Record.{firstBad, recordsIn};
-ghost use Rattle.blocks.specs.Block.{blocksIn, firstBadBlock, listOf};
+ghost use Rattle.log_block.specs.Block.{blocksIn, firstBadBlock, listOf};
 ghost use Rattle.spec_rules.specs.Neighbour.{contextOf};
 ghost use Rattle.spec_check.specs.Check.{recordsOf, ruleAnswer};
 ghost use Rattle.calls_stamp.specs.Results.{stampedAnswer, stampedCheckCall};
@@ -20,7 +20,7 @@ fn judge_right(s: Settings, log: &[u8]) -> Judged
     requires { ⌜ firstBad s (listOf (now log)) ≡ recordsIn (listOf (now log)) ⌝ }
     ensures { λ r. ⌜ r ≡ ruleAnswer (contextOf s) (recordsOf s (listOf (now (log .entry)))) ⌝ }
 {
-    judge_all(s, log, kept::records_in(log, 14), 14)
+    judge_all(s, log, log_block::read::records_in(log, 14), 14)
 }
 
 // Judges the list that a stamped log keeps by the settings that it carries.

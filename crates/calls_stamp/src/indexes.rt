@@ -5,21 +5,21 @@ ghost use Prim.Native.Nat.{ℕ, _<_, _≤_};
 ghost use lib.Dec.{eqb};
 ghost use lib.ListN.{length};
 ghost use Rattle.num.specs.Search.{firstFalse};
-ghost use Rattle.marks.specs.Marks.{countUpTo};
-ghost use Rattle.blocks.specs.Block.{used, blocksIn, blockAt};
-ghost use Rattle.log_index.specs.declared.Indexed.the-variants.{Differs};
-ghost use Rattle.log_index.specs.Index.{indexWords, wordsOf, wordRight, indexOf};
-ghost use Rattle.log_index.specs.Query.{hasBit, queried};
-ghost use Rattle.log_index.specs.Answers.{lentAfter, countOrFull};
-ghost use Rattle.index_words.specs.form.Fields.{fieldsWord};
+ghost use Rattle.num.specs.Marks.{countUpTo};
+ghost use Rattle.log_block.specs.Block.{used, blocksIn, blockAt};
+ghost use Rattle.spec_index.specs.declared.Indexed.the-variants.{Differs};
+ghost use Rattle.spec_index.specs.Index.{indexWords, wordsOf, wordRight, indexOf};
+ghost use Rattle.spec_index.specs.Query.{hasBit, queried};
+ghost use Rattle.spec_index.specs.Answers.{lentAfter, countOrFull};
+ghost use Rattle.log_index.specs.form.Fields.{fieldsWord};
 ghost use Rattle.log_stamp.specs.Stamp.{settingsOf};
 ghost use Rattle.calls_stamp.specs.Results.{stampedIndexAnswer, stampedIndexCall, stampedQueryAnswer, stampedQueryCall};
 use calls_index::IndexAnswer;
 use calls_index::index_answer;
-use log_index::Indexed;
 use log_stamp::Judgement;
 use log_stamp::tested;
 use record::Refusal;
+use spec_index::Indexed;
 
 // What making the index of a stamped log into a buffer answers, of which the first `kept` words are there already.
 fn add_answer(log: &[u8], kept: usize, index: &[u8]) -> Indexed
@@ -30,7 +30,7 @@ fn add_answer(log: &[u8], kept: usize, index: &[u8]) -> Indexed
     }
     match tested(log) {
         Judgement::Refused(why) => Indexed::Refused(why),
-        Judgement::Right(_) => index_make::room_answer(log, kept, index),
+        Judgement::Right(_) => log_index::make::room_answer(log, kept, index),
     }
 }
 
@@ -42,7 +42,7 @@ fn add(log: &[u8], kept: usize, index: &mut [u8]) -> Indexed
     match answer {
         Indexed::Refused(_) => {}
         Indexed::Differs(_) => {}
-        Indexed::Count(_) => index_make::write_index(log, kept, index),
+        Indexed::Count(_) => log_index::make::write_index(log, kept, index),
     }
     answer
 }
@@ -60,12 +60,12 @@ fn query_beside(log: &[u8], index: &[u8], bank: u32, room: usize) -> Indexed
     requires { ⌜ ((k : ℕ) → k < blocksIn (now log) → used (blockAt (now log) k) ≤ 15) ⌝ }
     ensures { λ r. ⌜ r ≡ cond (eqb (firstFalse (wordRight fieldsWord (now (log .entry)) (now (index .entry))) (wordsOf (now (log .entry)) (now (index .entry)))) (wordsOf (now (log .entry)) (now (index .entry)))) (countOrFull (countUpTo (hasBit (now (index .entry)) bank) (indexWords (now (index .entry)))) room) (Differs (firstFalse (wordRight fieldsWord (now (log .entry)) (now (index .entry))) (wordsOf (now (log .entry)) (now (index .entry))))) ⌝ }
 {
-    let n = index_query::greater(index.len() / 4, log.len() / 512);
-    let wrong = index_make::first_wrong(log, index, n);
+    let n = log_index::query::greater(index.len() / 4, log.len() / 512);
+    let wrong = log_index::make::first_wrong(log, index, n);
     if wrong != n {
         return Indexed::Differs(wrong as u64);
     }
-    index_query::fits(index_query::found(index, bank), room)
+    log_index::query::fits(log_index::query::found(index, bank), room)
 }
 
 // What a query into so many bytes answers.
@@ -95,7 +95,7 @@ fn query(log: &[u8], index: &[u8], bank: u32, out: &mut [u8]) -> Indexed
     match answer {
         Indexed::Refused(_) => {}
         Indexed::Differs(_) => {}
-        Indexed::Count(_) => index_query::list_found(index, bank, out),
+        Indexed::Count(_) => log_index::query::list_found(index, bank, out),
     }
     answer
 }

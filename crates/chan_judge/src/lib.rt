@@ -24,11 +24,11 @@ use chan_view::views::held_of;
 use chan_view::views::leaving;
 use chan_view::views::seen_of;
 use chan_view::views::stays;
-use instants::write_arrival;
 use record::Record;
 use settings::DataAt;
 use settings::PacketAt;
 use settings::Settings;
+use settings::instants::write_arrival;
 use spec_rules::Channel;
 use spec_rules::LastInstants;
 

@@ -18,14 +18,14 @@ use chan_view::bounds::keeps;
 use chan_view::bounds::minus;
 use chan_view::bounds::since_wide;
 use chan_view::neighbours::is_near;
-use instants::read_arrival;
-use instants::write_arrival;
 use settings::Arrival;
 use settings::DataAt;
 use settings::HORIZON;
 use settings::HORIZON_WIDE;
 use settings::PacketAt;
 use settings::Settings;
+use settings::instants::read_arrival;
+use settings::instants::write_arrival;
 use spec_rules::BankTrack;
 
 // Whether a number is an instant.

@@ -18,8 +18,6 @@ use chan_view::banks::is_open;
 use chan_view::bounds::after_gap;
 use chan_view::bounds::later;
 use chan_view::neighbours::is_near;
-use instants::read_arrival;
-use instants::write_arrival;
 use packet::ColPacket;
 use packet::FULL;
 use packet::RowPacket;
@@ -27,6 +25,8 @@ use record::Record;
 use settings::Arrival;
 use settings::PacketAt;
 use settings::Settings;
+use settings::instants::read_arrival;
+use settings::instants::write_arrival;
 use spec_rules::BankTrack;
 use spec_rules::LastInstants;
 

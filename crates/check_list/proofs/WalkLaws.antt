@@ -15,10 +15,10 @@ use Rattle.num.proofs.SearchLaws.{first-before}
 use Rattle.settings.specs.declared.Settings.{Settings}
 use Rattle.record.specs.declared.Record.{Record}
 use Rattle.record.specs.Record.{recordRead, recordAt, recordsIn, recordFits, wellFormed, firstBad}
-use Rattle.blocks.specs.Block.{used, blocksIn, blockAt, firstBadBlock, listOf}
-use Rattle.blocks.proofs.CountLaws.{Records, count-over}
-use Rattle.blocks.proofs.BlockLaws.{partOf}
-use Rattle.blocks.proofs.ListThenLog.{recordsAt, used-most, used-full, length-list, list-blocks, part-list}
+use Rattle.log_block.specs.Block.{used, blocksIn, blockAt, firstBadBlock, listOf}
+use Rattle.log_block.proofs.CountLaws.{Records, count-over}
+use Rattle.log_block.proofs.BlockLaws.{partOf}
+use Rattle.log_block.proofs.ListThenLog.{recordsAt, used-most, used-full, length-list, list-blocks, part-list}
 use Rattle.spec_rules.specs.Broken.{recordIn}
 use Rattle.check_walk.specs.form.Walk.{placeIn, recordsVia}
 use Rattle.check_walk.proofs.ViaLaws.{length-via, via-at}

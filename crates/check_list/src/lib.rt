@@ -1,4 +1,5 @@
 // The checker of whole lists and whole logs.
+pub mod shortest;
 pub mod walked;
 
 ghost use mathlib.Core.Path.{_≡_};
@@ -46,7 +47,7 @@ pub fn check_log(s: Settings, log: &[u8]) -> Judged
     if block != log.len() / 512 {
         return Judged::Refused(Refusal::Block(block as u64));
     }
-    let n = kept::records_in(log, 15);
+    let n = log_block::read::records_in(log, 15);
     let bad = found.record;
     if bad != n {
         return Judged::Refused(Refusal::Word(bad as u64));

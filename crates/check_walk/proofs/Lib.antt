@@ -3,3 +3,4 @@ pub mod StopLaws
 pub mod ImpliedLaws
 pub mod StoreLaws
 pub mod TurnLaws
+pub mod ShortLaws

@@ -1,4 +1,5 @@
 // A walk over the records of a list or of a log of either form: the first that is none or breaks a rule.
+mod short;
 mod turn;
 
 ghost use mathlib.Core.Path.{_≡_};
@@ -6,6 +7,13 @@ ghost use Prim.Native.Nat.{ℕ, _+_, _<_, _≤_, _^_};
 ghost use lib.ListN.{length};
 ghost use Rattle.spec_rules.specs.Neighbour.{contextOf};
 ghost use Rattle.check_walk.specs.form.Walk.{placeIn, stopOf};
+use crate::short::bank_in;
+use crate::short::data_now;
+use crate::short::fields_at;
+use crate::short::is_data;
+use crate::short::is_read;
+use crate::short::read_lasts;
+use crate::short::reads_now;
 use crate::turn::banks_implied;
 use crate::turn::buffer_next;
 use crate::turn::channel_of;
@@ -46,6 +54,13 @@ pub struct Latest {
     pub due: bool,
 }
 
+// The numbers of a record, but for its data; head is the kind with the three bytes after it.
+pub struct Fields {
+    pub at: PacketAt,
+    pub head: u32,
+    pub word: u64,
+}
+
 // Where record i stands, in a log of blocks of 15 or 14 records or, where per is 0, in a list. The divisors are constants, so that no
 // division is made.
 pub fn place_of(per: usize, i: usize) -> usize
@@ -61,8 +76,8 @@ pub fn place_of(per: usize, i: usize) -> usize
     512 * (i / 14) + 32 * (i % 14)
 }
 
-// The first of n records that is none or breaks a rule. The state of the channel stands in locals: only a record that fails the
-// quick test is judged by all of it. So does every one that implies a PRER; that PRER may be stored before the packet itself, which
+// The first of n records that is none or breaks a rule. An RD and data that pass their tests by number need no more. The state of the
+// channel stands in locals: only another record that fails the quick test is judged by all of it. So does every one that implies a PRER; that PRER may be stored before the packet itself, which
 // changes other parts of the state.
 pub fn walk(s: Settings, b: &[u8], n: usize, per: usize) -> Stop
     requires { ⌜ (n < 2 ^ 58) × (per ≤ 15) × (1 ≤ per → 14 ≤ per) ⌝ }
@@ -77,7 +92,24 @@ pub fn walk(s: Settings, b: &[u8], n: usize, per: usize) -> Stop
         due: false,
     };
     for i in 0..n {
-        let RecordRead::Known(r) = read_record(s, b, place_of(per, i)) else {
+        let at = place_of(per, i);
+        let f = fields_at(b, at);
+        let g = bank_in(f.word);
+        if is_read(s, b, at, f) {
+            if reads_now(s, f.at, l, buffer, latest.due, banks[g]) {
+                banks[g].rd.0 = f.at.0;
+                l = read_lasts(f.at, l);
+                latest.due = false;
+                continue;
+            }
+        }
+        if is_data(s, b, at) {
+            if data_now(s, f.at, buffer, latest.due) {
+                latest.due = false;
+                continue;
+            }
+        }
+        let RecordRead::Known(r) = read_record(s, b, at) else {
             return Stop { at: i, rule: 0 };
         };
         let v = view_of(r);

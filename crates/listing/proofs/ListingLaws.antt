@@ -10,10 +10,10 @@ use lib.Dec.{leb, eqb}
 use lib.ListN.{length, take}
 use lib.Seq.{take-all, length-take-le}
 use Rattle.spec_rules.proofs.Bools.{and-left, and-right}
-use Rattle.text.specs.Text.{Put, refusedLine, recordsLine}
-use Rattle.entries.specs.Entries.{recordsListed, textUpTo, longestInput}
+use Rattle.listing_text.specs.Text.{Put, refusedLine, recordsLine}
+use Rattle.listing.specs.Entries.{recordsListed, textUpTo, longestInput}
 use Rattle.listing.specs.Listing.{lengthRight, listing}
-use Rattle.text.proofs.TextLaws.{put-then}
+use Rattle.listing_text.proofs.TextLaws.{put-then}
 
 pub length-fits : (n : ℕ) → lengthRight n ≡ true → n ≤ longestInput
 unfolding lengthRight

@@ -33,9 +33,9 @@ use Rattle.spec_plan.specs.Runs.{plannerAfter, listed}
 use Rattle.spec_check.specs.declared.Judged.{Judged}
 use Rattle.spec_check.specs.declared.Judged.the-variants.{Passed, Refused}
 use Rattle.spec_check.specs.Check.{known, recordsUpTo, recordsOf, ruleAnswer, recordsAnswer, listAnswer}
-use Rattle.text.specs.Text.{codes, digit, decimalIn, hexFour, dash, maskText, line, rowLine, colLine, recordLine, writeBankAfter, writeColumnAfter, recordLines, refusedLine, recordsLine}
+use Rattle.listing_text.specs.Text.{codes, digit, decimalIn, hexFour, dash, maskText, line, rowLine, colLine, recordLine, writeBankAfter, writeColumnAfter, recordLines, refusedLine, recordsLine}
 use Rattle.settings.specs.Bench.{setOf, setH}
-use Rattle.entries.specs.Entries.{outcomeText, requestText, callsUpTo, textUpTo}
+use Rattle.listing.specs.Entries.{outcomeText, requestText, callsUpTo, textUpTo}
 use Rattle.listing.specs.Listing.{lengthRight, listing}
 
 -- ---- requests of 24 bytes

@@ -5,8 +5,8 @@ use mathlib.Core.Bool.{Bool, cond, _&&_}
 use mathlib.Core.List.{List, _++_}
 use lib.Dec.{eqb, leb}
 use lib.ListN.{length}
-use Rattle.text.specs.Text.{lineRoom, refusedLine, recordsLine}
-use Rattle.entries.specs.Entries.{recordsListed, textUpTo, longestInput, requestsRoom}
+use Rattle.listing_text.specs.Text.{lineRoom, refusedLine, recordsLine}
+use Rattle.listing.specs.Entries.{recordsListed, textUpTo, longestInput, requestsRoom}
 
 -- the lengths that are listed: whole requests, and no more than the longest
 unfoldable pub lengthRight : ℕ → Bool

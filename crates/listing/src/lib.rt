@@ -1,14 +1,16 @@
 // The listing program (document 01, "Bench runs"). The text is made whole before it is printed, so that one contract,
 // of `put_listing`, says all that is printed; only the reading of the input and the writing of the text are outside.
+pub mod entries;
+
 ghost use mathlib.Core.Path.{_≡_};
 ghost use Prim.Native.Nat.{ℕ, _≤_};
 ghost use mathlib.Core.List.{List};
 ghost use lib.ListN.{length, take};
-ghost use Rattle.text.specs.Text.{Put};
+ghost use Rattle.listing_text.specs.Text.{Put};
 ghost use Rattle.listing.specs.Listing.{lengthRight, listingRoom, listing};
-use entries::put_requests;
-use text::put_records;
-use text::put_refused;
+use crate::entries::put_requests;
+use listing_text::put_records;
+use listing_text::put_refused;
 
 // Room for the longest listing: 2,730 requests of at most 16 lines and the last line, each of at most 64 bytes.
 pub const ROOM: usize = 2_795_584;

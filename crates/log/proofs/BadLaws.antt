@@ -12,9 +12,9 @@ use Rattle.num.proofs.PartLaws.{part-left, part-right, length-part-le}
 use Rattle.num.proofs.SearchLaws.{first-same, first-le, first-join}
 use Rattle.settings.specs.declared.Settings.{Settings}
 use Rattle.record.specs.Record.{wellFormed, recordAt, recordsIn, firstBad}
-use Rattle.blocks.specs.Block.{used, blocksIn, blockAt, firstBadBlock, listUpTo, listOf}
-use Rattle.blocks.proofs.BlockLaws.{list-next, rightAt}
-use Rattle.blocks.proofs.ListThenLog.{length-before}
+use Rattle.log_block.specs.Block.{used, blocksIn, blockAt, firstBadBlock, listUpTo, listOf}
+use Rattle.log_block.proofs.BlockLaws.{list-next, rightAt}
+use Rattle.log_block.proofs.ListThenLog.{length-before}
 
 -- a list whose first n records are l
 bad-append : (s : Settings) (l r : List ℕ) (n : ℕ) → length l ≡ 32 * n

@@ -14,7 +14,7 @@ use Rattle.record.specs.declared.Refusal.the-variants.{Full, Word, Block, Lengt
 use Rattle.record.specs.Record.{firstBad, recordsIn}
 use Rattle.log.specs.declared.Copied.{Copied}
 use Rattle.log.specs.declared.Copied.the-variants.{Refused, Count}
-use Rattle.blocks.specs.Block.{blockCount, blocksIn, firstBadBlock, listOf}
+use Rattle.log_block.specs.Block.{blockCount, blocksIn, firstBadBlock, listOf}
 use Rattle.log.specs.Log.{blocksFit, encodeAnswer, decodeAnswer}
 
 -- an accepted call passed each test on its way

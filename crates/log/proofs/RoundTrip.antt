@@ -12,11 +12,11 @@ use Rattle.settings.specs.declared.Settings.{Settings}
 use Rattle.record.specs.declared.Refusal.{Refusal}
 use Rattle.record.specs.Record.{recordsIn}
 use Rattle.log.specs.declared.Copied.the-variants.{Refused, Count}
-use Rattle.blocks.specs.Block.{logOf, blockAt, stampOf, blocksIn, listOf}
+use Rattle.log_block.specs.Block.{logOf, blockAt, stampOf, blocksIn, listOf}
 use Rattle.log.specs.Log.{copied, encodeAnswer, encodeLog, decodeAnswer, decodeLog}
-use Rattle.blocks.proofs.CountLaws.{Records}
-use Rattle.blocks.proofs.LogThenList.{log-whole, log-right, log-then-list}
-use Rattle.blocks.proofs.ListThenLog.{list-whole, list-blocks, blocks-most, list-then-log}
+use Rattle.log_block.proofs.CountLaws.{Records}
+use Rattle.log_block.proofs.LogThenList.{log-whole, log-right, log-then-list}
+use Rattle.log_block.proofs.ListThenLog.{list-whole, list-blocks, blocks-most, list-then-log}
 use Rattle.log.proofs.CopyLaws.{encoded, decoded}
 
 -- of blocks of so many records, with this stamp

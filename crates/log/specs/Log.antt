@@ -12,8 +12,8 @@ use Rattle.record.specs.declared.Refusal.the-variants.{Full}
 use Rattle.record.specs.Record.{recordsIn}
 use Rattle.log.specs.declared.Copied.{Copied}
 use Rattle.log.specs.declared.Copied.the-variants.{Refused, Count}
-use Rattle.blocks.specs.Block.{blockCount, logOf, listOf}
-use Rattle.log_right.specs.Right.{wholeIn, rightRecords, rightLog}
+use Rattle.log_block.specs.Block.{blockCount, logOf, listOf}
+use Rattle.log_block.specs.Right.{wholeIn, rightRecords, rightLog}
 
 -- the lent buffer after a call: what was made goes to its start, and "a refusal changes no lent buffer"
 unfoldable pub copied : Copied → List ℕ → List ℕ → List ℕ

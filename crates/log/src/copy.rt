@@ -7,7 +7,7 @@ ghost use lib.ListN.{length};
 ghost use Rattle.num.specs.Bytes.{part};
 ghost use Rattle.record.specs.Record.{firstBad};
 ghost use Rattle.record.specs.declared.Refusal.the-variants.{Full};
-ghost use Rattle.blocks.specs.Block.{blockCount, used, blocksIn, blockAt, firstBadBlock, listUpTo};
+ghost use Rattle.log_block.specs.Block.{blockCount, used, blocksIn, blockAt, firstBadBlock, listUpTo};
 ghost use Rattle.log.specs.declared.Copied.the-variants.{Refused, Count};
 ghost use Rattle.log.specs.Log.{encodeAnswer, encodeLog, decodeAnswer, decodeLog};
 use crate::Copied;
@@ -36,7 +36,7 @@ fn encode_answer(s: Settings, per: usize, list: &[u8], room: usize) -> Copied
         return Copied::Refused(Refusal::Length);
     }
     let n = list.len() / 32;
-    let bad = scan::first_bad(s, list);
+    let bad = record_bytes::quick::first_bad(s, list);
     if bad != n {
         return Copied::Refused(Refusal::Word(bad as u64));
     }
@@ -50,7 +50,7 @@ pub fn encode(s: Settings, per: usize, stamp: &[u8], list: &[u8], log: &mut [u8]
 {
     let answer = encode_answer(s, per, list, log.len());
     if let Copied::Count(_) = answer {
-        blocks::write::write_log(list, per, stamp, log);
+        log_block::write::write_log(list, per, stamp, log);
     }
     answer
 }
@@ -61,12 +61,12 @@ fn bad_in_block(s: Settings, log: &[u8], k: usize) -> usize
     ensures { λ r. ⌜ r ≡ firstBad s (part (blockAt (now (log .entry)) k) 0 (32 * used (blockAt (now (log .entry)) k))) ⌝ }
 {
     let at = 512 * k;
-    let end = at + 32 * kept::used_at(log, k);
-    record_bytes::first_bad(s, &log[at..end])
+    let end = at + 32 * log_block::read::used_at(log, k);
+    record_bytes::quick::first_bad_of_few(s, &log[at..end])
 }
 
 // The first bad record up to block k: bad is that of the blocks before it, or the number of their records where they have none.
-fn bad_up_to(s: Settings, log: &[u8], per: usize, k: usize, bad: usize) -> usize
+pub fn bad_up_to(s: Settings, log: &[u8], per: usize, k: usize, bad: usize) -> usize
     requires { ⌜ (k < blocksIn (now log)) × (used (blockAt (now log) k) ≤ per) × (per ≤ 15) ⌝ }
     ensures { λ r. ⌜ r ≡ cond (eqb bad (per * k)) (per * k + firstBad s (part (blockAt (now (log .entry)) k) 0 (32 * used (blockAt (now (log .entry)) k)))) bad ⌝ }
 {
@@ -87,7 +87,7 @@ pub fn faults(s: Settings, log: &[u8], per: usize) -> Faults
     let mut bad = 0;
     let mut k = 0;
     while k < n {
-        if !blocks::right_at(log, per, k) {
+        if !log_block::right_at(log, per, k) {
             return Faults {
                 block: k,
                 record: bad,
@@ -114,7 +114,7 @@ fn decode_answer(s: Settings, log: &[u8], per: usize, room: usize) -> Copied
     if found.block != log.len() / 512 {
         return Copied::Refused(Refusal::Block(found.block as u64));
     }
-    let n = kept::records_in(log, per);
+    let n = log_block::read::records_in(log, per);
     if found.record != n {
         return Copied::Refused(Refusal::Word(found.record as u64));
     }
@@ -131,7 +131,7 @@ pub fn decode(s: Settings, log: &[u8], per: usize, list: &mut [u8]) -> Copied
 {
     let answer = decode_answer(s, log, per, list.len());
     if let Copied::Count(_) = answer {
-        kept::read_list(log, per, list);
+        log_block::read::read_list(log, per, list);
     }
     answer
 }

@@ -1,4 +1,1 @@
-pub mod Touched
-pub mod Index
-pub mod Query
-pub mod Answers
+pub mod form

@@ -1,10 +1,4 @@
-// Which blocks of a log touch a bank (document 02, request b): definitions and theorems.
-use record::Refusal;
-
-// What a call on an index answers: a refusal of document 01's table, the first word of the index that is wrong, missing or surplus,
-// or how many words or block numbers there are.
-pub enum Indexed {
-    Refused(Refusal),
-    Differs(u64),
-    Count(u64),
-}
+// The index of a log (document 02, request e): its words, making it and adding to it, and queries by bank.
+pub mod make;
+pub mod query;
+pub mod words;

@@ -12,11 +12,11 @@ use Rattle.settings.specs.declared.Settings.{Settings}
 use Rattle.record.specs.declared.Refusal.{Refusal}
 use Rattle.record.specs.declared.Refusal.the-variants.{Full, Word, Block, Length, Stamp}
 use Rattle.record.specs.Record.{firstBad, recordsIn}
-use Rattle.blocks.specs.Block.{blockCount, blocksIn, firstBadBlock, listOf}
+use Rattle.log_block.specs.Block.{blockCount, blocksIn, firstBadBlock, listOf}
 use Rattle.log.specs.declared.Copied.{Copied}
 use Rattle.log.specs.declared.Copied.the-variants.{Refused, Count}
 use Rattle.log.specs.Log.{blocksFit, blocksOrFull, recordsOrFull}
-use Rattle.log_right.specs.Right.{rightLog}
+use Rattle.log_block.specs.Right.{rightLog}
 use Rattle.log_stamp.specs.Stamp.{firstBadStamp, settingsOf, rightStamped}
 use Rattle.log_stamp.specs.Copy.{stampedDecodeAnswer, stampAnswer, unstampAnswer}
 use Rattle.log_stamp.proofs.StampLaws.{Passed}

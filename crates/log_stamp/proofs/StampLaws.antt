@@ -20,9 +20,9 @@ use Rattle.settings.specs.Settings.{valid, settingsIn, settingsRead}
 use Rattle.record.specs.declared.Refusal.{Refusal}
 use Rattle.record.specs.declared.Refusal.the-variants.{Block, Word, Stamp}
 use Rattle.record.specs.Record.{firstBad, recordsIn}
-use Rattle.blocks.specs.Block.{blockCount, logOf, blocksIn, blockAt, firstBadBlock, listOf}
-use Rattle.blocks.proofs.CountLaws.{Records}
-use Rattle.blocks.proofs.LogThenList.{log-blocks, stamp-log}
+use Rattle.log_block.specs.Block.{blockCount, logOf, blocksIn, blockAt, firstBadBlock, listOf}
+use Rattle.log_block.proofs.CountLaws.{Records}
+use Rattle.log_block.proofs.LogThenList.{log-blocks, stamp-log}
 use Rattle.log_stamp.specs.declared.Judgement.{Judgement}
 use Rattle.log_stamp.specs.declared.Judgement.the-variants as tested
 use Rattle.log_stamp.specs.Stamp.{stampAt, inRange, sameStamp, stampRight, firstBadStamp, settingsOf, rightStamped}

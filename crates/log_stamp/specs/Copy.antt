@@ -4,11 +4,11 @@
 use Prim.Native.Nat.{ℕ}
 use mathlib.Core.List.{List}
 use Rattle.settings.specs.declared.Settings.{Settings}
-use Rattle.blocks.specs.Block.{listOf}
+use Rattle.log_block.specs.Block.{listOf}
 use Rattle.log.specs.declared.Copied.{Copied}
 use Rattle.log.specs.declared.Copied.the-variants.{Refused}
 use Rattle.log.specs.Log.{blocksOrFull, recordsOrFull}
-use Rattle.log_right.specs.Right.{wholeIn, rightLog}
+use Rattle.log_block.specs.Right.{wholeIn, rightLog}
 use Rattle.log_stamp.specs.Stamp.{rightStamped}
 
 -- a stamped log to a list with room for so many bytes: 13, 12, 17, 10, 8

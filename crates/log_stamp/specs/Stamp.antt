@@ -14,8 +14,8 @@ use Rattle.settings.specs.declared.SettingsRead.the-variants.{Refused, Accepted
 use Rattle.settings.specs.Settings.{settingsIn, settingsRead}
 use Rattle.record.specs.declared.Refusal.{Refusal}
 use Rattle.record.specs.declared.Refusal.the-variants.{Stamp}
-use Rattle.blocks.specs.Block.{blocksIn, blockAt, stampOf, listOf}
-use Rattle.log_right.specs.Right.{rightBlocks, rightRecords}
+use Rattle.log_block.specs.Block.{blocksIn, blockAt, stampOf, listOf}
+use Rattle.log_block.specs.Right.{rightBlocks, rightRecords}
 
 -- the stamp of block k
 abbrev pub stampAt : List ℕ → ℕ → List ℕ

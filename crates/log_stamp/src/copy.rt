@@ -5,7 +5,7 @@ ghost use Prim.Native.Nat.{_+_, _*_, _/_, _%_, _≤_};
 ghost use lib.Dec.{leb};
 ghost use mathlib.Core.List.{[]};
 ghost use lib.ListN.{length};
-ghost use Rattle.blocks.specs.Block.{logOf, listOf};
+ghost use Rattle.log_block.specs.Block.{logOf, listOf};
 ghost use Rattle.record.specs.declared.Refusal.the-variants.{Full};
 ghost use Rattle.log.specs.declared.Copied.the-variants.{Refused, Count};
 ghost use Rattle.log.specs.Log.{copied};
@@ -36,7 +36,7 @@ fn decode_answer(log: &[u8], room: usize) -> Copied
     }
     match tested(log) {
         Judgement::Refused(why) => Copied::Refused(why),
-        Judgement::Right(_) => records_or_full(kept::records_in(log, 14), room),
+        Judgement::Right(_) => records_or_full(log_block::read::records_in(log, 14), room),
     }
 }
 
@@ -46,7 +46,7 @@ pub fn decode(log: &[u8], list: &mut [u8]) -> Copied
 {
     let answer = decode_answer(log, list.len());
     if let Copied::Count(_) = answer {
-        kept::read_list(log, 14, list);
+        log_block::read::read_list(log, 14, list);
     }
     answer
 }
@@ -60,7 +60,7 @@ fn unstamp_answer(log: &[u8], room: usize) -> Copied
     }
     match tested(log) {
         Judgement::Refused(why) => Copied::Refused(why),
-        Judgement::Right(_) => blocks_or_full(15, kept::records_in(log, 14), room),
+        Judgement::Right(_) => blocks_or_full(15, log_block::read::records_in(log, 14), room),
     }
 }
 
@@ -70,7 +70,7 @@ pub fn unstamp(log: &[u8], out: &mut [u8]) -> Copied
 {
     let answer = unstamp_answer(log, out.len());
     if let Copied::Count(_) = answer {
-        log_move::write_moved(log, 14, 15, &log[0..0], out);
+        crate::moved::write_moved(log, 14, 15, &log[0..0], out);
     }
     answer
 }
@@ -82,9 +82,9 @@ fn stamp_answer(s: Settings, log: &[u8], room: usize) -> Copied
     if log.len() % 512 != 0 {
         return Copied::Refused(Refusal::Length);
     }
-    match index_make::right(s, log) {
+    match log_index::make::right(s, log) {
         Copied::Refused(why) => Copied::Refused(why),
-        Copied::Count(_) => blocks_or_full(14, kept::records_in(log, 15), room),
+        Copied::Count(_) => blocks_or_full(14, log_block::read::records_in(log, 15), room),
     }
 }
 
@@ -95,7 +95,7 @@ pub fn stamp(s: Settings, settings: &[u8], log: &[u8], out: &mut [u8]) -> Copied
 {
     let answer = stamp_answer(s, log, out.len());
     if let Copied::Count(_) = answer {
-        log_move::write_moved(log, 15, 14, settings, out);
+        crate::moved::write_moved(log, 15, 14, settings, out);
     }
     answer
 }

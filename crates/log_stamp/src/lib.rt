@@ -1,10 +1,11 @@
 // Logs that carry their settings (document 02, request i): the tests of a log and of its stamps.
 pub mod copy;
+pub mod moved;
 
 ghost use mathlib.Core.Path.{_≡_};
 ghost use mathlib.Core.Bool.{true, cond};
 ghost use mathlib.Core.List.{[]};
-ghost use Prim.Native.Nat.{_+_, _*_, _%_, _<_, _≤_};
+ghost use Prim.Native.Nat.{ℕ, _+_, _*_, _%_, _<_, _≤_};
 ghost use lib.Dec.{eqb};
 ghost use lib.ListN.{length};
 ghost use Rattle.num.specs.Bytes.{part};
@@ -12,7 +13,8 @@ ghost use Rattle.num.specs.Search.{firstFalse};
 ghost use Rattle.settings.specs.declared.SettingsRead.the-variants.{Accepted};
 ghost use Rattle.settings.specs.Settings.{settingsIn, settingsRead};
 ghost use Rattle.record.specs.declared.Refusal.the-variants.{Block, Stamp};
-ghost use Rattle.blocks.specs.Block.{blocksIn, firstBadBlock};
+ghost use Rattle.record.specs.Record.{firstBad};
+ghost use Rattle.log_block.specs.Block.{blocksIn, firstBadBlock, listUpTo};
 ghost use Rattle.log_stamp.specs.declared.Judgement.the-variants.{Refused, Right};
 ghost use Rattle.log_stamp.specs.Stamp.{stampAt, sameStamp, settingsOf, inRange, rightStamped};
 use record::Refusal;
@@ -62,6 +64,54 @@ fn first_other(log: &[u8]) -> usize
         k += 1;
     }
     n
+}
+
+// What the tests of the blocks of a log find: the first bad block, the first bad record of the blocks before it, and whether the stamps
+// of these are that of block 0.
+pub struct Found {
+    pub block: usize,
+    pub record: usize,
+    pub same: bool,
+}
+
+// Each block is tested whole, with its records and its stamp, before the next one is read.
+fn found_in(s: Settings, log: &[u8]) -> Found
+    ensures { λ r. ⌜ (r .block ≡ firstBadBlock 14 (now (log .entry))) × (r .record ≡ firstBad s (listUpTo (now (log .entry)) (firstBadBlock 14 (now (log .entry))))) ⌝ }
+    ensures { λ r. ⌜ (r .same ≡ true → (i : ℕ) → i < r .block → sameStamp (stampAt (now (log .entry)) i) (stampAt (now (log .entry)) 0) ≡ true) ⌝ }
+{
+    let n = log.len() / 512;
+    let mut bad = 0;
+    let mut same = true;
+    let mut k = 0;
+    while k < n {
+        if !log_block::right_at(log, 14, k) {
+            return Found {
+                block: k,
+                record: bad,
+                same: same,
+            };
+        }
+        bad = log::copy::bad_up_to(s, log, 14, k, bad);
+        same = same & same_at(log, k);
+        k += 1;
+    }
+    Found {
+        block: n,
+        record: bad,
+        same: same,
+    }
+}
+
+// The first block whose stamp differs from that of block 0, or the number of blocks; stamps that are known to be the same are not read
+// again.
+fn first_unlike(log: &[u8], same: bool) -> usize
+    requires { ⌜ (same ≡ true → (i : ℕ) → i < blocksIn (now log) → sameStamp (stampAt (now log) i) (stampAt (now log) 0) ≡ true) ⌝ }
+    ensures { λ r. ⌜ r ≡ firstFalse (λ k. sameStamp (stampAt (now (log .entry)) k) (stampAt (now (log .entry)) 0)) (blocksIn (now (log .entry))) ⌝ }
+{
+    if same {
+        return log.len() / 512;
+    }
+    first_other(log)
 }
 
 // The settings of no log.
@@ -118,15 +168,15 @@ fn tested_under(s: Settings, log: &[u8]) -> Judgement
     ensures { λ r. ⌜ r ≡ rightStamped Refused (now (log .entry)) Right ⌝ }
 {
     let n = log.len() / 512;
-    let found = log::copy::faults(s, log, 14);
+    let found = found_in(s, log);
     if found.block != n {
         return Judgement::Refused(Refusal::Block(found.block as u64));
     }
-    let other = first_other(log);
+    let other = first_unlike(log, found.same);
     if other != n {
         return Judgement::Refused(Refusal::Stamp(other as u64));
     }
-    if found.record != kept::records_in(log, 14) {
+    if found.record != log_block::read::records_in(log, 14) {
         return Judgement::Refused(Refusal::Word(found.record as u64));
     }
     Judgement::Right(s)

@@ -8,9 +8,9 @@ use native.Mathlib.Omega.{arith}
 use lib.Dec.{leb}
 use lib.ListN.{getD}
 use borrow.Author.Tests.{leb-true}
-use Rattle.marks.specs.Marks.{bit, mark, countUpTo, later}
-use Rattle.marks.proofs.MarkLaws.{mark-at}
-use Rattle.marks.proofs.CountLaws.{count-next, count-later, count-or}
+use Rattle.num.specs.Marks.{bit, mark, countUpTo, later}
+use Rattle.num.proofs.bits.MarkLaws.{mark-at}
+use Rattle.num.proofs.bits.CountLaws.{count-next, count-later, count-or}
 use Rattle.meter.specs.Meter.{meterOf, busy, busyCount}
 use Rattle.meter.proofs.ValidLaws.{Valid}
 

@@ -8,7 +8,7 @@ use native.Mathlib.Omega.{arith}
 use lib.Dec.{eqb, leb, ltb}
 use borrow.Author.Tests.{eqb-true, eqb-false, leb-true, le-leb, ltb-true, lt-ltb}
 use native.Mathlib.Nat.{add-zero}
-use Rattle.marks.proofs.BitLaws.{same-truth}
+use Rattle.num.proofs.bits.BitLaws.{same-truth}
 use Rattle.meter.specs.Window.{oneOf, hasData}
 
 pub oneOf-same : (f g : ℕ → Bool) (h : List ℕ) → ((t : ℕ) → f t ≡ g t) → oneOf f h ≡ oneOf g h

@@ -9,9 +9,9 @@ use native.Mathlib.Omega.{arith}
 use lib.Dec.{eqb, leb, ltb}
 use borrow.Author.Tests.{eqb-true, eqb-false, eq-eqb, leb-true, le-leb, lt-leb, ltb-true, ltb-false, le-ltb, lt-ltb}
 use Rattle.settings.specs.Instants.{horizon}
-use Rattle.marks.specs.Marks.{mark, words}
-use Rattle.marks.proofs.BitLaws.{same-truth}
-use Rattle.marks.proofs.MarkLaws.{words-marks, words-same}
+use Rattle.num.specs.Marks.{mark, words}
+use Rattle.num.proofs.bits.BitLaws.{same-truth}
+use Rattle.num.proofs.bits.MarkLaws.{words-marks, words-same}
 use Rattle.meter.specs.declared.Meter.{Meter}
 use Rattle.meter.specs.declared.FeedAnswer.the-variants.{Accepted}
 use Rattle.meter.specs.Answer.{feedNumber, feedAccepted}

@@ -10,10 +10,10 @@ use lib.Dec.{eqb, leb, ltb, lit<}
 use lib.ListN.{getD, List·getD-eq-default}
 use borrow.Author.Tests.{leb-true, ltb-true, ltb-false, le-ltb}
 use Rattle.settings.specs.Instants.{horizon, isInstant}
-use Rattle.marks.specs.Marks.{mark, word, words, later, pushed}
-use Rattle.marks.proofs.BitLaws.{word-below}
-use Rattle.marks.proofs.MarkLaws.{getD-words, length-words}
-use Rattle.marks.proofs.CountLaws.{count-le}
+use Rattle.num.specs.Marks.{mark, word, words, later, pushed}
+use Rattle.num.proofs.bits.BitLaws.{word-below}
+use Rattle.num.proofs.bits.MarkLaws.{getD-words, length-words}
+use Rattle.num.proofs.bits.CountLaws.{count-le}
 use Rattle.meter.specs.declared.Meter.{Meter}
 use Rattle.meter.specs.declared.CountAnswer.{CountAnswer}
 use Rattle.meter.specs.declared.FeedAnswer.the-variants.{Accepted, Settings, Horizon, Overlap}

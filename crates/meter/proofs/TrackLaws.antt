@@ -12,10 +12,10 @@ use borrow.Author.Tests.{eqb-true, eq-eqb, ne-eqb, leb-true, leb-false}
 use Rattle.num.specs.Bytes.{zeros}
 use Rattle.num.proofs.SpliceLaws.{length-zeros}
 use Rattle.settings.specs.Instants.{horizon}
-use Rattle.marks.specs.Marks.{mark, later}
-use Rattle.marks.proofs.BitLaws.{same-truth}
-use Rattle.marks.proofs.MarkLaws.{bit-zero}
-use Rattle.marks.proofs.CountLaws.{count-same, count-none}
+use Rattle.num.specs.Marks.{mark, later}
+use Rattle.num.proofs.bits.BitLaws.{same-truth}
+use Rattle.num.proofs.bits.MarkLaws.{bit-zero}
+use Rattle.num.proofs.bits.CountLaws.{count-same, count-none}
 use Rattle.meter.specs.declared.Meter.{Meter}
 use Rattle.meter.specs.Window.{oneOf, hasData, dataCycles, metered}
 use Rattle.meter.specs.Meter.{freshMeter, advanced, busy, busyCount}

@@ -12,8 +12,8 @@ use borrow.Author.Tests.{eqb-true, eq-eqb, leb-true, le-leb, ltb-true, ltb-false
 use Rattle.num.specs.Search.{allUpTo}
 use Rattle.num.proofs.SearchLaws.{all-at, all-intro}
 use Rattle.settings.specs.Instants.{horizon}
-use Rattle.marks.specs.Marks.{mark, later, alone, allApart, aged, below, pushed}
-use Rattle.marks.proofs.MarkLaws.{mark-words, mark-past, length-words}
+use Rattle.num.specs.Marks.{mark, later, alone, allApart, aged, below, pushed}
+use Rattle.num.proofs.bits.MarkLaws.{mark-words, mark-past, length-words}
 use Rattle.meter.specs.declared.Meter.{Meter}
 use Rattle.meter.specs.Meter.{meterValid}
 

@@ -4,7 +4,7 @@ use Prim.Native.Nat.{ℕ}
 use mathlib.Core.Path.{_≡_, refl}
 use mathlib.Core.List.{List, [], _∷_, map}
 use Rattle.num.specs.Search.{allUpTo}
-use Rattle.marks.specs.Marks.{bit, mark, word, words, countUpTo, alone, allApart, aged, below, pushed}
+use Rattle.num.specs.Marks.{bit, mark, word, words, countUpTo, alone, allApart, aged, below, pushed}
 use Rattle.meter.specs.Answer.{feedNumber, feedAccepted}
 use Rattle.meter.specs.Window.{oneOf, hasData, dataCycles, metered}
 use Rattle.meter.specs.Meter.{freshMeter, meterValid, feedAnswer, advanced, feedMeter}

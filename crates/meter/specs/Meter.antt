@@ -7,7 +7,7 @@ use mathlib.Core.List.{List}
 use lib.Dec.{eqb, leb, ltb}
 use Rattle.num.specs.Bytes.{zeros}
 use Rattle.settings.specs.Instants.{horizon, isInstant}
-use Rattle.marks.specs.Marks.{mark, countUpTo, later, allApart, below, pushed}
+use Rattle.num.specs.Marks.{mark, countUpTo, later, allApart, below, pushed}
 use Rattle.meter.specs.declared.Meter.{Meter}
 use Rattle.meter.specs.declared.Fed.{Fed}
 use Rattle.meter.specs.declared.FeedAnswer.{FeedAnswer}

@@ -5,7 +5,7 @@ use mathlib.Core.Bool.{Bool, false, cond, _&&_, _||_}
 use mathlib.Core.List.{List, [], _∷_}
 use lib.Dec.{leb, ltb}
 use Rattle.settings.specs.Instants.{isInstant}
-use Rattle.marks.specs.Marks.{countUpTo}
+use Rattle.num.specs.Marks.{countUpTo}
 use Rattle.meter.specs.declared.FeedAnswer.{FeedAnswer}
 use Rattle.meter.specs.declared.FeedAnswer.the-variants.{Accepted, Horizon, Overlap}
 

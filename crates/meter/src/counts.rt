@@ -18,9 +18,11 @@ fn busy_count(marks: &[u64], newest: u64) -> u32
     requires { ⌜ meterValid (meterOf (now marks) newest) ≡ true ⌝ }
     ensures { λ r. ⌜ (r ≡ busyCount (meterOf (now (marks .entry)) newest)) × (r ≤ 1024) ⌝ }
 {
-    let n = marks::count(marks);
+    let n = num::bits::count(marks);
     let oldest = marks[15];
-    let cut = marks::one(oldest, 61) + 2 * marks::one(oldest, 62) + 3 * marks::one(oldest, 63);
+    let cut = num::bits::one(oldest, 61)
+        + 2 * num::bits::one(oldest, 62)
+        + 3 * num::bits::one(oldest, 63);
     4 * n - cut
 }
 

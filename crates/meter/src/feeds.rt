@@ -2,7 +2,7 @@
 ghost use mathlib.Core.Path.{_≡_};
 ghost use Prim.Native.Nat.{_-_};
 ghost use lib.ListN.{length};
-ghost use Rattle.marks.specs.Marks.{below};
+ghost use Rattle.num.specs.Marks.{below};
 ghost use Rattle.meter.specs.Answer.{feedNumber};
 ghost use Rattle.meter.specs.Meter.{meterOf, freshMeter, meterValid, feedAnswer, fedBy};
 ghost use Rattle.meter.specs.Calls.{fedAnswered};
@@ -29,10 +29,10 @@ fn from_4(marks: &[u64], newest: u64) -> bool
     ensures { λ r. ⌜ r ≡ below (now (marks .entry)) (newest - 3) ⌝ }
 {
     if newest < 3 {
-        return marks::below(marks, 0);
+        return num::bits::below(marks, 0);
     }
     if newest < 1027 {
-        return marks::below(marks, newest - 3);
+        return num::bits::below(marks, newest - 3);
     }
     true
 }
@@ -42,8 +42,8 @@ pub fn right(marks: &[u64], newest: u64) -> bool
     requires { ⌜ length (now marks) ≡ 16 ⌝ }
     ensures { λ r. ⌜ r ≡ meterValid (meterOf (now (marks .entry)) newest) ⌝ }
 {
-    let marked = (newest == 0) | marks::first(marks);
-    let apart = marks::apart(marks) & from_4(marks, newest);
+    let marked = (newest == 0) | num::bits::first(marks);
+    let apart = num::bits::apart(marks) & from_4(marks, newest);
     (newest <= HORIZON_WIDE) & (marked & apart)
 }
 
@@ -90,7 +90,7 @@ pub fn step(m: Meter, at: DataAt) -> Fed
     let marks = m.marks;
     let answer = answer_to(&marks, newest, t);
     if number_of(answer) == 0 {
-        let pushed = marks::pushed(&marks, t - newest);
+        let pushed = num::bits::pushed(&marks, t - newest);
         let meter = Meter {
             marks: pushed,
             newest: t,

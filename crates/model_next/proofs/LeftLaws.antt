@@ -37,7 +37,7 @@ use Rattle.spec_state.proofs.StoreLaws.{WriteIn}
 use Rattle.spec_state.proofs.ColLaws.{shift-stored, gone-size, gone-due, gone-in, nocop-stored, wr-stored, beside-stored}
 use Rattle.spec_state.proofs.ImpliedLaws.{closing-size, closing-in, closing-due}
 use Rattle.state_bytes.proofs.NumberLaws.{instant-stored}
-use Rattle.state_stores.proofs.SideLaws.{write-in, closing-left}
+use Rattle.state_bytes.proofs.stores.SideLaws.{write-in, closing-left}
 use Rattle.spec_model.specs.declared.ModelState.{ModelState}
 use Rattle.spec_model.specs.Store.{dualoctBytes}
 use Rattle.spec_model.specs.Model.{bytesLeft}

@@ -37,7 +37,7 @@ use Rattle.spec_state.specs.form.Stores.{actStored, refaStored, prerStored, rdS
 use Rattle.spec_state.proofs.StoreLaws.{act-stored, refa-stored, rd-stored}
 use Rattle.spec_state.proofs.ColLaws.{data-stored}
 use Rattle.chan_view.specs.form.Beside.{lowOf, highOf}
-use Rattle.state_stores.proofs.SideLaws.{prer-after, refp-after, rda-after}
+use Rattle.state_bytes.proofs.stores.SideLaws.{prer-after, refp-after, rda-after}
 use Rattle.spec_model.specs.declared.ModelState.{ModelState}
 use Rattle.spec_model.specs.Store.{dualoctBytes}
 use Rattle.spec_model.specs.Model.{retiredWrite, refrBy, refrNext, bytesNext, secondNext, modelNext}

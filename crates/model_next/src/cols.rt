@@ -15,14 +15,14 @@ use packet::ColPacket;
 use record::Dualoct;
 use settings::Settings;
 use state_bytes::models::second_at;
-use state_stores::cols::store_beside;
-use state_stores::cols::store_col;
-use state_stores::cols::store_data;
-use state_stores::cols::store_rd;
-use state_stores::cols::store_retire;
-use state_stores::cols::store_shift;
-use state_stores::cols::store_write;
-use state_stores::rows::store_implied;
+use state_bytes::stores::cols::store_beside;
+use state_bytes::stores::cols::store_col;
+use state_bytes::stores::cols::store_data;
+use state_bytes::stores::cols::store_rd;
+use state_bytes::stores::cols::store_retire;
+use state_bytes::stores::cols::store_shift;
+use state_bytes::stores::cols::store_write;
+use state_bytes::stores::rows::store_implied;
 
 // Whether the older write leaves at a stored instant.
 fn leaves_at(s: Settings, b: &[u8], t: u64) -> bool

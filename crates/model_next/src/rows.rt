@@ -7,14 +7,14 @@ ghost use Rattle.packet.specs.Row.{rowFits};
 ghost use Rattle.spec_model.specs.ModelBytes.{modelIn};
 ghost use Rattle.model_next.specs.form.Next.{refaNext, rowNext};
 use model_store::refresh::refr_after;
+use num::put::put_u16;
 use num::wide32;
 use packet::RowPacket;
-use puts::put_u16;
 use settings::Settings;
 use state_bytes::models::refr_at;
-use state_stores::rows::store_act;
-use state_stores::rows::store_prer;
-use state_stores::rows::store_refa;
+use state_bytes::stores::rows::store_act;
+use state_bytes::stores::rows::store_prer;
+use state_bytes::stores::rows::store_refa;
 
 // REFA to a bank, and REFR after it.
 fn put_refa(s: Settings, b: &mut [u8], bank: u32, t: u64)

@@ -23,6 +23,6 @@ pub fn put_dualoct(b: &mut [u8], at: usize, d: Dualoct)
     requires { ⌜ at + 16 ≤ length (now b) ⌝ }
     ensures { λ _. ⌜ now (b .exit) ≡ splice (now (b .entry)) at (dualoctBytes d) ⌝ }
 {
-    puts::put_u64(b, at, d.dqa);
-    puts::put_u64(b, at + 8, d.dqb);
+    num::put::put_u64(b, at, d.dqa);
+    num::put::put_u64(b, at + 8, d.dqb);
 }

@@ -90,7 +90,7 @@ impl Planner {
     {
         let p = self.state;
         if answers::allowed(s, p) {
-            return answers::answered(s, requests::read_request(s, request), p, room);
+            return answers::answered(s, record_bytes::requests::read_request(s, request), p, room);
         }
         answers::refused(p, Refusal::Settings)
     }

@@ -159,7 +159,7 @@ fn loaded(s: Settings, mask: u32, bytes: Dualoct, d: Draft) -> Draft
     ensures { λ z. ⌜ ((p : PlannerOf) (e : DraftOf) → Draws s p d e → Draws s p z (loaded (contextOf s) mask bytes e)) ⌝ }
 {
     let p = d.planner;
-    let Arrival::At(t) = instants::write_arrival(s, p.now) else {
+    let Arrival::At(t) = settings::instants::write_arrival(s, p.now) else {
         return moved(d, p, true);
     };
     let q = Record::DataOf(t, bytes);

@@ -1,4 +1,6 @@
 // Numbers in the bytes of a planner, and records as bytes. Sums are made in 64 bits.
+pub mod calm;
+
 ghost use mathlib.Core.Path.{_≡_};
 ghost use Prim.Native.Nat.{_+_, _<_, _≤_, max, _^_};
 ghost use lib.ListN.{length};
@@ -7,9 +9,9 @@ ghost use Rattle.record.specs.Record.{recordFields};
 ghost use Rattle.spec_rules.specs.Checks.{since};
 ghost use Rattle.plan_bytes.specs.form.Numbers.{word, waitsIn, heldBank, twoIn, nextBank, nowStored};
 use chan_view::bounds::after_gap;
+use num::put::put_u32;
+use num::put::put_u64;
 use num::u32_at;
-use puts::put_u32;
-use puts::put_u64;
 use record::Dualoct;
 use settings::DataAt;
 use settings::PacketAt;

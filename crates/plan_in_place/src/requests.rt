@@ -7,7 +7,7 @@ ghost use lib.ListN.{length};
 ghost use Rattle.num.specs.Bytes.{splice};
 ghost use Rattle.settings.specs.Settings.{valid};
 ghost use Rattle.record.proofs.RequestLaws.{InPlace, InRange};
-ghost use Rattle.record.specs.declared.Request.the-variants.{Write, Close};
+ghost use Rattle.record.specs.declared.Request.the-variants.{Read, Write, Close};
 ghost use Rattle.spec_rules.specs.Neighbour.{contextOf};
 ghost use Rattle.spec_rules.specs.Checks.{since};
 ghost use Rattle.spec_plan.specs.Plan.{stateIn, plannedRead, plannedWrite, plannedRefresh, plannedWait, plannedFlush, plannedClose, planned};
@@ -18,17 +18,19 @@ ghost use Rattle.spec_plan.proofs.Timely.{dataBefore};
 ghost use Rattle.plan_bytes.specs.form.Numbers.{word, Below};
 ghost use Rattle.plan_bytes.specs.form.Drawn.{drafted, Rested, Drawn};
 use num::both;
+use num::put::put_u16;
+use num::put::put_u32;
 use num::u16_at;
 use num::wide32;
 use plan_bytes::after;
 use plan_bytes::latest;
 use plan_bytes::stored;
 use plan_bytes::waits;
-use plan_cols::data_at;
-use plan_cols::rd;
-use plan_cols::rda;
-use plan_cols::wr;
-use plan_rows::refresh_bank;
+use plan_packets::cols::data_at;
+use plan_packets::cols::rd;
+use plan_packets::cols::rda;
+use plan_packets::cols::wr;
+use plan_packets::rows::refresh_bank;
 use plan_steps::Walked;
 use plan_steps::close_all;
 use plan_steps::close_near;
@@ -38,8 +40,6 @@ use plan_steps::flush_delaying;
 use plan_steps::flush_wra;
 use plan_steps::on_row;
 use plan_steps::open_row;
-use puts::put_u16;
-use puts::put_u32;
 use record::Dualoct;
 use record::Place;
 use record::Request;
@@ -231,6 +231,21 @@ pub fn plan(s: Settings, planner: &mut [u8], q: Request, room: &mut [u8]) -> Cou
         Request::Flush => no_walk(flush(s, planner, room), 0),
         Request::Close => walk(close(s, planner, room)),
     }
+}
+
+// As `plan`, of a read that leaves its bank open.
+pub fn plan_read(s: Settings, planner: &mut [u8], at: Place, room: &mut [u8]) -> Counts
+    requires { ⌜ valid s ≡ true ⌝ }
+    requires { ⌜ plannerRight (contextOf s) (now planner) ≡ true ⌝ }
+    requires { ⌜ InPlace s at ⌝ }
+    requires { ⌜ 1024 ≤ length (now room) ⌝ }
+    ensures { λ _. ⌜ now (planner .exit) ≡ plannerBytes (planned (contextOf s) (Read at false) (plannerIn (now (planner .entry))) .planner) ⌝ }
+    ensures { λ _. ⌜ now (room .exit) ≡ splice (now (room .entry)) 0 (listBytes s (planned (contextOf s) (Read at false) (plannerIn (now (planner .entry))) .records)) ⌝ }
+    ensures { λ r. ⌜ r .records ≡ length (planned (contextOf s) (Read at false) (plannerIn (now (planner .entry))) .records) ⌝ }
+    ensures { λ r. ⌜ r .banks ≡ looked (Read at false) (plannerIn (now (planner .entry))) ⌝ }
+    ensures { λ r. ⌜ r .due ≡ dataBefore (contextOf s) (Read at false) (plannerIn (now (planner .entry))) ⌝ }
+{
+    no_walk(read(s, planner, at, false, room), 0)
 }
 
 // Whether a time after now passes the last instant, which is stored less 3.

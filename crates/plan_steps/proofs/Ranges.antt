@@ -19,7 +19,7 @@ use Rattle.chan_view.proofs.NearLaws.{Beside, own, low, high, Below, no-low, on
 use Rattle.spec_plan.specs.Plan.{Draft, when, stateIn, closed, closedUpTo}
 use Rattle.plan_bytes.specs.form.Drawn.{bare}
 use Rattle.plan_bytes.proofs.Compose.{added, Blind, closed-blind, blind-is}
-use Rattle.plan_rows.proofs.Slots.{last-bank}
+use Rattle.plan_packets.proofs.rows.Slots.{last-bank}
 
 -- ---- a bank and its neighbours
 

@@ -24,10 +24,10 @@ use plan_bytes::held_bank;
 use plan_bytes::next_bank;
 use plan_bytes::two;
 use plan_bytes::waits;
-use plan_cols::nocop;
-use plan_cols::nocop_closing;
-use plan_rows::act;
-use plan_rows::prer;
+use plan_packets::cols::nocop;
+use plan_packets::cols::nocop_closing;
+use plan_packets::rows::act;
+use plan_packets::rows::prer;
 use record::Place;
 use settings::Settings;
 

@@ -1,6 +1,6 @@
 // The index of a log: which blocks touch a bank.
 ghost use mathlib.Core.Path.{_≡_};
-ghost use Rattle.marks.specs.Marks.{bit, countUpTo};
+ghost use Rattle.num.specs.Marks.{bit, countUpTo};
 ghost use Rattle.calls_index.specs.Results.{indexAddCall, indexQueryCall, indexCheckCall};
 use calls_index::IndexAnswer;
 
@@ -52,5 +52,5 @@ pub extern "C" fn rdram_index_check(settings: &[u8], log: &[u8], index: &[u8]) -
 pub extern "C" fn rdram_index_banks(word: u32) -> u32
     ensures { λ r. ⌜ r ≡ countUpTo (bit word) 32 ⌝ }
 {
-    index_words::banks(word)
+    log_index::words::banks(word)
 }

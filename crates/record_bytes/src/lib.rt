@@ -1,4 +1,7 @@
 // Records as bytes.
+pub mod quick;
+pub mod requests;
+
 ghost use mathlib.Core.Path.{_≡_};
 ghost use Prim.Native.Nat.{_+_, _<_, _≤_};
 ghost use lib.ListN.{length};
@@ -48,10 +51,10 @@ fn record_of(s: Settings, at: u32, kind: u32, word: u64, d: Dualoct) -> RecordRe
         return RecordRead::NoRecord;
     }
     if kind == 0 {
-        return row_record(at, row_words::decode_row(s.device, s.rows, word));
+        return row_record(at, packet::row::decode_row(s.device, s.rows, word));
     }
     if kind == 1 {
-        return col_record(at, col_words::decode_col(s.device, s.columns, word));
+        return col_record(at, packet::col::decode_col(s.device, s.columns, word));
     }
     RecordRead::NoRecord
 }
@@ -106,11 +109,11 @@ fn put_fields(out: &mut [u8], at: usize, instant: u32, kind: u32, word: u64, d: 
     requires { ⌜ (at + 32 ≤ length (now out)) × (kind < 256) ⌝ }
     ensures { λ _. ⌜ now (out .exit) ≡ splice (now (out .entry)) at (recordFields instant kind word (d .dqa) (d .dqb)) ⌝ }
 {
-    puts::put_u32(out, at, num::wide32(instant));
-    puts::put_u32(out, at + 4, num::wide32(kind));
-    puts::put_u64(out, at + 8, word);
-    puts::put_u64(out, at + 16, d.dqa);
-    puts::put_u64(out, at + 24, d.dqb);
+    num::put::put_u32(out, at, num::wide32(instant));
+    num::put::put_u32(out, at + 4, num::wide32(kind));
+    num::put::put_u64(out, at + 8, word);
+    num::put::put_u64(out, at + 16, d.dqa);
+    num::put::put_u64(out, at + 24, d.dqb);
 }
 
 // Puts a record from a place on.
@@ -124,7 +127,7 @@ pub fn put_record(s: Settings, out: &mut [u8], at: usize, r: Record)
             at,
             t.0,
             0,
-            row_words::row_word(s.device, p),
+            packet::row::row_word(s.device, p),
             Dualoct { dqa: 0, dqb: 0 },
         ),
         Record::ColAt(t, p) => put_fields(
@@ -132,7 +135,7 @@ pub fn put_record(s: Settings, out: &mut [u8], at: usize, r: Record)
             at,
             t.0,
             1,
-            col_words::col_word(s.device, p),
+            packet::col::col_word(s.device, p),
             Dualoct { dqa: 0, dqb: 0 },
         ),
         Record::DataOf(t, d) => put_fields(out, at, t.0, 2, 0, d),

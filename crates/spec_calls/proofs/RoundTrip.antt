@@ -18,10 +18,10 @@ use Rattle.log.specs.declared.Copied.the-variants as copied
 use Rattle.log.specs.Log.{copied, encodeAnswer, decodeAnswer}
 use Rattle.log.proofs.CopyLaws.{encoded, decoded}
 use Rattle.log.proofs.RoundTrip.{decode-encoded, encode-decoded}
-use Rattle.blocks.specs.Block.{logOf, listOf}
-use Rattle.blocks.proofs.CountLaws.{Records}
-use Rattle.blocks.proofs.LogThenList.{log-length, log-then-list}
-use Rattle.blocks.proofs.ListThenLog.{list-whole, list-then-log}
+use Rattle.log_block.specs.Block.{logOf, listOf}
+use Rattle.log_block.proofs.CountLaws.{Records}
+use Rattle.log_block.proofs.LogThenList.{log-length, log-then-list}
+use Rattle.log_block.proofs.ListThenLog.{list-whole, list-then-log}
 use Rattle.spec_calls.specs.Settings.{underSettings}
 use Rattle.spec_calls.specs.Logs.{copyAnswer, CopyResult, copyBy, copyCall, logEncodeCall, logDecodeCall}
 use Rattle.spec_calls.specs.RoundTrip.{blocksWritten, recordsWritten, LogRoundTrips}

@@ -5,7 +5,7 @@ use mathlib.Core.List.{List, []}
 use lib.ListN.{length}
 use Rattle.settings.specs.declared.Settings.{Settings as Figures}
 use Rattle.record.specs.Refusal.{answerOf}
-use Rattle.blocks.specs.Block.{logOf, listOf}
+use Rattle.log_block.specs.Block.{logOf, listOf}
 use Rattle.log.specs.declared.Copied.{Copied}
 use Rattle.log.specs.declared.Copied.the-variants.{Refused, Count}
 use Rattle.log.specs.Log.{copied, encodeAnswer, decodeAnswer}

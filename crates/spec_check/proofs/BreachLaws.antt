@@ -17,8 +17,8 @@ use Rattle.record.specs.declared.Record.{Record}
 use Rattle.record.specs.declared.Refusal.{Refusal}
 use Rattle.record.specs.declared.Refusal.the-variants.{Word, Rule, Block, Length}
 use Rattle.record.specs.Record.{wellFormed, recordAt, recordsIn, firstBad}
-use Rattle.blocks.specs.Block.{blockRight, blockAt, blocksIn, firstBadBlock, listOf}
-use Rattle.blocks.proofs.ListThenLog.{list-whole}
+use Rattle.log_block.specs.Block.{blockRight, blockAt, blocksIn, firstBadBlock, listOf}
+use Rattle.log_block.proofs.ListThenLog.{list-whole}
 use Rattle.spec_rules.specs.Neighbour.{Context}
 use Rattle.spec_rules.specs.Broken.{FirstBreach, ruleAt, firstBroken}
 use Rattle.spec_rules.proofs.BrokenLaws.{breach-iff}

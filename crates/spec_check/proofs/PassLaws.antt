@@ -12,7 +12,7 @@ use Rattle.record.specs.declared.Record.{Record}
 use Rattle.record.specs.declared.Refusal.{Refusal}
 use Rattle.record.specs.declared.Refusal.the-variants.{Word, Rule, Block, Length}
 use Rattle.record.specs.Record.{recordsIn, firstBad}
-use Rattle.blocks.specs.Block.{blocksIn, firstBadBlock, listOf}
+use Rattle.log_block.specs.Block.{blocksIn, firstBadBlock, listOf}
 use Rattle.spec_rules.specs.Neighbour.{Context}
 use Rattle.spec_rules.specs.Broken.{ruleAt, firstBroken, everyRule}
 use Rattle.spec_check.specs.declared.Judged.{Judged}

@@ -13,8 +13,8 @@ use Rattle.record.specs.declared.RecordRead.{RecordRead}
 use Rattle.record.specs.declared.RecordRead.the-variants.{NoRecord, Known}
 use Rattle.record.specs.declared.Refusal.the-variants.{Rule}
 use Rattle.record.specs.Record.{recordRead, wellFormed, recordAt, recordsIn}
-use Rattle.blocks.specs.Block.{blockAt, blockRight, blocksIn, listOf}
-use Rattle.log_right.specs.Right.{wholeIn, rightBlocks, rightRecords}
+use Rattle.log_block.specs.Block.{blockAt, blockRight, blocksIn, listOf}
+use Rattle.log_block.specs.Right.{wholeIn, rightBlocks, rightRecords}
 use Rattle.spec_rules.specs.Neighbour.{Context}
 use Rattle.spec_rules.specs.Broken.{FirstBreach, ruleAt, firstBroken}
 use Rattle.spec_check.specs.declared.Judged.{Judged}

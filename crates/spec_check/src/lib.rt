@@ -7,3 +7,10 @@ pub enum Judged {
     Passed,
     Refused(Refusal),
 }
+
+// What is answered of a list: the checker's verdict on it and, where that names a rule and a record, the record from which the
+// shortest run starts that still breaks the rule there.
+pub struct Shortest {
+    pub judged: Judged,
+    pub start: u64,
+}

@@ -1,5 +1,6 @@
 //! Times `log_encode`, `log_decode`, `index_make` and `index_query` on 1,000,000 records, and on a list that stays in the cache,
-//! by the library and by plain Rust with the same checks: `bench [RECORDS [RUNS]]`.
+//! by the library and by plain Rust with the same checks; then logs of both forms and the moves between them beside a memcpy of the
+//! log: `bench [RECORDS [RUNS]]`.
 
 mod common;
 mod rivals;
@@ -164,6 +165,60 @@ fn measure_index(log: &[u8], records: usize, runs: usize, stream: &str) {
     print_row("`rdram_index_query`", stream, library, plain, None);
 }
 
+/// Times a call that reads or writes a log beside a memcpy of the log's bytes.
+fn beside_memcpy(
+    call: &str,
+    records: usize,
+    runs: usize,
+    log: &[u8],
+    work: &mut dyn FnMut() -> bool,
+) {
+    let mut copy = vec![1; log.len()];
+    let [library, memcpy] = best(
+        records,
+        runs,
+        [
+            &mut || vec![timed(|| assert!(work(), "refused"))],
+            &mut || vec![timed(|| copy.copy_from_slice(black_box(log)))],
+        ],
+    );
+    let call = format!("`{call}` beside memcpy");
+    print_row(&call, &format!("{records} records"), library, memcpy, None);
+}
+
+fn measure_forms(records: usize, runs: usize) {
+    let list = make_list(records);
+    let (blocks, stamped_blocks) = (records.div_ceil(15), records.div_ceil(14));
+    let (mut log, mut stamped) = (vec![1; 512 * blocks], vec![1; 512 * stamped_blocks]);
+    let mut back = vec![1; 32 * records];
+    let mut moved = vec![1; 512 * stamped_blocks];
+    rdram::log_encode(&SETTINGS, &list, &mut log).expect("a list");
+    rdram::stamped_encode(&SETTINGS, &list, &mut stamped).expect("a list");
+
+    beside_memcpy("rdram_log_encode", records, runs, &log, &mut || {
+        rdram::log_encode(&SETTINGS, black_box(&list), &mut moved).is_ok()
+    });
+    assert!(moved[..log.len()] == log, "other blocks");
+    beside_memcpy("rdram_log_decode", records, runs, &log, &mut || {
+        rdram::log_decode(&SETTINGS, black_box(&log), &mut back).is_ok()
+    });
+    beside_memcpy("rdram_stamped_encode", records, runs, &stamped, &mut || {
+        rdram::stamped_encode(&SETTINGS, black_box(&list), &mut moved).is_ok()
+    });
+    beside_memcpy("rdram_stamped_decode", records, runs, &stamped, &mut || {
+        rdram::stamped_decode(black_box(&stamped), &mut back).is_ok()
+    });
+    assert!(back == list, "other records");
+    beside_memcpy("rdram_log_stamp", records, runs, &stamped, &mut || {
+        rdram::log_stamp(&SETTINGS, black_box(&log), &mut moved).is_ok()
+    });
+    assert!(moved == stamped, "another stamped log");
+    beside_memcpy("rdram_log_unstamp", records, runs, &stamped, &mut || {
+        rdram::log_unstamp(black_box(&stamped), &mut moved).is_ok()
+    });
+    assert!(moved[..log.len()] == log, "another log");
+}
+
 fn main() {
     let size = Size::from_arguments(1_000_000, 21);
     print_head();
@@ -171,4 +226,5 @@ fn main() {
     if size.count > IN_CACHE {
         measure(IN_CACHE, 100 * size.runs);
     }
+    measure_forms(size.count, size.runs);
 }

@@ -6,23 +6,8 @@ use borrow.Author.Needs.{needs}
 use Rattle.calls_index.proofs.check_by.Statement.{statement}
 use Rattle.calls_index.proofs.check_by.Tie as tie
 
-read-settings-requires : tie.Need-read-settings-requires
-read-settings-requires c κs = search needs
-
 enum-told : tie.Need-enum-told
 enum-told c = search needs
-
-index-answer-requires : tie.Need-index-answer-requires
-index-answer-requires c κs = search needs
-
-enum-known-s : tie.Need-enum-known-s
-enum-known-s c = search needs
-
-checked-requires : tie.Need-checked-requires
-checked-requires c κs = search needs
-
-index-answer-requires-2 : tie.Need-index-answer-requires-2
-index-answer-requires-2 c κs = search needs
 
 returns : tie.Need-returns
 unfolding underSettings indexCheckCall
@@ -36,11 +21,11 @@ pub check-by-spec : {M : Type 1} → statement M
 check-by-spec =
     tie.close
     (tie.spec
-    read-settings-requires
+    (λ c κs. search needs)
     enum-told
-    index-answer-requires
-    enum-known-s
-    checked-requires
-    index-answer-requires-2
+    (λ c κs. search needs)
+    (λ c. search needs)
+    (λ c κs. search needs)
+    (λ c κs. search needs)
     returns
     returns-2)

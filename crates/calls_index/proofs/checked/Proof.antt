@@ -1,10 +1,10 @@
 -- `checked` meets its contract: the tests are the definition's, in their order.
 use mathlib.Core.Path.{_∙_, sym}
 use borrow.Author.Tests.{eq-eqb, ne-eqb}
-use Rattle.log_index.specs.declared.Indexed.the-variants.{Count}
-use Rattle.log_index.specs.Index.{indexWords}
-use Rattle.log_index.specs.Answers.{besideAnswer}
-use Rattle.index_query.proofs.QueryLaws.{beside-refused, beside-differs, beside-passed, beside-next}
+use Rattle.spec_index.specs.declared.Indexed.the-variants.{Count}
+use Rattle.spec_index.specs.Index.{indexWords}
+use Rattle.spec_index.specs.Answers.{besideAnswer}
+use Rattle.log_index.proofs.query.QueryLaws.{beside-refused, beside-differs, beside-passed, beside-next}
 use Rattle.calls_index.specs.Results.{checkedAnswer}
 use Rattle.calls_index.proofs.CheckLaws.{rules-after}
 use borrow.Author.Needs.{needs}
@@ -19,23 +19,8 @@ returns-2 : tie.Need-returns-2
 unfolding checkedAnswer besideAnswer
 returns-2 c = rw (eq-eqb _ 0 (c .before .if1 .left), ne-eqb _ 0 (c .if2 .taken))
 
-beside-requires : tie.Need-beside-requires
-beside-requires c κs = search needs
-
-enum-known-why : tie.Need-enum-known-why
-enum-known-why c = search needs
-
-enum-known-k : tie.Need-enum-known-k
-enum-known-k c = search needs
-
 enum-told : tie.Need-enum-told
 enum-told c = search needs
-
-check-log-requires : tie.Need-check-log-requires
-check-log-requires c κs = search needs
-
-judged-requires : tie.Need-judged-requires
-judged-requires c κs = search needs
 
 returns-3 : tie.Need-returns-3
 unfolding checkedAnswer besideAnswer
@@ -69,12 +54,12 @@ checked-spec =
     (tie.spec
     returns
     returns-2
-    beside-requires
-    enum-known-why
-    enum-known-k
+    (λ c κs. search needs)
+    (λ c. search needs)
+    (λ c. search needs)
     enum-told
-    check-log-requires
-    judged-requires
+    (λ c κs. search needs)
+    (λ c κs. search needs)
     returns-3
     returns-4
     returns-5)

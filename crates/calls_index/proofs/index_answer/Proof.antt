@@ -4,18 +4,6 @@ use borrow.Author.Needs.{needs}
 use Rattle.calls_index.proofs.index_answer.Statement.{statement}
 use Rattle.calls_index.proofs.index_answer.Tie as tie
 
-enum-known-x : tie.Need-enum-known-x
-enum-known-x c = search needs
-
-answer-requires : tie.Need-answer-requires
-answer-requires c κs = search needs
-
-enum-known-x-2 : tie.Need-enum-known-x-2
-enum-known-x-2 c = search needs
-
-enum-known-x-3 : tie.Need-enum-known-x-3
-enum-known-x-3 c = search needs
-
 returns : tie.Need-returns
 unfolding indexAnswer
 returns c = rw (c .before .before .x .given .1, c .answer .ensures)
@@ -32,10 +20,10 @@ pub index-answer-spec : {M : Type 1} → statement M
 index-answer-spec =
     tie.close
     (tie.spec
-    enum-known-x
-    answer-requires
-    enum-known-x-2
-    enum-known-x-3
+    (λ c. search needs)
+    (λ c κs. search needs)
+    (λ c. search needs)
+    (λ c. search needs)
     returns
     returns-2
     returns-3)

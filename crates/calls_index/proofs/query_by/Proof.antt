@@ -1,38 +1,20 @@
 -- `query_by` meets its contract: each arm is a case of the definition.
 use mathlib.Core.Path.{_∙_, sym}
-use Rattle.log_index.specs.Answers.{lentAfter}
+use Rattle.spec_index.specs.Answers.{lentAfter}
 use Rattle.spec_calls.specs.Settings.{underSettings}
 use Rattle.calls_index.specs.Results.{indexQueryCall}
 use borrow.Author.Needs.{needs}
 use Rattle.calls_index.proofs.query_by.Statement.{statement}
 use Rattle.calls_index.proofs.query_by.Tie as tie
 
-read-settings-requires : tie.Need-read-settings-requires
-read-settings-requires c κs = search needs
-
 enum-told : tie.Need-enum-told
 enum-told c = search needs
-
-index-answer-requires : tie.Need-index-answer-requires
-index-answer-requires c κs = search needs
-
-enum-known-s : tie.Need-enum-known-s
-enum-known-s c = search needs
-
-query-requires : tie.Need-query-requires
-query-requires c κs = search needs
-
-index-answer-requires-2 : tie.Need-index-answer-requires-2
-index-answer-requires-2 c κs = search needs
 
 returns : tie.Need-returns
 unfolding lentAfter underSettings indexQueryCall
 returns c =
     let e = sym (c .before .before .before .read-settings .ensures) ∙ c .before .enum-told .given .1 in
     (rw e (c .index-answer .ensures), rw e)
-
-same-length : tie.Need-same-length
-same-length c = search needs
 
 returns-2 : tie.Need-returns-2
 unfolding lentAfter underSettings indexQueryCall
@@ -45,12 +27,12 @@ pub query-by-spec : {M : Type 1} → statement M
 query-by-spec =
     tie.close
     (tie.spec
-    read-settings-requires
+    (λ c κs. search needs)
     enum-told
-    index-answer-requires
-    enum-known-s
-    query-requires
-    index-answer-requires-2
+    (λ c κs. search needs)
+    (λ c. search needs)
+    (λ c κs. search needs)
+    (λ c κs. search needs)
     returns
-    same-length
+    (λ c. search needs)
     returns-2)

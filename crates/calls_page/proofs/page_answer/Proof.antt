@@ -22,12 +22,6 @@ returns-2 c =
     let a = c .before .before .before .args in
     rw (eq-eqb _ 0 (c .before .if1 .left), lt-leb (a .start) horizon (omega arith))
 
-check-list-requires : tie.Need-check-list-requires
-check-list-requires c κs = search needs
-
-enum-known-why : tie.Need-enum-known-why
-enum-known-why c = search needs
-
 enum-told : tie.Need-enum-told
 enum-told c = search needs
 
@@ -58,8 +52,8 @@ page-answer-spec =
     (tie.spec
     returns
     returns-2
-    check-list-requires
-    enum-known-why
+    (λ c κs. search needs)
+    (λ c. search needs)
     enum-told
     returns-3
     returns-4

@@ -6,32 +6,14 @@ use borrow.Author.Needs.{needs}
 use Rattle.calls_page.proofs.page_by.Statement.{statement}
 use Rattle.calls_page.proofs.page_by.Tie as tie
 
-read-settings-requires : tie.Need-read-settings-requires
-read-settings-requires c κs = search needs
-
 enum-told : tie.Need-enum-told
 enum-told c = search needs
-
-check-answer-requires : tie.Need-check-answer-requires
-check-answer-requires c κs = search needs
-
-enum-known-s : tie.Need-enum-known-s
-enum-known-s c = search needs
-
-put-page-requires : tie.Need-put-page-requires
-put-page-requires c κs = search needs
-
-check-answer-requires-2 : tie.Need-check-answer-requires-2
-check-answer-requires-2 c κs = search needs
 
 returns : tie.Need-returns
 unfolding underSettings pageCall pageLent
 returns c =
     let e = sym (c .before .before .before .read-settings .ensures) ∙ c .before .enum-told .given .1 in
     (rw e (c .check-answer .ensures), rw e)
-
-same-length : tie.Need-same-length
-same-length c = search needs
 
 returns-2 : tie.Need-returns-2
 unfolding underSettings pageCall
@@ -44,12 +26,12 @@ pub page-by-spec : {M : Type 1} → statement M
 page-by-spec =
     tie.close
     (tie.spec
-    read-settings-requires
+    (λ c κs. search needs)
     enum-told
-    check-answer-requires
-    enum-known-s
-    put-page-requires
-    check-answer-requires-2
+    (λ c κs. search needs)
+    (λ c. search needs)
+    (λ c κs. search needs)
+    (λ c κs. search needs)
     returns
-    same-length
+    (λ c. search needs)
     returns-2)

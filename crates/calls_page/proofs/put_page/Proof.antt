@@ -11,17 +11,8 @@ use borrow.Author.Needs.{needs}
 use Rattle.calls_page.proofs.put_page.Statement.{statement}
 use Rattle.calls_page.proofs.put_page.Tie as tie
 
-page-answer-requires : tie.Need-page-answer-requires
-page-answer-requires c κs = search needs
-
 enum-told : tie.Need-enum-told
 enum-told c = search needs
-
-enum-told-2 : tie.Need-enum-told-2
-enum-told-2 c = search needs
-
-wide32-requires : tie.Need-wide32-requires
-wide32-requires c κs = search needs
 
 -- what the answer says where a page is drawn
 accepts : (c : tie.After-wide32) → Accepts (c .before .before .before .before .before .before .args .s) (c .before .before .before .before .before .before .args .list .now) (c .before .before .before .before .before .before .args .start) (length (c .before .before .before .before .before .before .args .room .now))
@@ -42,9 +33,6 @@ returns : tie.Need-returns
 unfolding pageLent
 returns c = (c .before .before .page-answer .ensures, rw (c .enum-told .given .1))
 
-same-length : tie.Need-same-length
-same-length c = search needs
-
 returns-2 : tie.Need-returns-2
 unfolding pageLent
 returns-2 c =
@@ -56,13 +44,13 @@ pub put-page-spec : {M : Type 1} → statement M
 put-page-spec =
     tie.close
     (tie.spec
-    page-answer-requires
+    (λ c κs. search needs)
     enum-told
-    enum-told-2
-    wide32-requires
+    (λ c. search needs)
+    (λ c κs. search needs)
     slice-relend-prefix-draw
     slice-aggregate-draw
     draw-requires
     returns
-    same-length
+    (λ c. search needs)
     returns-2)

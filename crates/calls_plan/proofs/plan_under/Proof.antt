@@ -2,7 +2,7 @@
 use mathlib.Core.Path.{sym, _∙_}
 use borrow.Author.Tests.{not-true, not-false}
 use Rattle.state_bytes.proofs.RightLaws.{planner-length-wrong}
-use Rattle.plan_calm.proofs.CalmLaws.{calm-below}
+use Rattle.plan_bytes.proofs.calm.CalmLaws.{calm-below}
 use Rattle.calls_plan.proofs.CallLaws.{turned-back}
 use borrow.Author.Needs.{needs}
 use Rattle.calls_plan.proofs.plan_under.Statement.{statement}

@@ -3,7 +3,7 @@ use mathlib.Core.Path.{sym, _∙_, ap}
 use native.Mathlib.Omega.{arith}
 use borrow.Author.Tests.{eq-eqb, ne-eqb}
 use Rattle.spec_rules.specs.Neighbour.{contextOf}
-use Rattle.blocks.proofs.CountLaws.{Records}
+use Rattle.log_block.proofs.CountLaws.{Records}
 use Rattle.log.proofs.BadLaws.{bad-of-all}
 use Rattle.spec_check.specs.Check.{logAnswer, recordsAnswer, ruleAnswer}
 use Rattle.check_list.proofs.WalkLaws.{log-via, log-within, log-formed, log-few}

@@ -2,7 +2,7 @@
 use Prim.Native.Nat.{_<_, _≤_}
 use native.Mathlib.Omega.{arith}
 use borrow.Author.Tests.{le-leb, lt-leb}
-use Rattle.entries.specs.Entries.{longestInput}
+use Rattle.listing.specs.Entries.{longestInput}
 use Rattle.listing.specs.Listing.{lengthRight}
 use Rattle.listing.proofs.length_right.Statement.{statement}
 use Rattle.listing.proofs.length_right.Tie as tie

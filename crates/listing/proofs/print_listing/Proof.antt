@@ -4,7 +4,7 @@ use native.Mathlib.Omega.{arith}
 use lib.ListN.{take}
 use lib.Seq.{length-take-le}
 use Rattle.listing.specs.Listing.{listing}
-use Rattle.text.proofs.TextLaws.{put-fits}
+use Rattle.listing_text.proofs.TextLaws.{put-fits}
 use borrow.Author.Needs.{needs}
 use Rattle.listing.proofs.print_listing.Statement.{statement}
 use Rattle.listing.proofs.print_listing.Tie as tie

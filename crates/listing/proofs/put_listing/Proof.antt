@@ -7,26 +7,11 @@ use borrow.Author.Needs.{needs}
 use Rattle.listing.proofs.put_listing.Statement.{statement}
 use Rattle.listing.proofs.put_listing.Tie as tie
 
-length-right-requires : tie.Need-length-right-requires
-length-right-requires c κs = search needs
-
 put-requests-requires : tie.Need-put-requests-requires
 put-requests-requires c κs =
     let n = length (c .before .before .before .before .before .args .input .now) in
     let right = sym (c .before .before .length-right .ensures) ∙ c .before .if1 .taken in
     (length-fits n right, length-whole n right, omega arith)
-
-put-records-requires : tie.Need-put-records-requires
-put-records-requires c κs = search needs
-
-put-refused-requires : tie.Need-put-refused-requires
-put-refused-requires c κs = search needs
-
-put-records-requires-2 : tie.Need-put-records-requires-2
-put-records-requires-2 c κs = search needs
-
-same-length : tie.Need-same-length
-same-length c = search needs
 
 returns : tie.Need-returns
 returns c =
@@ -36,9 +21,6 @@ returns c =
     let a = l .before .before .before .args in
     listed (a .out .now) (a .input .now) (q .put-requests .result .records) (omega (arith, q .put-requests .ensures .1 .1)) (sym (l .length-right .ensures) ∙ q .before .before .if1 .taken)
     (q .put-requests .ensures .0) (q .put-requests .ensures .1 .0) (last .put-records .ensures .0)
-
-same-length-2 : tie.Need-same-length-2
-same-length-2 c = search needs
 
 returns-2 : tie.Need-returns-2
 returns-2 c =
@@ -53,12 +35,12 @@ pub put-listing-spec : {M : Type 1} → statement M
 put-listing-spec =
     tie.close
     (tie.spec
-    length-right-requires
+    (λ c κs. search needs)
     put-requests-requires
-    put-records-requires
-    put-refused-requires
-    put-records-requires-2
-    same-length
+    (λ c κs. search needs)
+    (λ c κs. search needs)
+    (λ c κs. search needs)
+    (λ c. search needs)
     returns
-    same-length-2
+    (λ c. search needs)
     returns-2)

@@ -7,7 +7,7 @@ use native.Mathlib.Omega.{arith}
 use borrow.Author.Count.{below-more}
 use borrow.Author.Tests.{not-true, not-false}
 use Rattle.num.proofs.SearchLaws.{first-at, first-none}
-use Rattle.blocks.specs.Block.{blocksIn}
+use Rattle.log_block.specs.Block.{blocksIn}
 use Rattle.log_stamp.specs.Stamp.{stampAt, sameStamp}
 use borrow.Author.Needs.{needs}
 use Rattle.log_stamp.proofs.first_other.Statement.{statement}
@@ -25,20 +25,11 @@ abbrev μ-loop : tie.MeasureT-loop
 loop-holds : tie.Need-loop-holds Inv-loop μ-loop
 loop-holds c = (search needs, λ i h. absurd (omega arith))
 
-same-at-requires : tie.Need-same-at-requires Inv-loop μ-loop
-same-at-requires c κs = search needs
-
 returns : tie.Need-returns Inv-loop μ-loop
 returns c =
     let l = c .before .before .before in
     let log = l .before .before .args .log .now in
     sym (first-at (sameAt log) (blocksIn log) (l .loop .k) (l .loop .inv .1) (omega arith) (sym (c .before .same-at .ensures) ∙ not-true _ (c .if1 .taken)))
-
-add-k : tie.Need-add-k Inv-loop μ-loop
-add-k c = search needs
-
-loop-less : tie.Need-loop-less Inv-loop μ-loop
-loop-less c = search needs
 
 loop-again : tie.Need-loop-again Inv-loop μ-loop
 loop-again c = (search needs, below-more _ _ (c .before .before .before .loop .inv .1) (sym (c .before .same-at .ensures) ∙ not-false _ (c .if1 .left)))
@@ -56,9 +47,9 @@ first-other-spec =
     Inv-loop
     μ-loop
     loop-holds
-    same-at-requires
+    (λ c κs. search needs)
     returns
-    add-k
-    loop-less
+    (λ c. search needs)
+    (λ c. search needs)
     loop-again
     returns-2)

@@ -7,36 +7,6 @@ use borrow.Author.Needs.{needs}
 use Rattle.log_stamp.proofs.same_at.Statement.{statement}
 use Rattle.log_stamp.proofs.same_at.Tie as tie
 
-mul-at : tie.Need-mul-at
-mul-at c = search needs
-
-add-at : tie.Need-add-at
-add-at c = search needs
-
-add-end : tie.Need-add-end
-add-end c = search needs
-
-sub-same-stamp : tie.Need-sub-same-stamp
-sub-same-stamp c = search needs
-
-part-same-stamp-start : tie.Need-part-same-stamp-start
-part-same-stamp-start c = search needs
-
-part-same-stamp-end : tie.Need-part-same-stamp-end
-part-same-stamp-end c = search needs
-
-sub-same-stamp-2 : tie.Need-sub-same-stamp-2
-sub-same-stamp-2 c = search needs
-
-part-same-stamp-start-2 : tie.Need-part-same-stamp-start-2
-part-same-stamp-start-2 c = search needs
-
-part-same-stamp-end-2 : tie.Need-part-same-stamp-end-2
-part-same-stamp-end-2 c = search needs
-
-same-stamp-requires : tie.Need-same-stamp-requires
-same-stamp-requires c κs = search needs
-
 returns : tie.Need-returns
 returns c =
     let a = c .before .before .before .before .args in
@@ -47,14 +17,14 @@ pub same-at-spec : {M : Type 1} → statement M
 same-at-spec =
     tie.close
     (tie.spec
-    mul-at
-    add-at
-    add-end
-    sub-same-stamp
-    part-same-stamp-start
-    part-same-stamp-end
-    sub-same-stamp-2
-    part-same-stamp-start-2
-    part-same-stamp-end-2
-    same-stamp-requires
+    (λ c. search needs)
+    (λ c. search needs)
+    (λ c. search needs)
+    (λ c. search needs)
+    (λ c. search needs)
+    (λ c. search needs)
+    (λ c. search needs)
+    (λ c. search needs)
+    (λ c. search needs)
+    (λ c κs. search needs)
     returns)

@@ -5,17 +5,8 @@ use borrow.Author.Needs.{needs}
 use Rattle.log_stamp.proofs.tested.Statement.{statement}
 use Rattle.log_stamp.proofs.tested.Tie as tie
 
-settings-of-requires : tie.Need-settings-of-requires
-settings-of-requires c κs = search needs
-
 enum-told : tie.Need-enum-told
 enum-told c = search needs
-
-unstamped-requires : tie.Need-unstamped-requires
-unstamped-requires c κs = search needs
-
-enum-known-s : tie.Need-enum-known-s
-enum-known-s c = search needs
 
 tested-under-requires : tie.Need-tested-under-requires
 tested-under-requires c κs =
@@ -28,17 +19,14 @@ returns c =
     let log = c .before .before .before .before .before .args .log .now in
     none-answer log (sym (c .before .before .before .settings-of .ensures) ∙ c .before .enum-told .given .1) _ (c .unstamped .ensures)
 
-returns-2 : tie.Need-returns-2
-returns-2 c = search needs
-
 pub tested-spec : {M : Type 1} → statement M
 tested-spec =
     tie.close
     (tie.spec
-    settings-of-requires
+    (λ c κs. search needs)
     enum-told
-    unstamped-requires
-    enum-known-s
+    (λ c κs. search needs)
+    (λ c. search needs)
     tested-under-requires
     returns
-    returns-2)
+    (λ c. search needs))

@@ -19,18 +19,6 @@ abbrev μ-loop : tie.MeasureT-loop
 loop-holds : tie.Need-loop-holds Inv-loop μ-loop
 loop-holds c = (omega arith, λ k l. absurd (omega arith))
 
-mul-well-formed : tie.Need-mul-well-formed Inv-loop μ-loop
-mul-well-formed c = search needs
-
-well-formed-requires : tie.Need-well-formed-requires Inv-loop μ-loop
-well-formed-requires c κs = search needs
-
-add-i : tie.Need-add-i Inv-loop μ-loop
-add-i c = search needs
-
-loop-less : tie.Need-loop-less Inv-loop μ-loop
-loop-less c = search needs
-
 loop-again : tie.Need-loop-again Inv-loop μ-loop
 loop-again c = (search needs, below-more _ _ (c .before .before .before .loop .inv .1) (sym (c .before .well-formed .ensures) ∙ c .if1 .taken))
 
@@ -51,10 +39,10 @@ first-bad-spec =
     Inv-loop
     μ-loop
     loop-holds
-    mul-well-formed
-    well-formed-requires
-    add-i
-    loop-less
+    (λ c. search needs)
+    (λ c κs. search needs)
+    (λ c. search needs)
+    (λ c. search needs)
     loop-again
     returns
     returns-2)

@@ -10,12 +10,6 @@ use borrow.Author.Needs.{needs}
 use Rattle.record_bytes.proofs.read_record.Statement.{statement}
 use Rattle.record_bytes.proofs.read_record.Tie as tie
 
-add-u32-at : tie.Need-add-u32-at
-add-u32-at c = search needs
-
-u32-at-requires : tie.Need-u32-at-requires
-u32-at-requires c κs = search needs
-
 returns : tie.Need-returns
 unfolding recordRead
 returns c =
@@ -24,30 +18,6 @@ returns c =
     let at = s .args .at in
     let e = head-in l at (c .before .u32-at .result) (omega arith) (omega (arith, c .before .before .shared-slice-known .given (at + 4))) (c .before .u32-at .ensures) in
     rw (ne-eqb _ 0 (λ z. c .if1 .taken (e .1 ∙ z)))
-
-u32-at-requires-2 : tie.Need-u32-at-requires-2
-u32-at-requires-2 c κs = search needs
-
-add-u64-at : tie.Need-add-u64-at
-add-u64-at c = search needs
-
-u64-at-requires : tie.Need-u64-at-requires
-u64-at-requires c κs = search needs
-
-add-u64-at-2 : tie.Need-add-u64-at-2
-add-u64-at-2 c = search needs
-
-u64-at-requires-2 : tie.Need-u64-at-requires-2
-u64-at-requires-2 c κs = search needs
-
-add-u64-at-3 : tie.Need-add-u64-at-3
-add-u64-at-3 c = search needs
-
-u64-at-requires-3 : tie.Need-u64-at-requires-3
-u64-at-requires-3 c κs = search needs
-
-record-of-requires : tie.Need-record-of-requires
-record-of-requires c κs = search needs
 
 returns-2 : tie.Need-returns-2
 unfolding recordRead
@@ -77,15 +47,15 @@ pub read-record-spec : {M : Type 1} → statement M
 read-record-spec =
     tie.close
     (tie.spec
-    add-u32-at
-    u32-at-requires
+    (λ c. search needs)
+    (λ c κs. search needs)
     returns
-    u32-at-requires-2
-    add-u64-at
-    u64-at-requires
-    add-u64-at-2
-    u64-at-requires-2
-    add-u64-at-3
-    u64-at-requires-3
-    record-of-requires
+    (λ c κs. search needs)
+    (λ c. search needs)
+    (λ c κs. search needs)
+    (λ c. search needs)
+    (λ c κs. search needs)
+    (λ c. search needs)
+    (λ c κs. search needs)
+    (λ c κs. search needs)
     returns-2)

@@ -21,24 +21,12 @@ returns-4 : tie.Need-returns-4
 unfolding recordOf
 returns-4 c = rw (ne-eqb _ 2 (c .before .before .before .before .if1 .left), eq-eqb _ 0 (c .before .before .if3 .left), ne-eqb _ 0 (c .if4 .taken))
 
-decode-row-requires : tie.Need-decode-row-requires
-decode-row-requires c κs = search needs
-
-row-record-requires : tie.Need-row-record-requires
-row-record-requires c κs = search needs
-
 returns-5 : tie.Need-returns-5
 unfolding recordOf
 returns-5 c =
     let d = c .before .before .before in
     rw (ne-eqb _ 2 (d .before .before .before .before .if1 .left), eq-eqb _ 0 (d .before .before .if3 .left), eq-eqb _ 0 (d .if4 .left), eq-eqb _ 0 (c .before .before .if5 .taken), ← c .before .decode-row .ensures)
     (c .row-record .ensures)
-
-decode-col-requires : tie.Need-decode-col-requires
-decode-col-requires c κs = search needs
-
-col-record-requires : tie.Need-col-record-requires
-col-record-requires c κs = search needs
 
 returns-6 : tie.Need-returns-6
 unfolding recordOf
@@ -61,10 +49,10 @@ record-of-spec =
     returns-2
     returns-3
     returns-4
-    decode-row-requires
-    row-record-requires
+    (λ c κs. search needs)
+    (λ c κs. search needs)
     returns-5
-    decode-col-requires
-    col-record-requires
+    (λ c κs. search needs)
+    (λ c κs. search needs)
     returns-6
     returns-7)

@@ -7,32 +7,14 @@ use borrow.Author.Needs.{needs}
 use Rattle.calls_list.proofs.logs.decode_by.Statement.{statement}
 use Rattle.calls_list.proofs.logs.decode_by.Tie as tie
 
-read-settings-requires : tie.Need-read-settings-requires
-read-settings-requires c κs = search needs
-
 enum-told : tie.Need-enum-told
 enum-told c = search needs
-
-copy-answer-requires : tie.Need-copy-answer-requires
-copy-answer-requires c κs = search needs
-
-enum-known-s : tie.Need-enum-known-s
-enum-known-s c = search needs
-
-decode-requires : tie.Need-decode-requires
-decode-requires c κs = search needs
-
-copy-answer-requires-2 : tie.Need-copy-answer-requires-2
-copy-answer-requires-2 c κs = search needs
 
 returns : tie.Need-returns
 unfolding copied decodeLog underSettings copyCall logDecodeCall
 returns c =
     let e = sym (c .before .before .before .read-settings .ensures) ∙ c .before .enum-told .given .1 in
     (rw e (c .copy-answer .ensures), rw e)
-
-same-length : tie.Need-same-length
-same-length c = search needs
 
 returns-2 : tie.Need-returns-2
 unfolding copied decodeLog underSettings copyCall logDecodeCall
@@ -45,12 +27,12 @@ pub decode-by-spec : {M : Type 1} → statement M
 decode-by-spec =
     tie.close
     (tie.spec
-    read-settings-requires
+    (λ c κs. search needs)
     enum-told
-    copy-answer-requires
-    enum-known-s
-    decode-requires
-    copy-answer-requires-2
+    (λ c κs. search needs)
+    (λ c. search needs)
+    (λ c κs. search needs)
+    (λ c κs. search needs)
     returns
-    same-length
+    (λ c. search needs)
     returns-2)

@@ -7,7 +7,7 @@ use native.Mathlib.Omega.{arith}
 use borrow.Author.Tests.{leb-true}
 use Rattle.spec_rules.specs.Neighbour.{contextOf}
 use Rattle.plan_bytes.specs.form.Numbers.{Below}
-use Rattle.plan_calm.proofs.CalmLaws.{highest-below}
+use Rattle.plan_bytes.proofs.calm.CalmLaws.{highest-below}
 use Rattle.spec_calls.proofs.OneCall.{right-length}
 use Rattle.calls_plan.proofs.AllLaws.{SoFar, so-far-none, Lent, right-now, low-now, planner-kept, room-kept, records-fit, one-more, more-rises, last-one, all-planned}
 use borrow.Author.Needs.{needs}

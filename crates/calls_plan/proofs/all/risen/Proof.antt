@@ -1,5 +1,5 @@
 -- `calls_plan::all::risen` meets its contract: the bound that a request keeps, or the highest of all.
-use Rattle.plan_calm.proofs.CalmLaws.{highest-below}
+use Rattle.plan_bytes.proofs.calm.CalmLaws.{highest-below}
 use native.Mathlib.Omega.{arith}
 use borrow.Author.Needs.{needs}
 use Rattle.calls_plan.proofs.all.risen.Statement.{statement}

@@ -3,7 +3,7 @@ use mathlib.Core.Path.{_≡_, _∙_, sym, ap}
 use borrow.Author.Tests.{eq-eqb, ne-eqb}
 use Rattle.settings.specs.declared.Settings.{Settings}
 use Rattle.record.specs.Record.{firstBad}
-use Rattle.blocks.specs.Block.{listOf}
+use Rattle.log_block.specs.Block.{listOf}
 use Rattle.spec_rules.specs.Neighbour.{contextOf}
 use Rattle.spec_check.specs.declared.Judged.the-variants.{Refused}
 use Rattle.spec_check.specs.Check.{recordsOf, ruleAnswer}
@@ -16,15 +16,6 @@ use Rattle.calls_stamp.proofs.checks.check_stamped.Tie as tie
 returns : tie.Need-returns
 unfolding stampedAnswer
 returns c = rw (ne-eqb _ 0 (c .if1 .taken))
-
-tested-requires : tie.Need-tested-requires
-tested-requires c κs = search needs
-
-enum-known-why : tie.Need-enum-known-why
-enum-known-why c = search needs
-
-enum-known-s : tie.Need-enum-known-s
-enum-known-s c = search needs
 
 judge-right-requires : tie.Need-judge-right-requires
 judge-right-requires c κs =
@@ -55,9 +46,9 @@ check-stamped-spec =
     tie.close
     (tie.spec
     returns
-    tested-requires
-    enum-known-why
-    enum-known-s
+    (λ c κs. search needs)
+    (λ c. search needs)
+    (λ c. search needs)
     judge-right-requires
     returns-2
     returns-3)

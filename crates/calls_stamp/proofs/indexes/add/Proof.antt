@@ -1,10 +1,10 @@
 -- `add` meets its contract: words are written only where the answer is a count, and then every test was passed.
 use mathlib.Core.Path.{_≡_, _∙_, sym}
 use Rattle.num.specs.Bytes.{Bytes}
-use Rattle.blocks.proofs.ListThenLog.{used-few}
-use Rattle.log_index.specs.Answers.{lentAfter}
-use Rattle.log_index.proofs.IndexLaws.{kept-most}
-use Rattle.index_make.proofs.MakeLaws.{kept-said, words-said}
+use Rattle.log_block.proofs.ListThenLog.{used-few}
+use Rattle.spec_index.specs.Answers.{lentAfter}
+use Rattle.spec_index.proofs.IndexLaws.{kept-most}
+use Rattle.log_index.proofs.make.MakeLaws.{kept-said, words-said}
 use Rattle.log_stamp.specs.Stamp.{settingsOf}
 use Rattle.log_stamp.proofs.StampLaws.{fourteen}
 use Rattle.calls_stamp.proofs.IndexLaws.{made, added}
@@ -12,17 +12,8 @@ use borrow.Author.Needs.{needs}
 use Rattle.calls_stamp.proofs.indexes.add.Statement.{statement}
 use Rattle.calls_stamp.proofs.indexes.add.Tie as tie
 
-add-answer-requires : tie.Need-add-answer-requires
-add-answer-requires c κs = search needs
-
 enum-told : tie.Need-enum-told
 enum-told c = search needs
-
-enum-told-2 : tie.Need-enum-told-2
-enum-told-2 c = search needs
-
-enum-told-3 : tie.Need-enum-told-3
-enum-told-3 c = search needs
 
 write-index-requires : tie.Need-write-index-requires
 write-index-requires c κs =
@@ -35,26 +26,17 @@ write-index-requires c κs =
     let v : Bytes (a .index .now) = λ i h. l .slice-known .given i .fits in
     ((used-few 14 fourteen log (p .passed .right), kept-most (settingsOf log) log (a .index .now) (a .kept) (p .same), p .room-enough), kept-said (settingsOf log) 14 fourteen log (a .kept) (a .index .now) w v (made log (p .passed)) (p .same))
 
-same-length : tie.Need-same-length
-same-length c = search needs
-
 returns : tie.Need-returns
 unfolding lentAfter
 returns c =
     let e = c .before .before .add-answer .ensures in
     (e, rw (sym e ∙ c .enum-told .given .1))
 
-same-length-2 : tie.Need-same-length-2
-same-length-2 c = search needs
-
 returns-2 : tie.Need-returns-2
 unfolding lentAfter
 returns-2 c =
     let e = c .before .before .add-answer .ensures in
     (e, rw (sym e ∙ c .enum-told2 .given .1))
-
-same-length-3 : tie.Need-same-length-3
-same-length-3 c = search needs
 
 returns-3 : tie.Need-returns-3
 unfolding lentAfter
@@ -73,14 +55,14 @@ pub add-spec : {M : Type 1} → statement M
 add-spec =
     tie.close
     (tie.spec
-    add-answer-requires
+    (λ c κs. search needs)
     enum-told
-    enum-told-2
-    enum-told-3
+    (λ c. search needs)
+    (λ c. search needs)
     write-index-requires
-    same-length
+    (λ c. search needs)
     returns
-    same-length-2
+    (λ c. search needs)
     returns-2
-    same-length-3
+    (λ c. search needs)
     returns-3)

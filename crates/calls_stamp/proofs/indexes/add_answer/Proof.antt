@@ -3,11 +3,11 @@ use mathlib.Core.Path.{_≡_, _∙_, sym}
 use borrow.Author.Tests.{eq-eqb, ne-eqb}
 use lib.ListN.{length}
 use Rattle.num.specs.Bytes.{Bytes}
-use Rattle.blocks.specs.Block.{blocksIn}
-use Rattle.blocks.proofs.ListThenLog.{used-few}
-use Rattle.log_index.specs.declared.Indexed.the-variants.{Refused}
-use Rattle.log_index.specs.Answers.{indexRight, countOrFull}
-use Rattle.index_make.proofs.MakeLaws.{room-said}
+use Rattle.log_block.specs.Block.{blocksIn}
+use Rattle.log_block.proofs.ListThenLog.{used-few}
+use Rattle.spec_index.specs.declared.Indexed.the-variants.{Refused}
+use Rattle.spec_index.specs.Answers.{indexRight, countOrFull}
+use Rattle.log_index.proofs.make.MakeLaws.{room-said}
 use Rattle.log_stamp.specs.Stamp.{settingsOf}
 use Rattle.log_stamp.proofs.StampLaws.{fourteen, right-passed, right-refused, right-next}
 use Rattle.calls_stamp.specs.Results.{stampedIndexAnswer}
@@ -19,12 +19,6 @@ use Rattle.calls_stamp.proofs.indexes.add_answer.Tie as tie
 returns : tie.Need-returns
 unfolding stampedIndexAnswer
 returns c = rw (ne-eqb _ 0 (c .if1 .taken))
-
-tested-requires : tie.Need-tested-requires
-tested-requires c κs = search needs
-
-enum-known-why : tie.Need-enum-known-why
-enum-known-why c = search needs
 
 enum-told : tie.Need-enum-told
 enum-told c = search needs
@@ -60,8 +54,8 @@ add-answer-spec =
     tie.close
     (tie.spec
     returns
-    tested-requires
-    enum-known-why
+    (λ c κs. search needs)
+    (λ c. search needs)
     enum-told
     room-answer-requires
     returns-2

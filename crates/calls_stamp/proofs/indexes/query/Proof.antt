@@ -1,22 +1,13 @@
 -- `query` meets its contract: numbers are written only where the answer is a count, and then every test was passed.
 use mathlib.Core.Path.{_∙_, sym}
-use Rattle.log_index.specs.Answers.{lentAfter}
+use Rattle.spec_index.specs.Answers.{lentAfter}
 use Rattle.calls_stamp.proofs.IndexLaws.{query-passed}
 use borrow.Author.Needs.{needs}
 use Rattle.calls_stamp.proofs.indexes.query.Statement.{statement}
 use Rattle.calls_stamp.proofs.indexes.query.Tie as tie
 
-query-answer-requires : tie.Need-query-answer-requires
-query-answer-requires c κs = search needs
-
 enum-told : tie.Need-enum-told
 enum-told c = search needs
-
-enum-told-2 : tie.Need-enum-told-2
-enum-told-2 c = search needs
-
-enum-told-3 : tie.Need-enum-told-3
-enum-told-3 c = search needs
 
 list-found-requires : tie.Need-list-found-requires
 list-found-requires c κs =
@@ -37,9 +28,6 @@ returns-2 c =
     let e = c .before .before .query-answer .ensures in
     (e, rw (sym e ∙ c .enum-told2 .given .1))
 
-same-length : tie.Need-same-length
-same-length c = search needs
-
 returns-3 : tie.Need-returns-3
 unfolding lentAfter
 returns-3 c =
@@ -51,12 +39,12 @@ pub query-spec : {M : Type 1} → statement M
 query-spec =
     tie.close
     (tie.spec
-    query-answer-requires
+    (λ c κs. search needs)
     enum-told
-    enum-told-2
-    enum-told-3
+    (λ c. search needs)
+    (λ c. search needs)
     list-found-requires
     returns
     returns-2
-    same-length
+    (λ c. search needs)
     returns-3)

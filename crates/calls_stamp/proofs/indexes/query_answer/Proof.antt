@@ -2,12 +2,12 @@
 use mathlib.Core.Path.{_≡_, _∙_, sym}
 use borrow.Author.Tests.{eq-eqb, ne-eqb, lt-ltb, le-ltb}
 use Rattle.num.specs.Bytes.{Bytes}
-use Rattle.marks.specs.Marks.{countUpTo}
-use Rattle.blocks.proofs.ListThenLog.{used-few}
-use Rattle.log_index.specs.declared.Indexed.the-variants.{Refused}
-use Rattle.log_index.specs.Index.{indexWords, wordsOf}
-use Rattle.log_index.specs.Query.{hasBit}
-use Rattle.log_index.specs.Answers.{indexRight, countOrFull}
+use Rattle.num.specs.Marks.{countUpTo}
+use Rattle.log_block.proofs.ListThenLog.{used-few}
+use Rattle.spec_index.specs.declared.Indexed.the-variants.{Refused}
+use Rattle.spec_index.specs.Index.{indexWords, wordsOf}
+use Rattle.spec_index.specs.Query.{hasBit}
+use Rattle.spec_index.specs.Answers.{indexRight, countOrFull}
 use Rattle.log_stamp.proofs.StampLaws.{fourteen, right-passed, right-refused, right-next}
 use Rattle.calls_stamp.specs.Results.{stampedQueryAnswer}
 use Rattle.calls_stamp.proofs.IndexLaws.{beside-said}
@@ -26,12 +26,6 @@ returns-2 c = rw (eq-eqb _ 0 (c .before .if1 .left), ne-eqb _ 0 (c .if2 .taken))
 returns-3 : tie.Need-returns-3
 unfolding stampedQueryAnswer
 returns-3 c = rw (eq-eqb _ 0 (c .before .before .if1 .left), eq-eqb _ 0 (c .before .if2 .left), le-ltb _ _ (c .if3 .taken))
-
-tested-requires : tie.Need-tested-requires
-tested-requires c κs = search needs
-
-enum-known-why : tie.Need-enum-known-why
-enum-known-why c = search needs
 
 enum-told : tie.Need-enum-told
 enum-told c = search needs
@@ -71,8 +65,8 @@ query-answer-spec =
     returns
     returns-2
     returns-3
-    tested-requires
-    enum-known-why
+    (λ c κs. search needs)
+    (λ c. search needs)
     enum-told
     query-beside-requires
     returns-4

@@ -3,13 +3,10 @@ use mathlib.Core.Path.{_∙_, sym}
 use native.Mathlib.Omega.{arith}
 use Rattle.log.specs.Log.{decodeLog, copied}
 use Rattle.log.proofs.CopyLaws.{decoded}
-use Rattle.blocks.proofs.ListThenLog.{list-whole}
+use Rattle.log_block.proofs.ListThenLog.{list-whole}
 use borrow.Author.Needs.{needs}
 use Rattle.log.proofs.copy.decode.Statement.{statement}
 use Rattle.log.proofs.copy.decode.Tie as tie
-
-decode-answer-requires : tie.Need-decode-answer-requires
-decode-answer-requires c κs = search needs
 
 enum-told : tie.Need-enum-told
 enum-told c = search needs
@@ -19,12 +16,6 @@ read-list-requires c κs =
     let p = decoded _ _ _ _ _ (sym (c .before .before .before .decode-answer .ensures) ∙ c .before .enum-told .given .1) in
     let f = c .before .before .before .before .before .before .pre in
     (f, (p .right, omega (arith, p .room-enough, list-whole _ f _ (p .right))))
-
-enum-told-2 : tie.Need-enum-told-2
-enum-told-2 c = search needs
-
-same-length : tie.Need-same-length
-same-length c = search needs
 
 returns : tie.Need-returns
 unfolding decodeLog copied
@@ -42,10 +33,10 @@ pub decode-spec : {M : Type 1} → statement M
 decode-spec =
     tie.close
     (tie.spec
-    decode-answer-requires
+    (λ c κs. search needs)
     enum-told
     read-list-requires
-    enum-told-2
-    same-length
+    (λ c. search needs)
+    (λ c. search needs)
     returns
     returns-2)

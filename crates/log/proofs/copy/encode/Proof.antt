@@ -6,9 +6,6 @@ use borrow.Author.Needs.{needs}
 use Rattle.log.proofs.copy.encode.Statement.{statement}
 use Rattle.log.proofs.copy.encode.Tie as tie
 
-encode-answer-requires : tie.Need-encode-answer-requires
-encode-answer-requires c κs = search needs
-
 enum-told : tie.Need-enum-told
 enum-told c = search needs
 
@@ -16,12 +13,6 @@ write-log-requires : tie.Need-write-log-requires
 write-log-requires c κs =
     let p = encoded _ _ _ _ _ (sym (c .before .before .before .encode-answer .ensures) ∙ c .before .enum-told .given .1) in
     (c .before .before .before .before .before .before .before .pre, (p .room-enough, p .number-fits))
-
-enum-told-2 : tie.Need-enum-told-2
-enum-told-2 c = search needs
-
-same-length : tie.Need-same-length
-same-length c = search needs
 
 returns : tie.Need-returns
 unfolding encodeLog copied
@@ -39,10 +30,10 @@ pub encode-spec : {M : Type 1} → statement M
 encode-spec =
     tie.close
     (tie.spec
-    encode-answer-requires
+    (λ c κs. search needs)
     enum-told
     write-log-requires
-    enum-told-2
-    same-length
+    (λ c. search needs)
+    (λ c. search needs)
     returns
     returns-2)

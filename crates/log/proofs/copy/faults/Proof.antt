@@ -9,9 +9,9 @@ use borrow.Author.Tests.{not-true, not-false}
 use Rattle.num.specs.Search.{firstFalse}
 use Rattle.num.proofs.SearchLaws.{first-at, first-none}
 use Rattle.record.specs.Record.{firstBad}
-use Rattle.blocks.specs.Block.{blocksIn, blockAt, firstBadBlock, listUpTo}
-use Rattle.blocks.proofs.BlockLaws.{rightAt}
-use Rattle.blocks.proofs.OneBlock.{right-of}
+use Rattle.log_block.specs.Block.{blocksIn, blockAt, firstBadBlock, listUpTo}
+use Rattle.log_block.proofs.BlockLaws.{rightAt}
+use Rattle.log_block.proofs.OneBlock.{right-of}
 use Rattle.log.proofs.BadLaws.{bad-next}
 use borrow.Author.Needs.{needs}
 use Rattle.log.proofs.copy.faults.Statement.{statement}
@@ -26,9 +26,6 @@ abbrev μ-loop : tie.MeasureT-loop
 loop-holds : tie.Need-loop-holds Inv-loop μ-loop
 unfolding firstBad firstFalse listUpTo
 loop-holds c = (search needs, λ i h. absurd (omega arith), refl)
-
-right-at-requires : tie.Need-right-at-requires Inv-loop μ-loop
-right-at-requires c κs = search needs
 
 returns : tie.Need-returns Inv-loop μ-loop
 unfolding firstBadBlock
@@ -47,12 +44,6 @@ bad-up-to-requires c κs =
     let k = l .loop .k in
     let t = eqb (k + 1) (blocksIn log) in
     (omega arith, right-of per k t (blockAt log k) (sym (c .before .right-at .ensures) ∙ not-false _ (c .if1 .left)) .used-most, l .before .before .pre)
-
-add-k : tie.Need-add-k Inv-loop μ-loop
-add-k c = search needs
-
-loop-less : tie.Need-loop-less Inv-loop μ-loop
-loop-less c = search needs
 
 loop-again : tie.Need-loop-again Inv-loop μ-loop
 loop-again c =
@@ -79,10 +70,10 @@ faults-spec =
     Inv-loop
     μ-loop
     loop-holds
-    right-at-requires
+    (λ c κs. search needs)
     returns
     bad-up-to-requires
-    add-k
-    loop-less
+    (λ c. search needs)
+    (λ c. search needs)
     loop-again
     returns-2)

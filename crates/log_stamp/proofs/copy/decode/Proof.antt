@@ -2,15 +2,12 @@
 use mathlib.Core.Path.{_∙_, sym}
 use native.Mathlib.Omega.{arith}
 use Rattle.log.specs.Log.{copied}
-use Rattle.blocks.proofs.ListThenLog.{list-whole}
+use Rattle.log_block.proofs.ListThenLog.{list-whole}
 use Rattle.log_stamp.proofs.StampLaws.{fourteen}
 use Rattle.log_stamp.proofs.CopyLaws.{decoded}
 use borrow.Author.Needs.{needs}
 use Rattle.log_stamp.proofs.copy.decode.Statement.{statement}
 use Rattle.log_stamp.proofs.copy.decode.Tie as tie
-
-decode-answer-requires : tie.Need-decode-answer-requires
-decode-answer-requires c κs = search needs
 
 enum-told : tie.Need-enum-told
 enum-told c = search needs
@@ -19,12 +16,6 @@ read-list-requires : tie.Need-read-list-requires
 read-list-requires c κs =
     let p = decoded _ _ _ (sym (c .before .before .before .decode-answer .ensures) ∙ c .before .enum-told .given .1) in
     (fourteen, (p .passed .right, omega (arith, p .room-enough, list-whole 14 fourteen _ (p .passed .right))))
-
-enum-told-2 : tie.Need-enum-told-2
-enum-told-2 c = search needs
-
-same-length : tie.Need-same-length
-same-length c = search needs
 
 returns : tie.Need-returns
 unfolding copied
@@ -42,10 +33,10 @@ pub decode-spec : {M : Type 1} → statement M
 decode-spec =
     tie.close
     (tie.spec
-    decode-answer-requires
+    (λ c κs. search needs)
     enum-told
     read-list-requires
-    enum-told-2
-    same-length
+    (λ c. search needs)
+    (λ c. search needs)
     returns
     returns-2)

@@ -3,7 +3,7 @@ use mathlib.Core.Path.{_≡_, _∙_, sym}
 use borrow.Author.Tests.{eq-eqb, ne-eqb}
 use Rattle.log.specs.declared.Copied.the-variants.{Refused}
 use Rattle.log.specs.Log.{recordsOrFull}
-use Rattle.blocks.specs.Block.{listOf}
+use Rattle.log_block.specs.Block.{listOf}
 use Rattle.log_stamp.specs.Copy.{stampedDecodeAnswer}
 use Rattle.log_stamp.proofs.StampLaws.{fourteen, right-passed, right-refused, right-next}
 use borrow.Author.Needs.{needs}
@@ -14,20 +14,11 @@ returns : tie.Need-returns
 unfolding stampedDecodeAnswer
 returns c = rw (ne-eqb _ 0 (c .if1 .taken))
 
-tested-requires : tie.Need-tested-requires
-tested-requires c κs = search needs
-
-enum-known-why : tie.Need-enum-known-why
-enum-known-why c = search needs
-
 enum-told : tie.Need-enum-told
 enum-told c = search needs
 
 records-in-requires : tie.Need-records-in-requires
 records-in-requires c κs = (fourteen, right-passed _ _ (sym (c .before .before .tested .ensures) ∙ c .enum-told .given .1) .0 .right)
-
-records-or-full-requires : tie.Need-records-or-full-requires
-records-or-full-requires c κs = search needs
 
 returns-2 : tie.Need-returns-2
 unfolding stampedDecodeAnswer
@@ -52,10 +43,10 @@ decode-answer-spec =
     tie.close
     (tie.spec
     returns
-    tested-requires
-    enum-known-why
+    (λ c κs. search needs)
+    (λ c. search needs)
     enum-told
     records-in-requires
-    records-or-full-requires
+    (λ c κs. search needs)
     returns-2
     returns-3)

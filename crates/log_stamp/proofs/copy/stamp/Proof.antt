@@ -7,9 +7,6 @@ use borrow.Author.Needs.{needs}
 use Rattle.log_stamp.proofs.copy.stamp.Statement.{statement}
 use Rattle.log_stamp.proofs.copy.stamp.Tie as tie
 
-stamp-answer-requires : tie.Need-stamp-answer-requires
-stamp-answer-requires c κs = search needs
-
 enum-told : tie.Need-enum-told
 enum-told c = search needs
 
@@ -18,12 +15,6 @@ write-moved-requires c κs =
     let s = c .before .before .before .before .before .before .before in
     let p = stamped _ _ _ _ (sym (c .before .before .before .stamp-answer .ensures) ∙ c .before .enum-told .given .1) in
     ((omega arith, omega arith, omega arith, omega (arith, s .pre)), (p .right, (p .fits .room-enough, p .fits .number-fits)))
-
-enum-told-2 : tie.Need-enum-told-2
-enum-told-2 c = search needs
-
-same-length : tie.Need-same-length
-same-length c = search needs
 
 returns : tie.Need-returns
 unfolding copied
@@ -41,10 +32,10 @@ pub stamp-spec : {M : Type 1} → statement M
 stamp-spec =
     tie.close
     (tie.spec
-    stamp-answer-requires
+    (λ c κs. search needs)
     enum-told
     write-moved-requires
-    enum-told-2
-    same-length
+    (λ c. search needs)
+    (λ c. search needs)
     returns
     returns-2)

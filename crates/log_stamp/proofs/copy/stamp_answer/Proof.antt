@@ -3,9 +3,9 @@ use mathlib.Core.Path.{_≡_, _∙_, sym, ap}
 use native.Mathlib.Omega.{arith}
 use borrow.Author.Tests.{eq-eqb, ne-eqb}
 use Rattle.log.specs.declared.Copied.the-variants.{Refused}
-use Rattle.blocks.specs.Block.{blocksIn}
-use Rattle.index_make.proofs.MakeLaws.{fifteen, right-passed}
-use Rattle.log_move.proofs.ChunkLaws.{records-few}
+use Rattle.log_block.specs.Block.{blocksIn}
+use Rattle.log_index.proofs.make.MakeLaws.{fifteen, right-passed}
+use Rattle.log_stamp.proofs.moved.ChunkLaws.{records-few}
 use Rattle.log_stamp.specs.Copy.{stampAnswer}
 use Rattle.log_stamp.proofs.CopyLaws.{old-refused}
 use borrow.Author.Needs.{needs}
@@ -15,12 +15,6 @@ use Rattle.log_stamp.proofs.copy.stamp_answer.Tie as tie
 returns : tie.Need-returns
 unfolding stampAnswer
 returns c = rw (ne-eqb _ 0 (c .if1 .taken))
-
-right-requires : tie.Need-right-requires
-right-requires c κs = search needs
-
-enum-known-why : tie.Need-enum-known-why
-enum-known-why c = search needs
 
 enum-told : tie.Need-enum-told
 enum-told c = search needs
@@ -57,8 +51,8 @@ stamp-answer-spec =
     tie.close
     (tie.spec
     returns
-    right-requires
-    enum-known-why
+    (λ c κs. search needs)
+    (λ c. search needs)
     enum-told
     records-in-requires
     blocks-or-full-requires

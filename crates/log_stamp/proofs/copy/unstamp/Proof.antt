@@ -7,31 +7,13 @@ use borrow.Author.Needs.{needs}
 use Rattle.log_stamp.proofs.copy.unstamp.Statement.{statement}
 use Rattle.log_stamp.proofs.copy.unstamp.Tie as tie
 
-unstamp-answer-requires : tie.Need-unstamp-answer-requires
-unstamp-answer-requires c κs = search needs
-
 enum-told : tie.Need-enum-told
 enum-told c = search needs
-
-sub-write-moved : tie.Need-sub-write-moved
-sub-write-moved c = search needs
-
-part-write-moved-start : tie.Need-part-write-moved-start
-part-write-moved-start c = search needs
-
-part-write-moved-end : tie.Need-part-write-moved-end
-part-write-moved-end c = search needs
 
 write-moved-requires : tie.Need-write-moved-requires
 write-moved-requires c κs =
     let p = unstamped _ _ _ (sym (c .before .before .before .before .unstamp-answer .ensures) ∙ c .before .before .enum-told .given .1) in
     ((omega arith, omega arith, omega arith, refl), (p .passed .right, (p .fits .room-enough, p .fits .number-fits)))
-
-enum-told-2 : tie.Need-enum-told-2
-enum-told-2 c = search needs
-
-same-length : tie.Need-same-length
-same-length c = search needs
 
 returns : tie.Need-returns
 unfolding copied
@@ -49,13 +31,13 @@ pub unstamp-spec : {M : Type 1} → statement M
 unstamp-spec =
     tie.close
     (tie.spec
-    unstamp-answer-requires
+    (λ c κs. search needs)
     enum-told
-    sub-write-moved
-    part-write-moved-start
-    part-write-moved-end
+    (λ c. search needs)
+    (λ c. search needs)
+    (λ c. search needs)
     write-moved-requires
-    enum-told-2
-    same-length
+    (λ c. search needs)
+    (λ c. search needs)
     returns
     returns-2)

@@ -4,8 +4,8 @@ use native.Mathlib.Omega.{arith}
 use borrow.Author.Tests.{eq-eqb, ne-eqb}
 use Rattle.log.specs.declared.Copied.the-variants.{Refused}
 use Rattle.log.specs.Log.{blocksOrFull}
-use Rattle.blocks.specs.Block.{listOf}
-use Rattle.log_move.proofs.ChunkLaws.{records-few}
+use Rattle.log_block.specs.Block.{listOf}
+use Rattle.log_stamp.proofs.moved.ChunkLaws.{records-few}
 use Rattle.log_stamp.specs.Copy.{unstampAnswer}
 use Rattle.log_stamp.proofs.StampLaws.{fourteen, right-passed, right-refused, right-next}
 use borrow.Author.Needs.{needs}
@@ -15,12 +15,6 @@ use Rattle.log_stamp.proofs.copy.unstamp_answer.Tie as tie
 returns : tie.Need-returns
 unfolding unstampAnswer
 returns c = rw (ne-eqb _ 0 (c .if1 .taken))
-
-tested-requires : tie.Need-tested-requires
-tested-requires c κs = search needs
-
-enum-known-why : tie.Need-enum-known-why
-enum-known-why c = search needs
 
 enum-told : tie.Need-enum-told
 enum-told c = search needs
@@ -57,8 +51,8 @@ unstamp-answer-spec =
     tie.close
     (tie.spec
     returns
-    tested-requires
-    enum-known-why
+    (λ c κs. search needs)
+    (λ c. search needs)
     enum-told
     records-in-requires
     blocks-or-full-requires

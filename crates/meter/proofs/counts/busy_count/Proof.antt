@@ -10,36 +10,6 @@ use borrow.Author.Needs.{needs}
 use Rattle.meter.proofs.counts.busy_count.Statement.{statement}
 use Rattle.meter.proofs.counts.busy_count.Tie as tie
 
-count-requires : tie.Need-count-requires
-count-requires c κs = search needs
-
-shared-slice-read-oldest : tie.Need-shared-slice-read-oldest
-shared-slice-read-oldest c = search needs
-
-one-requires : tie.Need-one-requires
-one-requires c κs = search needs
-
-one-requires-2 : tie.Need-one-requires-2
-one-requires-2 c κs = search needs
-
-mul-cut : tie.Need-mul-cut
-mul-cut c = search needs
-
-add-cut : tie.Need-add-cut
-add-cut c = search needs
-
-one-requires-3 : tie.Need-one-requires-3
-one-requires-3 c κs = search needs
-
-mul-cut-2 : tie.Need-mul-cut-2
-mul-cut-2 c = search needs
-
-add-cut-2 : tie.Need-add-cut-2
-add-cut-2 c = search needs
-
-mul-result : tie.Need-mul-result
-mul-result c = search needs
-
 -- the law of the busy cycles, of the numbers that were counted
 counted : (c : tie.After-one3)
     → 4 * c .before .before .before .before .count .result ≡ busyCount (meterOf (c .before .before .before .before .before .before .args .marks .now) (c .before .before .before .before .before .before .args .newest)) + (c .before .before .one .result + 2 * c .before .one2 .result + 3 * c .one3 .result)
@@ -62,15 +32,15 @@ pub busy-count-spec : {M : Type 1} → statement M
 busy-count-spec =
     tie.close
     (tie.spec
-    count-requires
-    shared-slice-read-oldest
-    one-requires
-    one-requires-2
-    mul-cut
-    add-cut
-    one-requires-3
-    mul-cut-2
-    add-cut-2
-    mul-result
+    (λ c κs. search needs)
+    (λ c. search needs)
+    (λ c κs. search needs)
+    (λ c κs. search needs)
+    (λ c. search needs)
+    (λ c. search needs)
+    (λ c κs. search needs)
+    (λ c. search needs)
+    (λ c. search needs)
+    (λ c. search needs)
     sub-result
     returns)

@@ -6,15 +6,6 @@ use borrow.Author.Needs.{needs}
 use Rattle.meter.proofs.counts.count.Statement.{statement}
 use Rattle.meter.proofs.counts.count.Tie as tie
 
-slice-aggregate-right : tie.Need-slice-aggregate-right
-slice-aggregate-right c = search needs
-
-right-requires : tie.Need-right-requires
-right-requires c κs = search needs
-
-slice-aggregate-busy-count : tie.Need-slice-aggregate-busy-count
-slice-aggregate-busy-count c = search needs
-
 busy-count-requires : tie.Need-busy-count-requires
 busy-count-requires c κs = (search needs, sym (c .before .before .right .ensures) ∙ c .before .if1 .taken)
 
@@ -30,9 +21,9 @@ pub count-spec : {M : Type 1} → statement M
 count-spec =
     tie.close
     (tie.spec
-    slice-aggregate-right
-    right-requires
-    slice-aggregate-busy-count
+    (λ c. search needs)
+    (λ c κs. search needs)
+    (λ c. search needs)
     busy-count-requires
     returns
     returns-2)

@@ -5,7 +5,7 @@ use mathlib.Core.Bool.{not, or-true}
 use native.Mathlib.Omega.{arith}
 use borrow.Author.Tests.{lt-ltb}
 use Rattle.num.proofs.SearchLaws.{all-intro}
-use Rattle.marks.specs.Marks.{mark, aged, below}
+use Rattle.num.specs.Marks.{mark, aged, below}
 use borrow.Author.Needs.{needs}
 use Rattle.meter.proofs.feeds.from_4.Statement.{statement}
 use Rattle.meter.proofs.feeds.from_4.Tie as tie

@@ -17,21 +17,6 @@ is-accepted : (m : Meter) (t : ℕ) → feedNumber (feedAnswer m t) ≡ 0 → fe
 unfolding feedAccepted
 is-accepted m t z = eq-eqb (feedNumber (feedAnswer m t)) 0 z
 
-wide32-requires : tie.Need-wide32-requires
-wide32-requires c κs = search needs
-
-slice-aggregate-answer-to : tie.Need-slice-aggregate-answer-to
-slice-aggregate-answer-to c = search needs
-
-answer-to-requires : tie.Need-answer-to-requires
-answer-to-requires c κs = search needs
-
-number-of-requires : tie.Need-number-of-requires
-number-of-requires c κs = search needs
-
-slice-aggregate-pushed : tie.Need-slice-aggregate-pushed
-slice-aggregate-pushed c = search needs
-
 sub-pushed : tie.Need-sub-pushed
 sub-pushed c =
     let at-answer = c .before .before .before in
@@ -41,9 +26,6 @@ sub-pushed c =
     let z : feedNumber (feedAnswer m t) ≡ 0 = sym (ap feedNumber (at-answer .answer-to .ensures)) ∙ sym (c .before .before .number-of .ensures) ∙ c .before .if1 .taken in
     let f = accepted-follows m t (is-accepted m t z) in
     omega (arith, f .after)
-
-pushed-requires : tie.Need-pushed-requires
-pushed-requires c κs = search needs
 
 returns : tie.Need-returns
 unfolding fedBy feedMeter advanced feedAccepted
@@ -71,12 +53,12 @@ pub step-spec : {M : Type 1} → statement M
 step-spec =
     tie.close
     (tie.spec
-    wide32-requires
-    slice-aggregate-answer-to
-    answer-to-requires
-    number-of-requires
-    slice-aggregate-pushed
+    (λ c κs. search needs)
+    (λ c. search needs)
+    (λ c κs. search needs)
+    (λ c κs. search needs)
+    (λ c. search needs)
     sub-pushed
-    pushed-requires
+    (λ c κs. search needs)
     returns
     returns-2)

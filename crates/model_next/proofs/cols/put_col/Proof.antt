@@ -9,42 +9,24 @@ use Rattle.model_next.proofs.cols.put_col.Tie as tie
 enum-told : tie.Need-enum-told
 enum-told c = search needs
 
-put-nocop-requires : tie.Need-put-nocop-requires
-put-nocop-requires c κs = search needs
-
-enum-known-p : tie.Need-enum-known-p
-enum-known-p c = search needs
-
 put-wr-requires : tie.Need-put-wr-requires
 put-wr-requires c κs =
     let z = c .before .before .before .before .before in
     let f = wr-in _ _ _ _ _ (rw (c .before .before .p .given .1) at (z .pre .1 .1 .0)) in
     (z .pre .0, (z .pre .1 .0, (omega (arith, f .0), (f .1, z .pre .1 .1 .1))))
 
-enum-known-p-2 : tie.Need-enum-known-p-2
-enum-known-p-2 c = search needs
-
 put-rd-requires : tie.Need-put-rd-requires
 put-rd-requires c κs =
     let z = c .before .before .before .before .before in
     (omega (arith, z .pre .0), (rd-in _ _ _ _ _ (rw (c .before .before .p2 .given .1) at (z .pre .1 .1 .0)), z .pre .1 .1 .1))
 
-same-length : tie.Need-same-length
-same-length c = search needs
-
 returns : tie.Need-returns
 unfolding colNext
 returns c = rw (c .before .before .before .before .enum-told .given .1) (c .before .before .put-nocop .ensures)
 
-same-length-2 : tie.Need-same-length-2
-same-length-2 c = search needs
-
 returns-2 : tie.Need-returns-2
 unfolding colNext
 returns-2 c = rw (c .before .before .before .before .before .p .given .1) (c .before .before .put-wr .ensures)
-
-same-length-3 : tie.Need-same-length-3
-same-length-3 c = search needs
 
 returns-3 : tie.Need-returns-3
 unfolding colNext
@@ -55,14 +37,14 @@ put-col-spec =
     tie.close
     (tie.spec
     enum-told
-    put-nocop-requires
-    enum-known-p
+    (λ c κs. search needs)
+    (λ c. search needs)
     put-wr-requires
-    enum-known-p-2
+    (λ c. search needs)
     put-rd-requires
-    same-length
+    (λ c. search needs)
     returns
-    same-length-2
+    (λ c. search needs)
     returns-2
-    same-length-3
+    (λ c. search needs)
     returns-3)

@@ -3,18 +3,6 @@ use borrow.Author.Needs.{needs}
 use Rattle.model_next.proofs.cols.put_implied.Statement.{statement}
 use Rattle.model_next.proofs.cols.put_implied.Tie as tie
 
-wide32-requires : tie.Need-wide32-requires
-wide32-requires c κs = search needs
-
-add-store-implied : tie.Need-add-store-implied
-add-store-implied c = search needs
-
-store-implied-requires : tie.Need-store-implied-requires
-store-implied-requires c κs = search needs
-
-same-length : tie.Need-same-length
-same-length c = search needs
-
 returns : tie.Need-returns
 returns c = rw (c .before .before .before .before .before .if1 .taken, c .before .before .store-implied .ensures, c .before .before .before .wide32 .ensures .0)
 
@@ -25,9 +13,9 @@ pub put-implied-spec : {M : Type 1} → statement M
 put-implied-spec =
     tie.close
     (tie.spec
-    wide32-requires
-    add-store-implied
-    store-implied-requires
-    same-length
+    (λ c κs. search needs)
+    (λ c. search needs)
+    (λ c κs. search needs)
+    (λ c. search needs)
     returns
     returns-2)

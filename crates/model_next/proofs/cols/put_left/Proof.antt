@@ -18,21 +18,6 @@ waiting : (s : Settings) (b : List ℕ) (t : ℕ) → leavesAt s b t ≡ true �
 unfolding leavesAt
 waiting s b t h = not-passes (not (eqb (getD b 728 0) 0)) (eqb (getD b 728 0) 0) refl (and-left (not (eqb (getD b 728 0) 0)) _ h)
 
-slice-read-wide : tie.Need-slice-read-wide
-slice-read-wide c = search needs
-
-wide-requires : tie.Need-wide-requires
-wide-requires c κs = search needs
-
-wide32-requires : tie.Need-wide32-requires
-wide32-requires c κs = search needs
-
-leaves-at-requires : tie.Need-leaves-at-requires
-leaves-at-requires c κs = search needs
-
-same-length : tie.Need-same-length
-same-length c = search needs
-
 returns : tie.Need-returns
 unfolding leftNext leftCount
 returns c =
@@ -52,9 +37,6 @@ sub-result c =
     let h = waiting (z .args .s) (z .args .b .now) (z .args .t) (sym (c .before .before .before .before .before .leaves-at .ensures) ∙ not-fails (not (c .before .before .before .before .before .leaves-at .result)) (c .before .before .before .before .before .leaves-at .result) refl (c .before .before .before .before .if1 .left)) in
     omega (arith, c .before .before .before .before .before .before .before .wide32 .ensures .0 ∙ c .before .before .before .before .before .before .before .before .wide .ensures .0, eqb-false (getD (z .args .b .now) 728 0) 0 h)
 
-same-length-2 : tie.Need-same-length-2
-same-length-2 c = search needs
-
 returns-2 : tie.Need-returns-2
 unfolding leftNext leftCount
 returns-2 c =
@@ -65,13 +47,13 @@ pub put-left-spec : {M : Type 1} → statement M
 put-left-spec =
     tie.close
     (tie.spec
-    slice-read-wide
-    wide-requires
-    wide32-requires
-    leaves-at-requires
-    same-length
+    (λ c. search needs)
+    (λ c κs. search needs)
+    (λ c κs. search needs)
+    (λ c κs. search needs)
+    (λ c. search needs)
     returns
     put-out-requires
     sub-result
-    same-length-2
+    (λ c. search needs)
     returns-2)

@@ -4,39 +4,6 @@ use borrow.Author.Needs.{needs}
 use Rattle.model_next.proofs.cols.put_out.Statement.{statement}
 use Rattle.model_next.proofs.cols.put_out.Tie as tie
 
-slice-read-wide : tie.Need-slice-read-wide
-slice-read-wide c = search needs
-
-wide-requires : tie.Need-wide-requires
-wide-requires c κs = search needs
-
-cast-h : tie.Need-cast-h
-cast-h c = search needs
-
-u16-at-requires : tie.Need-u16-at-requires
-u16-at-requires c κs = search needs
-
-second-at-requires : tie.Need-second-at-requires
-second-at-requires c κs = search needs
-
-store-retire-requires : tie.Need-store-retire-requires
-store-retire-requires c κs = search needs
-
-sub-store-shift : tie.Need-sub-store-shift
-sub-store-shift c = search needs
-
-store-shift-requires : tie.Need-store-shift-requires
-store-shift-requires c κs = search needs
-
-put-dualoct-requires : tie.Need-put-dualoct-requires
-put-dualoct-requires c κs = search needs
-
-put-implied-requires : tie.Need-put-implied-requires
-put-implied-requires c κs = search needs
-
-same-length : tie.Need-same-length
-same-length c = search needs
-
 returns : tie.Need-returns
 unfolding movedUp
 returns c =
@@ -61,15 +28,15 @@ pub put-out-spec : {M : Type 1} → statement M
 put-out-spec =
     tie.close
     (tie.spec
-    slice-read-wide
-    wide-requires
-    cast-h
-    u16-at-requires
-    second-at-requires
-    store-retire-requires
-    sub-store-shift
-    store-shift-requires
-    put-dualoct-requires
-    put-implied-requires
-    same-length
+    (λ c. search needs)
+    (λ c κs. search needs)
+    (λ c. search needs)
+    (λ c κs. search needs)
+    (λ c κs. search needs)
+    (λ c κs. search needs)
+    (λ c. search needs)
+    (λ c κs. search needs)
+    (λ c κs. search needs)
+    (λ c κs. search needs)
+    (λ c. search needs)
     returns)

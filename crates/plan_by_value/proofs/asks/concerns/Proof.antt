@@ -3,23 +3,8 @@ use borrow.Author.Needs.{needs}
 use Rattle.plan_by_value.proofs.asks.concerns.Statement.{statement}
 use Rattle.plan_by_value.proofs.asks.concerns.Tie as tie
 
-enum-known-next : tie.Need-enum-known-next
-enum-known-next c = search needs
-
-is-near-requires : tie.Need-is-near-requires
-is-near-requires c κs = search needs
-
-enum-known-next-2 : tie.Need-enum-known-next-2
-enum-known-next-2 c = search needs
-
-is-near-requires-2 : tie.Need-is-near-requires-2
-is-near-requires-2 c κs = search needs
-
 enum-told : tie.Need-enum-told
 enum-told c = search needs
-
-enum-told-2 : tie.Need-enum-told-2
-enum-told-2 c = search needs
 
 returns : tie.Need-returns
 returns c = rw (c .before .before .next .given .1) (c .is-near .ensures)
@@ -37,12 +22,12 @@ pub concerns-spec : {M : Type 1} → statement M
 concerns-spec =
     tie.close
     (tie.spec
-    enum-known-next
-    is-near-requires
-    enum-known-next-2
-    is-near-requires-2
+    (λ c. search needs)
+    (λ c κs. search needs)
+    (λ c. search needs)
+    (λ c κs. search needs)
     enum-told
-    enum-told-2
+    (λ c. search needs)
     returns
     returns-2
     returns-3

@@ -12,39 +12,18 @@ use Rattle.plan_by_value.proofs.steps.loaded.Tie as tie
 long : (c : tie.Start) → length (c .args .d .list) ≡ 32
 long c = search (length-of-map, c .good .1 .1 .1 .0)
 
-write-arrival-requires : tie.Need-write-arrival-requires
-write-arrival-requires c κs = search needs
-
-enum-known-t : tie.Need-enum-known-t
-enum-known-t c = search needs
-
 enum-told : tie.Need-enum-told
 enum-told c = search needs
-
-moved-requires : tie.Need-moved-requires
-moved-requires c κs = search needs
 
 returns : tie.Need-returns
 returns c p e k = let z = c .before .before .before .before .before in
     rw (c .moved .ensures) (draws-unloaded (z .args .s) p (z .args .d) e (z .args .mask) (z .args .bytes) k (sym (c .before .before .before .write-arrival .ensures .0) ∙ c .before .enum-told .given .1))
-
-two-wait-requires : tie.Need-two-wait-requires
-two-wait-requires c κs = search needs
 
 after-requires : tie.Need-after-requires
 unfolding instant
 after-requires c κs =
     let z = c .before .before .before .before .before .before .before in
     omega (arith, arrival-in (z .args .d .planner .now) (z .args .s .cwd) _ (sym (c .before .before .before .before .before .write-arrival .ensures .0) ∙ c .before .before .before .t .given .1), z .pre)
-
-pick-requires : tie.Need-pick-requires
-pick-requires c κs = search needs
-
-pick-requires-2 : tie.Need-pick-requires-2
-pick-requires-2 c κs = search needs
-
-added-requires : tie.Need-added-requires
-added-requires c κs = search needs
 
 returns-2 : tie.Need-returns-2
 returns-2 c p e k = let z = c .before .before .before .before .before .before .before .before .before .before .before .before in
@@ -55,14 +34,14 @@ pub loaded-spec : {M : Type 1} → statement M
 loaded-spec =
     tie.close
     (tie.spec
-    write-arrival-requires
-    enum-known-t
+    (λ c κs. search needs)
+    (λ c. search needs)
     enum-told
-    moved-requires
+    (λ c κs. search needs)
     returns
-    two-wait-requires
+    (λ c κs. search needs)
     after-requires
-    pick-requires
-    pick-requires-2
-    added-requires
+    (λ c κs. search needs)
+    (λ c κs. search needs)
+    (λ c κs. search needs)
     returns-2)

@@ -13,46 +13,10 @@ use Rattle.plan_by_value.proofs.steps.sent.Tie as tie
 long : (c : tie.Start) → length (c .args .d .list) ≡ 32
 long c = search (length-of-map, c .good .1 .1 .0)
 
-record-at-requires : tie.Need-record-at-requires
-record-at-requires c κs = search needs
-
-least-from-requires : tie.Need-least-from-requires
-least-from-requires c κs = search needs
-
-clipped-requires : tie.Need-clipped-requires
-clipped-requires c κs = search needs
-
-placed-in-requires : tie.Need-placed-in-requires
-placed-in-requires c κs = search needs
-
 after-requires : tie.Need-after-requires
 after-requires c κs =
     let z = c .before .before .before .before .before .before in
     rw (c .placed-in .ensures, c .before .clipped .ensures) (omega (arith, placed-in-range (z .args .s) (z .args .d .planner) (c .before .before .least-from .result) (z .args .c), z .pre))
-
-record-at-requires-2 : tie.Need-record-at-requires-2
-record-at-requires-2 c κs = search needs
-
-shifted-requires : tie.Need-shifted-requires
-shifted-requires c κs = search needs
-
-data-delay-requires : tie.Need-data-delay-requires
-data-delay-requires c κs = search needs
-
-record-at-requires-3 : tie.Need-record-at-requires-3
-record-at-requires-3 c κs = search needs
-
-implied-delay-requires : tie.Need-implied-delay-requires
-implied-delay-requires c κs = search needs
-
-longer-requires : tie.Need-longer-requires
-longer-requires c κs = search needs
-
-is-late-requires : tie.Need-is-late-requires
-is-late-requires c κs = search needs
-
-added-requires : tie.Need-added-requires
-added-requires c κs = search needs
 
 returns : tie.Need-returns
 unfolding slot
@@ -79,17 +43,17 @@ pub sent-spec : {M : Type 1} → statement M
 sent-spec =
     tie.close
     (tie.spec
-    record-at-requires
-    least-from-requires
-    clipped-requires
-    placed-in-requires
+    (λ c κs. search needs)
+    (λ c κs. search needs)
+    (λ c κs. search needs)
+    (λ c κs. search needs)
     after-requires
-    record-at-requires-2
-    shifted-requires
-    data-delay-requires
-    record-at-requires-3
-    implied-delay-requires
-    longer-requires
-    is-late-requires
-    added-requires
+    (λ c κs. search needs)
+    (λ c κs. search needs)
+    (λ c κs. search needs)
+    (λ c κs. search needs)
+    (λ c κs. search needs)
+    (λ c κs. search needs)
+    (λ c κs. search needs)
+    (λ c κs. search needs)
     returns)

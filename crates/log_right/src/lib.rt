@@ -1,1 +1,0 @@
-// The tests that calls on whole logs share: a definition.

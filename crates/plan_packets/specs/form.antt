@@ -1,0 +1,2 @@
+pub mod RowSlots
+pub mod ColSlots

@@ -1,0 +1,4 @@
+pub mod Touched
+pub mod Index
+pub mod Query
+pub mod Answers
