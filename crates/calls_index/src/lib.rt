@@ -10,7 +10,7 @@ use spec_index::Indexed;
 // What a call on an index answers: number is 0 and count how many words or block numbers there are, or the refusal's number with
 // the rule and the place that it names.
 #[repr(C)]
-#[derive(Drop)]
+#[derive(Clone, Copy)]
 pub struct IndexAnswer {
     pub number: u32,
     pub rule: u32,

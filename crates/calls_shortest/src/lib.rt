@@ -8,7 +8,7 @@ use spec_check::{Judged, Shortest};
 
 // What is answered: number, rule and place as of the checker; and where number is 11, the record from which the run starts.
 #[repr(C)]
-#[derive(Drop)]
+#[derive(Clone, Copy)]
 pub struct ShortestAnswer {
     pub number: u32,
     pub rule: u32,

@@ -8,7 +8,7 @@ use settings::{Settings, SettingsRead};
 
 // The word of a packet: number is 0, or the refusal's and word 0.
 #[repr(C)]
-#[derive(Drop)]
+#[derive(Clone, Copy)]
 pub struct WordAnswer {
     pub number: u32,
     pub word: u64,
@@ -16,7 +16,7 @@ pub struct WordAnswer {
 
 // The packet of a word: number is 0, or the refusal's and the rest 0.
 #[repr(C)]
-#[derive(Drop)]
+#[derive(Clone, Copy)]
 pub struct PacketAnswer {
     pub number: u32,
     pub command: u32,

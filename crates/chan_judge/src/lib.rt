@@ -21,7 +21,7 @@ use spec_rules::{Channel, LastInstants};
 
 // The PRER of a packet, its own or one that it implies: whether there is one, its instant and its bank; of that bank the last
 // instants before the packet, of an ACT or REFA, of an RD and of a retire.
-#[derive(Drop)]
+#[derive(Clone, Copy)]
 pub struct Precharge {
     pub applies: bool,
     pub at: u64,

@@ -11,7 +11,7 @@ use spec_rules::{Bank, BankTrack};
 // What a packet is to the rules: its instant, the bank and column that it names (0: none) and what it makes of that bank; then
 // whether it opens the bank (ACT, REFA), is an ACT, precharges (PRER, REFP), reads (RD), writes (WR), takes the ROW pins or
 // the COL pins, is a COL packet other than RD, has M = 1, and closes the bank (RDA, WRA).
-#[derive(Drop)]
+#[derive(Clone, Copy)]
 pub struct View {
     pub at: PacketAt,
     pub bank: u32,
@@ -30,7 +30,7 @@ pub struct View {
 }
 
 // A record: a packet, or data at their own instant.
-#[derive(Drop)]
+#[derive(Clone, Copy)]
 pub enum Seen {
     Packet(View),
     Data(DataAt),
@@ -39,7 +39,7 @@ pub enum Seen {
 // The write buffer in numbers: whether a write waits, whether two do, whether the data of the newest are due; the older write's
 // bank, the instant of its WR and whether it is a WRA; the newer write's bank where two wait and whether it is a WRA; the instant
 // of the newest WR. Number 32 stands for no bank.
-#[derive(Drop)]
+#[derive(Clone, Copy)]
 pub struct Held {
     pub waits: bool,
     pub two: bool,
@@ -54,7 +54,7 @@ pub struct Held {
 
 // The tracks of the banks that a packet concerns: the bank that it names, the neighbours below and above the bank of its PRER or
 // else of the bank that it names, the banks of the older and of the newer waiting write; idle where there is none.
-#[derive(Drop)]
+#[derive(Clone, Copy)]
 pub struct Tracks {
     pub own: BankTrack,
     pub low: BankTrack,

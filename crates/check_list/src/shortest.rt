@@ -12,7 +12,7 @@ use spec_check::{Judged, Shortest};
 
 // What is found of the run from one start: whether it breaks the rule at its last record and no rule before, and whether it is
 // refused before its last record.
-#[derive(Drop)]
+#[derive(Clone, Copy)]
 pub struct Tried {
     pub found: bool,
     pub early: bool,

@@ -24,21 +24,21 @@ use settings::{PacketAt, Settings};
 use spec_rules::Buffer;
 
 // Where a walk over records stopped: its end with rule 0, a record that is none with rule 0, or one that breaks this rule.
-#[derive(Drop)]
+#[derive(Clone, Copy)]
 pub struct Stop {
     pub at: usize,
     pub rule: u32,
 }
 
 // An instant after which no bank was opened, and whether the last record is a WR, whose data are due.
-#[derive(Drop)]
+#[derive(Clone, Copy)]
 pub struct Latest {
     pub opened: u32,
     pub due: bool,
 }
 
 // The numbers of a record, but for its data; head is the kind with the three bytes after it.
-#[derive(Drop)]
+#[derive(Clone, Copy)]
 pub struct Fields {
     pub at: PacketAt,
     pub head: u32,

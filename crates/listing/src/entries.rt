@@ -15,7 +15,7 @@ use state_bytes::fresh::put_fresh_planner;
 const RECORDS: usize = 1_397_760;
 
 // The number of records of a whole input, and the end of its requests' text.
-#[derive(Drop)]
+#[derive(Clone, Copy)]
 pub struct Total {
     pub records: u64,
     pub end: usize,

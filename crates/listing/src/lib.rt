@@ -61,7 +61,7 @@ fn print_listing(input: &[u8], n: usize, out: &mut [u8; ROOM]) -> usize
 }
 
 // How many bytes of its buffers a run has read and printed.
-#[derive(Drop)]
+#[derive(Clone, Copy)]
 pub struct Counts {
     pub read: usize,
     pub printed: usize,

@@ -37,7 +37,7 @@ pub fn set_h() -> Settings
 }
 
 // Bank and column of the latest WR or WRA.
-#[derive(Drop)]
+#[derive(Clone, Copy)]
 pub struct Latest {
     pub bank: u32,
     pub column: u32,
@@ -130,7 +130,7 @@ fn record_at(s: Settings, b: &[u8], at: usize) -> Record
 }
 
 // Where the lines of records end, and the latest WR or WRA after them.
-#[derive(Drop)]
+#[derive(Clone, Copy)]
 pub struct Lines {
     pub end: usize,
     pub latest: Latest,

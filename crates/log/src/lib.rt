@@ -4,14 +4,14 @@ pub mod copy;
 use record::Refusal;
 
 // What a call that copies answers: a refusal, or how many blocks or records it made.
-#[derive(Drop)]
+#[derive(Clone, Copy)]
 pub enum Copied {
     Refused(Refusal),
     Count(u64),
 }
 
 // The first bad block of a log and, where no block is bad, the first bad record of its list.
-#[derive(Drop)]
+#[derive(Clone, Copy)]
 pub struct Faults {
     pub block: usize,
     pub record: usize,

@@ -17,7 +17,7 @@ use record::Refusal;
 use settings::{Settings, SettingsRead};
 
 // What the tests of a stamped log answer: a refusal, or the settings that it carries.
-#[derive(Drop)]
+#[derive(Clone, Copy)]
 pub enum Judgement {
     Refused(Refusal),
     Right(Settings),
@@ -64,7 +64,7 @@ fn first_other(log: &[u8]) -> usize
 
 // What the tests of the blocks of a log find: the first bad block, the first bad record of the blocks before it, and whether the stamps
 // of these are that of block 0.
-#[derive(Drop)]
+#[derive(Clone, Copy)]
 pub struct Found {
     pub block: usize,
     pub record: usize,

@@ -5,14 +5,14 @@ pub mod feeds;
 // Mark i is 1 where an instant was accepted i cycles before the newest, which is 0 before any feed. A meter keeps no count: it
 // would have to be tested with the marks, and costs less to make from them.
 #[repr(C)]
-#[derive(Drop)]
+#[derive(Clone, Copy)]
 pub struct Meter {
     pub marks: [u64; 16],
     pub newest: u64,
 }
 
 // What a feed answers, by the trade words of documents 01 and 02.
-#[derive(Drop)]
+#[derive(Clone, Copy)]
 pub enum FeedAnswer {
     Accepted,
     Settings,
@@ -21,14 +21,14 @@ pub enum FeedAnswer {
 }
 
 // A meter after a feed, and what the feed answers.
-#[derive(Drop)]
+#[derive(Clone, Copy)]
 pub struct Fed {
     pub meter: Meter,
     pub answer: FeedAnswer,
 }
 
 // The same with the answer's number.
-#[derive(Drop)]
+#[derive(Clone, Copy)]
 pub struct FedNumber {
     pub meter: Meter,
     pub number: u32,
@@ -36,7 +36,7 @@ pub struct FedNumber {
 
 // What a count answers: number is 0, or the refusal's.
 #[repr(C)]
-#[derive(Drop)]
+#[derive(Clone, Copy)]
 pub struct CountAnswer {
     pub number: u32,
     pub count: u32,
@@ -44,7 +44,7 @@ pub struct CountAnswer {
 
 // What a share answers: number is 0, or the refusal's.
 #[repr(C)]
-#[derive(Drop)]
+#[derive(Clone, Copy)]
 pub struct ShareAnswer {
     pub number: u32,
     pub share: f32,

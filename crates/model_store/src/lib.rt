@@ -17,7 +17,7 @@ use settings::Settings;
 use spec_model::Stepped;
 
 // What a record that breaks no rule asks of the store: nothing, a dualoct, or a write under a mask.
-#[derive(Drop)]
+#[derive(Clone, Copy)]
 pub enum Touch {
     Nothing,
     Reads(Place),

@@ -18,7 +18,7 @@ use settings::{PacketAt, Settings};
 use spec_plan::{Outcome, PlannerState};
 
 // A ROW or COL packet that has no instant and no mask yet; a full mask stands for none.
-#[derive(Drop)]
+#[derive(Clone, Copy)]
 pub(crate) enum Command {
     Row(RowPacket),
     Col(ColPacket),
@@ -27,7 +27,7 @@ pub(crate) enum Command {
 // What NOCOPs are sent before: a PRER to a bank, which writes near it concern; an RD or RDA of a bank and column, which a write of these
 // concerns, two writes of any, and an RDA also writes near the bank; the end of a flush, which every write concerns; or the end of a
 // closing write, which a WRA that waits concerns.
-#[derive(Drop)]
+#[derive(Clone, Copy)]
 pub(crate) enum Before {
     Prer(u32),
     Rd(u32, u32, bool),
@@ -36,21 +36,21 @@ pub(crate) enum Before {
 }
 
 // Which banks are closed: those near a bank, or all.
-#[derive(Drop)]
+#[derive(Clone, Copy)]
 pub(crate) enum Banks {
     Near(u32),
     All,
 }
 
 // A record of a draft.
-#[derive(Drop)]
+#[derive(Clone, Copy)]
 pub(crate) struct Entry {
     pub made: Record,
 }
 
 // A planner with the records that it has made for a request so far: the first count of the list. Late: the instant of a packet
 // or of its data, or now, passed the last one; then the rest says nothing.
-#[derive(Drop)]
+#[derive(Clone, Copy)]
 pub(crate) struct Draft {
     pub planner: PlannerState,
     pub list: [Entry; 32],
@@ -59,13 +59,13 @@ pub(crate) struct Draft {
 }
 
 // A planner between two requests.
-#[derive(Drop)]
+#[derive(Clone, Copy)]
 pub struct Planner {
     pub state: PlannerState,
 }
 
 // What a plan call hands back: the planner that goes on, and its answer.
-#[derive(Drop)]
+#[derive(Clone, Copy)]
 pub struct Planned {
     pub planner: Planner,
     pub outcome: Outcome,

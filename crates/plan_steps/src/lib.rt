@@ -19,7 +19,7 @@ use record::Place;
 use settings::Settings;
 
 // Where the next record goes after a close, and how many banks it looked at.
-#[derive(Drop)]
+#[derive(Clone, Copy)]
 pub struct Walked {
     pub to: usize,
     pub banks: usize,

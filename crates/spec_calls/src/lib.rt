@@ -3,7 +3,7 @@
 
 // What a plan call answers: number is 0 and records what it made, or the refusal's number. banks is how many banks close looked at.
 #[repr(C)]
-#[derive(Drop)]
+#[derive(Clone, Copy)]
 pub struct PlanAnswer {
     pub number: u32,
     pub banks: u32,
@@ -13,7 +13,7 @@ pub struct PlanAnswer {
 // What a call with many requests answers: number is 0, or that of the refusal; place is how many requests were planned, which is the
 // position from 0 of the refused one, and records what they made.
 #[repr(C)]
-#[derive(Drop)]
+#[derive(Clone, Copy)]
 pub struct PlanAllAnswer {
     pub number: u32,
     pub place: u64,
@@ -23,7 +23,7 @@ pub struct PlanAllAnswer {
 // What a model call answers: number is 0, or the refusal's with its rule; event is 0 where nothing was read or retired, 1
 // where the dualoct is in the answer buffer, 2 where a write was retired, and bytes is how many bytes that wrote.
 #[repr(C)]
-#[derive(Drop)]
+#[derive(Clone, Copy)]
 pub struct StepAnswer {
     pub number: u32,
     pub rule: u32,
@@ -33,7 +33,7 @@ pub struct StepAnswer {
 
 // What the checker answers: number is 0, or the refusal's with the rule and the place that it names.
 #[repr(C)]
-#[derive(Drop)]
+#[derive(Clone, Copy)]
 pub struct CheckAnswer {
     pub number: u32,
     pub rule: u32,
@@ -42,7 +42,7 @@ pub struct CheckAnswer {
 
 // What a copying call answers: number is 0 and count what it made, or the refusal's number and place.
 #[repr(C)]
-#[derive(Drop)]
+#[derive(Clone, Copy)]
 pub struct CopyAnswer {
     pub number: u32,
     pub place: u64,

@@ -3,7 +3,7 @@
 use record::Refusal;
 
 // What the checker answers: every rule holds, or why not.
-#[derive(Drop)]
+#[derive(Clone, Copy)]
 pub enum Judged {
     Passed,
     Refused(Refusal),
@@ -11,7 +11,7 @@ pub enum Judged {
 
 // What is answered of a list: the checker's verdict on it and, where that names a rule and a record, the record from which the
 // shortest run starts that still breaks the rule there.
-#[derive(Drop)]
+#[derive(Clone, Copy)]
 pub struct Shortest {
     pub judged: Judged,
     pub start: u64,

@@ -6,7 +6,7 @@ use spec_rules::Channel;
 pub const MODEL_BYTES: usize = 792;
 
 // A model between two records: the channel, REFR, and the data of the waiting writes, those of the older one first.
-#[derive(Drop)]
+#[derive(Clone, Copy)]
 pub struct ModelState {
     pub channel: Channel,
     pub refr: u32,
@@ -16,7 +16,7 @@ pub struct ModelState {
 
 // What a model call answers: the dualoct is in the answer buffer; a write was retired, with the number of bytes that it wrote;
 // neither; or why the call is refused.
-#[derive(Drop)]
+#[derive(Clone, Copy)]
 pub enum Stepped {
     Refused(Refusal),
     Read,

@@ -12,7 +12,7 @@ pub const PLANNER_BYTES: usize = 768;
 
 // A planner between two requests: the channel after its packets, now, the bank of the next refresh, and the masks of the
 // waiting writes, that of the older one first.
-#[derive(Drop)]
+#[derive(Clone, Copy)]
 pub struct PlannerState {
     pub channel: Channel,
     pub now: PacketAt,
@@ -22,7 +22,7 @@ pub struct PlannerState {
 }
 
 // What a plan call answers: the number of records that it made, or why it is refused.
-#[derive(Drop)]
+#[derive(Clone, Copy)]
 pub enum Outcome {
     Refused(Refusal),
     Made(u64),

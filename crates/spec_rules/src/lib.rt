@@ -3,7 +3,7 @@
 use settings::PacketAt;
 
 // "A bank is closed, open on a row, or under refresh."
-#[derive(Drop)]
+#[derive(Clone, Copy)]
 pub enum Bank {
     Closed,
     Open(u32),
@@ -12,7 +12,7 @@ pub enum Bank {
 
 // A bank with its last instants, 0 where there was none: of an ACT or REFA, of an ACT, of a PRER or REFP to it or one that
 // closed it, of an RD, and of a retire.
-#[derive(Drop)]
+#[derive(Clone, Copy)]
 pub struct BankTrack {
     pub bank: Bank,
     pub opened: PacketAt,
@@ -24,7 +24,7 @@ pub struct BankTrack {
 
 // The last instants of the whole channel, 0 where there was none: of a ROW or COL packet, of a ROW packet, of a COL packet, of a
 // PRER or REFP, of an RD, and of a PRER that an RDA or the retire of a WRA implied.
-#[derive(Drop)]
+#[derive(Clone, Copy)]
 pub struct LastInstants {
     pub packet: PacketAt,
     pub row: PacketAt,
@@ -35,7 +35,7 @@ pub struct LastInstants {
 }
 
 // A write that waits: its bank and column, the instant of its WR, and whether its retire closes the bank (WRA).
-#[derive(Drop)]
+#[derive(Clone, Copy)]
 pub struct Write {
     pub bank: u32,
     pub column: u32,
@@ -44,7 +44,7 @@ pub struct Write {
 }
 
 // The writes that wait (document 02 a): "Two may wait, in order". The older one stands first.
-#[derive(Drop)]
+#[derive(Clone, Copy)]
 pub enum Buffer {
     Empty,
     One(Write),
@@ -52,7 +52,7 @@ pub enum Buffer {
 }
 
 // The banks, the last instants, the writes that wait, and whether the record of the newest write's data is the next in the list.
-#[derive(Drop)]
+#[derive(Clone, Copy)]
 pub struct Channel {
     pub banks: [BankTrack; 32],
     pub lasts: LastInstants,
