@@ -1,4 +1,6 @@
 // The calls on an index of a log, of settings as bytes, answers in numbers (document 02, request b).
+#![tactic(auto)]
+
 ghost use Rattle.std.specs.Prelude.{◌≡◌};
 ghost use Rattle.calls_index.specs.Results.{index_answer, index_add_call, index_query_call, judged_as, checked_answer, index_check_call};
 

@@ -1,4 +1,6 @@
 // The calls of the device model on the bytes of a state.
+#![tactic(auto)]
+
 ghost use Rattle.std.specs.Prelude.{◌≡◌, true};
 ghost use Rattle.settings.specs.Settings.{valid};
 ghost use Rattle.spec_calls.specs.Models.{model_fresh, stepped_answer, step_under, step_call};

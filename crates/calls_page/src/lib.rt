@@ -1,4 +1,6 @@
 // A page of the channel, of settings as bytes, with an answer in numbers (document 02, request k).
+#![tactic(auto)]
+
 pub mod draw;
 
 ghost use Rattle.std.specs.Prelude.{◌≡◌, length};

@@ -1,4 +1,6 @@
 // The calls of the planner on the bytes of a state.
+#![tactic(auto)]
+
 pub mod all;
 mod ways;
 

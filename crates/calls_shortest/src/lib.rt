@@ -1,4 +1,6 @@
 // The shortest run of a list that still breaks its rule, of settings as bytes, answers in numbers (document 02 l).
+#![tactic(auto)]
+
 ghost use Rattle.std.specs.Prelude.{◌≡◌};
 ghost use Rattle.calls_shortest.specs.Results.{in_numbers, shortest_call};
 

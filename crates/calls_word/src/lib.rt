@@ -1,4 +1,6 @@
 // Packet words in numbers, as C callers give and take them.
+#![tactic(auto)]
+
 ghost use Rattle.std.specs.Prelude.{◌≡◌, cond, ◌+◌, ◌<◌};
 ghost use Rattle.calls_word.specs.Words.{fields_right, row_command, col_command, command_coded, no_word_answer, why_no_word, word_answer, word_encode_call, row_numbers, col_numbers, no_packet, row_answer, col_answer, packet_answer, word_decode_call};
 

@@ -1,4 +1,6 @@
 // The lowest rule that a record breaks in a state of the channel.
+#![tactic(auto)]
+
 pub mod acts;
 pub mod tests;
 

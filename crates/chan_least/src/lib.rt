@@ -1,4 +1,6 @@
 // The least instant that the rules allow a packet in a state, and the quick way through a packet that breaks none.
+#![tactic(auto)]
+
 pub mod bounds;
 pub mod quick;
 

@@ -1,4 +1,6 @@
 // The state of the channel after a record, and what a record makes of its parts.
+#![tactic(auto)]
+
 pub mod tracks;
 
 ghost use Rattle.std.specs.Prelude.{◌≡◌, ◌+◌, ◌<◌, ◌^◌, get_or, set};

@@ -1,5 +1,7 @@
 // What a record, the write buffer and the banks are to the rules, in the form that code tests: a record as flags with one bank, the
 // tracks of the banks that it concerns, the bounds that last instants ask.
+#![tactic(auto)]
+
 pub mod banks;
 pub mod bounds;
 pub mod neighbours;

@@ -1,4 +1,6 @@
 // The checker of whole lists and whole logs.
+#![tactic(auto)]
+
 pub mod shortest;
 pub mod walked;
 

@@ -1,4 +1,6 @@
 // A walk over the records of a list or of a log of either form: the first that is none or breaks a rule.
+#![tactic(auto)]
+
 mod short;
 mod turn;
 

@@ -1,5 +1,7 @@
 // The listing program (document 01, "Bench runs"). The text is made whole before it is printed, so that one contract,
 // of `put_listing`, says all that is printed; only the reading of the input and the writing of the text are outside.
+#![tactic(auto)]
+
 pub mod entries;
 
 ghost use Rattle.std.specs.Prelude.{◌≡◌, ℕ, ◌≤◌, List, length, take};

@@ -1,4 +1,6 @@
 // Numbers, words and lines as text. A function that puts text takes the place where it starts and answers where it ends.
+#![tactic(auto)]
+
 pub mod lines;
 
 ghost use Rattle.std.specs.Prelude.{◌≡◌, [], ◌∷◌, ◌++◌, ◌+◌, ◌<◌, ◌≤◌, length};

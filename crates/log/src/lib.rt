@@ -1,4 +1,6 @@
 // Logs: a list of records to blocks and back (document 01, "Blocks").
+#![tactic(auto)]
+
 pub mod copy;
 
 use record::Refusal;

@@ -1,4 +1,6 @@
 // Blocks of 512 bytes (document 01, "Blocks"; document 02 i): whether a block is right, what it keeps, and how it is written.
+#![tactic(auto)]
+
 pub mod read;
 pub mod sum;
 pub mod write;

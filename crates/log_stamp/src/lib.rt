@@ -1,4 +1,6 @@
 // Logs that carry their settings (document 02, request i): the tests of a log and of its stamps.
+#![tactic(auto)]
+
 pub mod copy;
 pub mod moved;
 

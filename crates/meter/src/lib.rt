@@ -1,4 +1,6 @@
 // The meter of the data pins (document 02, request g): how many of the last 1,024 cycles carried data.
+#![tactic(auto)]
+
 pub mod counts;
 pub mod feeds;
 

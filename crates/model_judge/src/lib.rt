@@ -1,4 +1,6 @@
 // The lowest rule that a record breaks in the state that a model's bytes say: of the banks only those are read that it concerns.
+#![tactic(auto)]
+
 ghost use Rattle.std.specs.Prelude.{◌≡◌, true, ◌≤◌, length, get_or};
 ghost use Rattle.spec_rules.specs.Neighbour.{context_of};
 ghost use Rattle.spec_rules.specs.Channel.{never, idle};

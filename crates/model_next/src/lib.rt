@@ -1,4 +1,6 @@
 // What a record that is taken changes in the 792 bytes of a model. Instants are stored ones: less 3.
+#![tactic(auto)]
+
 mod cols;
 mod rows;
 

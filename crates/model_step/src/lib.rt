@@ -1,4 +1,6 @@
 // A model call on the bytes of a model: of the banks it reads and writes only those that the record concerns.
+#![tactic(auto)]
+
 ghost use Rattle.std.specs.Prelude.{◌≡◌, true, ◌≤◌, length};
 ghost use Rattle.settings.specs.Settings.{valid};
 ghost use Rattle.record.specs.Record.{record_fits};

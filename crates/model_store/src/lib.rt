@@ -1,4 +1,6 @@
 // The store: which dualoct stands where, what a read takes out of it, what a retire writes and how many bytes that are.
+#![tactic(auto)]
+
 pub mod dualocts;
 pub mod refresh;
 pub mod touching;

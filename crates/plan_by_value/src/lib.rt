@@ -1,5 +1,7 @@
 // The planner by value: a request to its records. Each step of the plan's definition (spec_plan/specs/Plan.antt) is the function of
 // that name.
+#![tactic(auto)]
+
 mod answers;
 mod asks;
 mod drafts;

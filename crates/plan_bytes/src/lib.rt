@@ -1,4 +1,6 @@
 // Numbers in the bytes of a planner, and records as bytes. Sums are made in 64 bits.
+#![tactic(auto)]
+
 pub mod calm;
 
 ghost use Rattle.std.specs.Prelude.{◌≡◌, ◌+◌, ◌<◌, ◌≤◌, max, ◌^◌, length};

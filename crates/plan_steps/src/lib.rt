@@ -1,4 +1,6 @@
 // The steps of the plan on the bytes of a planner.
+#![tactic(auto)]
+
 ghost use Rattle.std.specs.Prelude.{◌≡◌, true, false, not, ◌+◌, ◌*◌, ◌<◌, ◌≤◌, length, eqb, leb};
 ghost use Rattle.packet.specs.declared.RowPacket.TheVariants.{Act};
 ghost use Rattle.spec_rules.specs.Neighbour.{bank_count, context_of, near};

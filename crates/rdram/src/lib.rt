@@ -1,4 +1,6 @@
 // The C entry points. Buffers that are lent must not overlap.
+#![tactic(auto)]
+
 pub mod checks;
 pub mod indexes;
 pub mod logs;

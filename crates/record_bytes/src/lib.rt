@@ -1,4 +1,6 @@
 // Records as bytes.
+#![tactic(auto)]
+
 pub mod quick;
 pub mod requests;
 

@@ -1,5 +1,6 @@
 // What the C calls answer, in numbers. The results of the calls, with every lent buffer, and the theorem of whole runs are in specs/
 // and proofs/.
+#![tactic(auto)]
 
 // What a plan call answers: number is 0 and records what it made, or the refusal's number. banks is how many banks close looked at.
 #[repr(C)]

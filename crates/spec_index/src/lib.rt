@@ -1,4 +1,6 @@
 // Which blocks of a log touch a bank (document 02, request b): definitions and theorems.
+#![tactic(auto)]
+
 use record::Refusal;
 
 // What a call on an index answers: a refusal of document 01's table, the first word of the index that is wrong, missing or surplus,

@@ -1,4 +1,6 @@
 // The device model's state, what a model call answers, and in specs/ what a record does to the model and to the store.
+#![tactic(auto)]
+
 use record::{Dualoct, Refusal};
 use spec_rules::Channel;
 

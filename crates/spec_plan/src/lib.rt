@@ -1,4 +1,6 @@
 // The planner's state, what a plan call answers, and in specs/ and proofs/ the plan of a request with its theorems.
+#![tactic(auto)]
+
 use record::Refusal;
 use settings::PacketAt;
 use spec_rules::Channel;

@@ -1,5 +1,7 @@
 // What a planner, a checker and a device model keep of the packets so far (document 01, "Banks", "Write buffer"). The rules, and
 // the theorem that this state decides them, are in specs/ and proofs/.
+#![tactic(auto)]
+
 use settings::PacketAt;
 
 // "A bank is closed, open on a row, or under refresh."

@@ -1,0 +1,14 @@
+-- `check_by` meets its contract: each arm is a case of the definition.
+use mathlib.Core.Path.{◌∙◌, sym}
+use Rattle.spec_calls.specs.Settings.{under_settings}
+use Rattle.calls_index.specs.Results.{index_check_call}
+use borrow.Author.Rules.{rules}
+use Rattle.calls_index.proofs.check_by.Goals as goal
+
+pub returns-in-Refused : goal.returns-in-Refused
+unfolding under_settings index_check_call
+returns-in-Refused c = rw (sym c.read_settings.ensures ∙ c.in-Refused.is) c.index_answer.ensures
+
+pub returns-in-Accepted : goal.returns-in-Accepted
+unfolding under_settings index_check_call
+returns-in-Accepted c = rw (sym c.read_settings.ensures ∙ c.in-Accepted.is) (rw c.checked.ensures at c.index_answer-in-Accepted.ensures)

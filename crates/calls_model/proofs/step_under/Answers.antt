@@ -1,0 +1,37 @@
+-- `calls_model::step_under` meets its contract: refusal 1, or the step on the model's bytes.
+use mathlib.Core.Path.{sym, ◌∙◌}
+use native.Mathlib.Omega.{arith}
+use borrow.Author.Tests.{not-true, not-false}
+use Rattle.calls_model.proofs.CallLaws.{turned-back, stepped}
+use borrow.Author.Rules.{rules}
+use Rattle.calls_model.proofs.step_under.Goals as goal
+
+pub returns-then-not-model_right : goal.returns-then-not-model_right
+returns-then-not-model_right c =
+    let a = c.args in
+    let all = turned-back a.s a.model.now a.store.now a.given.now a.room.now (sym c.model_right.ensures ∙ not-true _ c.if-not-model_right.true) _ c.answer.ensures in
+    record {
+      value = all.0;
+      model_after = all.1.0;
+      store_after = all.1.1.0;
+      room_after = all.1.1.1;
+    }
+
+pub step-requires : goal.step-requires
+step-requires c =
+    record {
+      s_value = c.requires;
+      model_value = sym c.model_right.ensures ∙ not-false _ c.if-not-model_right.false;
+    }
+
+pub returns : goal.returns
+returns c =
+    let a = c.args in
+    let k = (c.step.ensures.value, (c.step.ensures.model_after, (c.step.ensures.store_after, c.step.ensures.room_after))) in
+    let all = stepped a.s a.model.now a.store.now a.given.now a.room.now (λ i l. omega (arith, c.slice_known-1.given i)) (sym c.model_right.ensures ∙ not-false _ c.if-not-model_right.false) _ k.0 _ k.1.0 _ k.1.1.0 _ k.1.1.1 _ c.answer-2.ensures in
+    record {
+      value = all.0;
+      model_after = all.1.0;
+      store_after = all.1.1.0;
+      room_after = all.1.1.1;
+    }

@@ -1,0 +1,17 @@
+-- `put_blank` meets its contract: after i turns the first i bytes are those of a page without records.
+use Prim.Native.Nat.{ℕ, ◌-◌, ◌≤◌, ◌<◌}
+use mathlib.Core.Path.{◌≡◌, ◌∙◌, sym}
+use native.Mathlib.Omega.{arith}
+use lib.ListN.{length, get_or, length-set}
+use Rattle.spec_page.specs.Page.{page_bytes}
+use Rattle.spec_page.specs.Form.Bytes.{byte_by}
+use Rattle.calls_page.specs.Form.Paint.{blank}
+use Rattle.calls_page.proofs.draw.BlankLaws.{below_next, blank-page}
+use borrow.Author.Rules.{rules}
+use Rattle.calls_page.proofs.draw.put_blank.Given as goal
+
+abbrev pub invariant-loop-i : goal.invariant-loop-i
+invariant-loop-i l = (l.i ≤ page_bytes) × (length l.out ≡ page_bytes) × ((k : ℕ) → k < l.i → get_or l.out k 0 ≡ byte_by blank l.start k)
+
+abbrev pub decreases-loop-i : goal.decreases-loop-i
+decreases-loop-i l = page_bytes - l.i

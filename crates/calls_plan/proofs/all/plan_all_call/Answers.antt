@@ -1,0 +1,34 @@
+-- `calls_plan::all::plan_all_call` meets its contract: each arm is a case of the definition.
+use mathlib.Core.Path.{refl, sym, ◌∙◌}
+use Rattle.settings.proofs.SettingsLaws.{accepted-valid}
+use Rattle.spec_calls.specs.Settings.{under_settings}
+use Rattle.spec_calls.specs.PlanAll.{plan_all_call}
+use Rattle.spec_calls.proofs.OneCall.{call-under}
+use borrow.Author.Rules.{rules}
+use Rattle.calls_plan.proofs.all.plan_all_call.Goals as goal
+
+pub plan_all_under-requires : goal.plan_all_under-requires
+plan_all_under-requires c = accepted-valid c.args.settings.now _ (sym c.read_settings.ensures ∙ c.in-Accepted.is)
+
+pub returns-in-Refused : goal.returns-in-Refused
+unfolding plan_all_call under_settings
+returns-in-Refused c =
+    let all = rw (sym c.read_settings.ensures ∙ c.in-Refused.is) (c.none_planned.ensures, (refl, refl)) in
+    record {
+      value = all.0;
+      planner_after = all.1.0;
+      room_after = all.1.1;
+    }
+
+pub returns-in-Accepted : goal.returns-in-Accepted
+unfolding plan_all_call under_settings
+returns-in-Accepted c =
+    let r = (PLACE c After-read_settings) in
+    let z = r.before.before.before.before.before in
+    let e = sym r.read-settings.ensures ∙ c.in-Accepted.is in
+    let all = rw (call-under z.args.settings.now _ e, e) (c.plan_all_under.ensures.value, (c.plan_all_under.ensures.planner_after, c.plan_all_under.ensures.room_after)) in
+    record {
+      value = all.0;
+      planner_after = all.1.0;
+      room_after = all.1.1;
+    }

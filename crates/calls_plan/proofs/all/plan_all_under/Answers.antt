@@ -1,0 +1,53 @@
+-- `calls_plan::all::plan_all_under` meets its contract: refusal 1 or 13, or the requests in turn.
+use Prim.Native.Nat.{◌%◌}
+use mathlib.Core.Path.{◌≡◌, refl, sym, ◌∙◌}
+use mathlib.Core.Logic.{◌≢◌}
+use lib.ListN.{length}
+use native.Mathlib.Omega.{arith}
+use borrow.Author.Tests.{eq-eqb, ne_eqb, not-true, not-false}
+use Rattle.spec_calls.specs.PlanAll.{plan_all_under}
+use borrow.Author.Rules.{rules}
+use Rattle.calls_plan.proofs.all.plan_all_under.Goals as goal
+
+pub returns-then-not-right_state : goal.returns-then-not-right_state
+unfolding plan_all_under
+returns-then-not-right_state c =
+    let all = rw (sym c.right_state.ensures ∙ not-true _ c.if-not-right_state.true) (c.none_planned.ensures, (refl, refl)) in
+    record {
+      value = all.0;
+      planner_after = all.1.0;
+      room_after = all.1.1;
+    }
+
+pub returns-then-requests-ne0 : goal.returns-then-requests-ne0
+unfolding plan_all_under
+returns-then-requests-ne0 c =
+    let n = length c.args.requests.now in
+    let broken : n % 24 ≢ 0 = λ z. omega (arith, c.if-requests-ne0.true) in
+    let all = rw (sym c.right_state.ensures ∙ not-false _ c.if-not-right_state.false, ne_eqb (n % 24) 0 broken)
+    (c.none_planned-then-requests-ne0.ensures, (refl, refl)) in
+    record {
+      value = all.0;
+      planner_after = all.1.0;
+      room_after = all.1.1;
+    }
+
+pub plan_each-requires : goal.plan_each-requires
+plan_each-requires c =
+    record {
+      s_value = c.requires;
+      planner_value = sym c.right_state.ensures ∙ not-false _ c.if-not-right_state.false;
+    }
+
+pub returns : goal.returns
+unfolding plan_all_under
+returns c =
+    let i = (PLACE c Else2) in
+    let n = length i.before.before.before.before.before.before.before.args.requests.now in
+    let whole : n % 24 ≡ 0 = omega (arith, i.if2.false) in
+    let all = rw (sym i.before.before.right-state.ensures ∙ not-false _ i.before.if1.false, eq-eqb (n % 24) 0 whole) (c.plan_each.ensures.value, (c.plan_each.ensures.planner_after, c.plan_each.ensures.room_after)) in
+    record {
+      value = all.0;
+      planner_after = all.1.0;
+      room_after = all.1.1;
+    }

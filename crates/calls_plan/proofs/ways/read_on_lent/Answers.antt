@@ -1,0 +1,35 @@
+-- `calls_plan::ways::read_on_lent` meets its contract: a read is not late here, and its records and the next state are put.
+use mathlib.Core.Path.{◌≡◌, refl}
+use mathlib.Core.Bool.{false}
+use native.Mathlib.Omega.{arith}
+use Rattle.record.specs.declared.Request.{Request}
+use Rattle.record.specs.declared.Request.TheVariants.{Read}
+use Rattle.spec_plan.specs.PlannerBytes.{planner_in}
+use Rattle.spec_plan.specs.Call.{unretired}
+use Rattle.plan_in_place.proofs.Called.{rested-low, calm-timely}
+use Rattle.calls_plan.proofs.CallLaws.{enough, in-time}
+use borrow.Author.Rules.{rules}
+use Rattle.calls_plan.proofs.ways.read_on_lent.Goals as goal
+
+pub plan_read-made-requires : goal.plan_read-made-requires
+plan_read-made-requires c =
+    record {
+      s_value = c.requires.s_value;
+      planner_value = c.requires.planner_value;
+      in_place = c.requires.in_place;
+      in_bounds = c.requires.in_bounds;
+    }
+
+pub returns : goal.returns
+unfolding unretired
+returns c =
+    let k = (c.plan_read-made.ensures.planner_after, (c.plan_read-made.ensures.room_after, (c.plan_read-made.ensures.records_value, (c.plan_read-made.ensures.banks_value, c.plan_read-made.ensures.due_value)))) in
+    let q : Request = Read c.args.at false in
+    let u : unretired q (planner_in c.args.planner.now) ≡ false = refl in
+    let low = rested-low _ _ c.requires.s_value (λ i l. omega (arith, c.slice_known-1.given i)) c.requires.planner_value 999990000 c.requires.below in
+    let all = in-time c.args.s c.args.planner.now q c.args.room.now c.requires.planner_value u (enough c.args.s c.args.planner.now q c.args.room.now c.requires.planner_value u c.args.room.now c.requires.in_bounds) (calm-timely _ _ low q tt) _ k.1.1.0 _ k.1.1.1.0 _ c.answer.ensures _ _ k.0 k.1.0 in
+    record {
+      value = all.0;
+      planner_after = all.1.0;
+      room_after = all.1.1;
+    }

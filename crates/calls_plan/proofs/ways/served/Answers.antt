@@ -1,0 +1,40 @@
+-- `calls_plan::ways::served` meets its contract: one of the two ways.
+use borrow.Author.Tests.{leb-true}
+use Rattle.spec_rules.proofs.Bools.{and_left, and_right}
+use borrow.Author.Rules.{rules}
+use Rattle.calls_plan.proofs.ways.served.Goals as goal
+
+pub on_lent-requires : goal.on_lent-requires
+on_lent-requires c =
+    let test = c.if-quick-room.true in
+    record {
+      s_value = c.requires.s_value;
+      planner_value = c.requires.planner_value;
+      below = c.requires.below (and_left c.args.quick _ test);
+      granted = c.requires.granted;
+      in_bounds = leb-true 1024 _ (and_right c.args.quick _ test);
+    }
+
+pub returns-then-quick-room : goal.returns-then-quick-room
+returns-then-quick-room c =
+    record {
+      value = c.on_lent.ensures.value;
+      planner_after = c.on_lent.ensures.planner_after;
+      room_after = c.on_lent.ensures.room_after;
+    }
+
+pub beside-requires : goal.beside-requires
+beside-requires c =
+    record {
+      s_value = c.requires.s_value;
+      planner_value = c.requires.planner_value;
+      granted = c.requires.granted;
+    }
+
+pub returns : goal.returns
+returns c =
+    record {
+      value = c.beside.ensures.value;
+      planner_after = c.beside.ensures.planner_after;
+      room_after = c.beside.ensures.room_after;
+    }

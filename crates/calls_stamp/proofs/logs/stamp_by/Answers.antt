@@ -1,0 +1,24 @@
+-- `stamp_by` meets its contract: each arm is a case of the definition.
+use mathlib.Core.Path.{◌∙◌, sym}
+use Rattle.log.specs.Log.{copied}
+use Rattle.spec_calls.specs.Settings.{under_settings}
+use Rattle.spec_calls.specs.Logs.{copy_call}
+use Rattle.calls_stamp.specs.Results.{stamp_call}
+use Rattle.calls_stamp.proofs.TripLaws.{accepted-is}
+use borrow.Author.Rules.{rules}
+use Rattle.calls_stamp.proofs.logs.stamp_by.Goals as goal
+
+pub stamp-requires : goal.stamp-requires
+stamp-requires c = (accepted-is _ _ (sym c.read_settings.ensures ∙ c.in-Accepted.is)).0
+
+pub returns-in-Refused : goal.returns-in-Refused
+unfolding copied under_settings copy_call stamp_call
+returns-in-Refused c =
+    let e = sym c.read_settings.ensures ∙ c.in-Refused.is in
+    (rw e c.copy_answer.ensures, rw e)
+
+pub returns-in-Accepted : goal.returns-in-Accepted
+unfolding copied under_settings copy_call stamp_call
+returns-in-Accepted c =
+    let e = sym c.read_settings.ensures ∙ c.in-Accepted.is in
+    (rw e (rw c.stamp.ensures.0 at c.copy_answer-in-Accepted.ensures), rw e c.stamp.ensures.1)

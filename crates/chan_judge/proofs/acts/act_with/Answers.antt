@@ -1,0 +1,11 @@
+-- `chan_judge::acts::act_with` meets its contract: the distance is that of the two banks.
+use borrow.Author.Rules.{rules}
+use Rattle.chan_judge.proofs.acts.act_with.Goals as goal
+
+pub returns : goal.returns
+returns c =
+    rw (
+      c.later.ensures,
+      c.after_gap.ensures,
+      c.act_gap.ensures,
+    )

@@ -1,0 +1,15 @@
+-- `chan_judge::tests::row_ready` meets its contract: the three distances.
+use borrow.Author.Rules.{rules}
+use Rattle.chan_judge.proofs.tests.row_ready.Goals as goal
+
+pub returns : goal.returns
+returns c =
+    rw (
+      c.apart-2.ensures,
+      c.apart.ensures,
+      c.keeps-write.ensures,
+      c.since_wide.ensures,
+      c.minus-least.ensures,
+      c.wide32-2.ensures.0,
+      c.wide32.ensures.0,
+    )

@@ -1,0 +1,9 @@
+-- `chan_least::act_in` meets its contract: each way out decides the test.
+use borrow.Author.Rules.{rules}
+use Rattle.chan_least.proofs.act_in.Goals as goal
+
+pub returns-then-opens : goal.returns-then-opens
+returns-then-opens c = rw (c.act_bound.ensures, c.if-opens.true)
+
+pub returns : goal.returns
+returns c = rw c.if-opens.false

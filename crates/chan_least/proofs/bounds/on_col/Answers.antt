@@ -1,0 +1,6 @@
+-- `chan_least::bounds::on_col` meets its contract: the bounds are those of the definition.
+use borrow.Author.Rules.{rules}
+use Rattle.chan_least.proofs.bounds.on_col.Goals as goal
+
+pub returns : goal.returns
+returns c = rw (c.later-2.ensures, c.later.ensures, c.after_gap.ensures, c.wide32.ensures.0)

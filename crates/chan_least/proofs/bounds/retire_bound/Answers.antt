@@ -1,0 +1,14 @@
+-- `chan_least::bounds::retire_bound` meets its contract: the bounds are those of the definition.
+use Rattle.chan_least.specs.Form.Least.{retire_bound}
+use borrow.Author.Rules.{rules}
+use Rattle.chan_least.proofs.bounds.retire_bound.Goals as goal
+
+pub returns : goal.returns
+unfolding retire_bound
+returns c =
+    rw (
+      c.later.ensures,
+      c.after_gap.ensures,
+      c.wide32-2.ensures.0,
+      c.wide32.ensures.0,
+    )

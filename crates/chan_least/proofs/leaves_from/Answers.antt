@@ -1,0 +1,6 @@
+-- `chan_least::leaves_from` meets its contract: the sum in 64 bits, and rules 12 and 17.
+use borrow.Author.Rules.{rules}
+use Rattle.chan_least.proofs.leaves_from.Goals as goal
+
+pub returns : goal.returns
+returns c = rw (c.may_stay.ensures, c.wide32-2.ensures.0, c.wide32.ensures.0)

@@ -1,0 +1,16 @@
+-- `chan_view::banks::is_open` meets its contract: by the state.
+use Rattle.spec_rules.specs.History.{is_open}
+use borrow.Author.Rules.{rules}
+use Rattle.chan_view.proofs.banks.is_open.Goals as goal
+
+pub returns-in-Closed : goal.returns-in-Closed
+unfolding is_open
+returns-in-Closed c = rw c.in-Closed.is
+
+pub returns-in-Open : goal.returns-in-Open
+unfolding is_open
+returns-in-Open c = rw c.in-Open.is
+
+pub returns-in-Refresh : goal.returns-in-Refresh
+unfolding is_open
+returns-in-Refresh c = rw c.in-Refresh.is

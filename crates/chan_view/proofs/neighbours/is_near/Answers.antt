@@ -1,0 +1,15 @@
+-- `chan_view::neighbours::is_near` meets its contract: the tests are those of the definition.
+use Rattle.spec_rules.specs.Neighbour.{in_runs, context_of}
+use borrow.Author.Rules.{rules}
+use Rattle.chan_view.proofs.neighbours.is_near.Goals as goal
+
+pub returns : goal.returns
+unfolding context_of in_runs
+returns c =
+    rw (
+      c.in_run.ensures,
+      c.wide32-4.ensures.0,
+      c.wide32-3.ensures.0,
+      c.wide32-2.ensures.0,
+      c.wide32.ensures.0,
+    )

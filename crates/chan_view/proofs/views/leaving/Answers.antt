@@ -1,0 +1,11 @@
+-- `chan_view::views::leaving` meets its contract: the sum in 64 bits.
+use borrow.Author.Rules.{rules}
+use Rattle.chan_view.proofs.views.leaving.Goals as goal
+
+pub returns : goal.returns
+returns c =
+    rw (
+      c.wide32-3.ensures.0,
+      c.wide32-2.ensures.0,
+      c.wide32.ensures.0,
+    )

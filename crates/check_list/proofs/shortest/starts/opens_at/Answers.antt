@@ -1,0 +1,17 @@
+-- `opens_at` meets its contract: the record that is read is record i of the list.
+use mathlib.Core.Path.{sym, ◌∙◌}
+use Rattle.spec_rules.specs.Packets.{traits}
+use Rattle.spec_check.specs.Check.{known}
+use Rattle.check_list.proofs.shortest.RunLaws.{record-known}
+use borrow.Author.Rules.{rules}
+use Rattle.check_list.proofs.shortest.starts.opens_at.Goals as goal
+
+pub returns-in-NoRecord : goal.returns-in-NoRecord
+unfolding traits known
+returns-in-NoRecord c =
+    let a = c.args in
+    rw (record-known a.s a.list.now a.i c.requires, sym c.read_record-read.ensures ∙ c.in-NoRecord.is)
+
+pub returns-in-Known : goal.returns-in-Known
+unfolding known
+returns-in-Known c = rw (record-known c.args.s c.args.list.now c.args.i c.requires, sym c.read_record-read.ensures ∙ c.in-Known.is) c.opens.ensures

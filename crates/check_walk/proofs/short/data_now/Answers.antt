@@ -1,0 +1,6 @@
+-- `check_walk::short::data_now` meets its contract: the two callees.
+use borrow.Author.Rules.{rules}
+use Rattle.check_walk.proofs.short.data_now.Goals as goal
+
+pub returns : goal.returns
+returns c = rw (c.data_rule.ensures, c.held_of.ensures)

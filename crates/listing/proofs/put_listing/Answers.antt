@@ -1,0 +1,29 @@
+-- `put_listing` meets its contract: the text of the requests or of the refusal, and the last line.
+use mathlib.Core.Path.{sym, ◌∙◌}
+use native.Mathlib.Omega.{arith}
+use lib.ListN.{length}
+use Rattle.listing.proofs.ListingLaws.{length-fits, length_whole, listed, turned-back}
+use borrow.Author.Rules.{rules}
+use Rattle.listing.proofs.put_listing.Goals as goal
+
+pub put_requests-total-requires : goal.put_requests-total-requires
+put_requests-total-requires c =
+    let n = length c.args.input.now in
+    let right = sym c.length_right.ensures ∙ c.if-length_right.true in
+    (length-fits n right, length_whole n right, omega arith)
+
+pub returns-then-length_right : goal.returns-then-length_right
+returns-then-length_right c =
+    let q = (PLACE c After-put_requests) in
+    let l = q.before.before.before in
+    let a = l.before.before.before.args in
+    listed a.out.now a.input.now q.put-requests.result.records (omega (arith, q.put-requests.ensures.1.1)) (sym l.length-right.ensures ∙ q.before.before.if1.true)
+    q.put-requests.ensures.0 q.put-requests.ensures.1.0 c.put_records.ensures.0
+
+pub returns-else-length_right : goal.returns-else-length_right
+returns-else-length_right c =
+    let q = (PLACE c After-put_refused) in
+    let l = q.before.before.before in
+    let a = l.before.before.before.args in
+    turned-back a.out.now a.input.now (omega (arith, q.Put-refused.ensures.1)) (sym l.length-right.ensures ∙ q.before.before.if1.false)
+    q.Put-refused.ensures.0 c.put_records-else-length_right.ensures.0

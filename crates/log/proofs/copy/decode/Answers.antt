@@ -1,0 +1,25 @@
+-- `decode` meets its contract: the list is written only where the answer is a count, and then every test was passed.
+use mathlib.Core.Path.{◌∙◌, sym}
+use native.Mathlib.Omega.{arith}
+use Rattle.log.specs.Log.{decode_log, copied}
+use Rattle.log.proofs.CopyLaws.{decoded}
+use Rattle.log_block.proofs.ListThenLog.{list-whole}
+use borrow.Author.Rules.{rules}
+use Rattle.log.proofs.copy.decode.Goals as goal
+
+pub read_list-requires : goal.read_list-requires
+read_list-requires c =
+    let p = decoded _ _ _ _ _ (sym c.decode_answer-answer.ensures ∙ c.in-Count.is) in
+    record {
+      le_per = c.requires;
+      log_value = p.right;
+      log_in_bounds = omega (arith, p.room-enough, list-whole _ c.requires _ p.right);
+    }
+
+pub returns-in-Count : goal.returns-in-Count
+unfolding decode_log copied
+returns-in-Count c = (c.decode_answer-answer.ensures, rw (sym c.decode_answer-answer.ensures ∙ c.in-Count.is) c.read_list.ensures)
+
+pub returns-in_default : goal.returns-in_default
+unfolding decode_log copied
+returns-in_default c = (c.decode_answer-answer.ensures, rw (sym c.decode_answer-answer.ensures ∙ c.in_default.is))

@@ -1,0 +1,23 @@
+-- `encode` meets its contract: the log is written only where the answer is a count, and then every test was passed.
+use mathlib.Core.Path.{◌∙◌, sym}
+use Rattle.log.specs.Log.{encode_log, copied}
+use Rattle.log.proofs.CopyLaws.{encoded}
+use borrow.Author.Rules.{rules}
+use Rattle.log.proofs.copy.encode.Goals as goal
+
+pub write_log-requires : goal.write_log-requires
+write_log-requires c =
+    let p = encoded _ _ _ _ _ (sym c.encode_answer-answer.ensures ∙ c.in-Count.is) in
+    record {
+      le_per = c.requires;
+      list_in_bounds = p.room-enough;
+      list_bound = p.number_fits;
+    }
+
+pub returns-in-Count : goal.returns-in-Count
+unfolding encode_log copied
+returns-in-Count c = (c.encode_answer-answer.ensures, rw (sym c.encode_answer-answer.ensures ∙ c.in-Count.is) c.write_log.ensures)
+
+pub returns-in_default : goal.returns-in_default
+unfolding encode_log copied
+returns-in_default c = (c.encode_answer-answer.ensures, rw (sym c.encode_answer-answer.ensures ∙ c.in_default.is))

@@ -1,0 +1,23 @@
+-- `faults` meets its contract: the blocks before block k are right in every turn, and the first bad record of theirs is known.
+use Prim.Native.Nat.{ℕ, ◌+◌, ◌-◌, ◌<◌, ◌≤◌}
+use mathlib.Core.Path.{◌≡◌, refl, sym, ◌∙◌}
+use mathlib.Core.Bool.{true}
+use native.Mathlib.Omega.{arith}
+use lib.Dec.{eqb}
+use borrow.Author.Count.{below_more}
+use borrow.Author.Tests.{not-true, not-false}
+use Rattle.num.specs.Search.{first_false}
+use Rattle.num.proofs.SearchLaws.{first-at, first-none}
+use Rattle.record.specs.Record.{first_bad}
+use Rattle.log_block.specs.Block.{blocks_in, block_at, first_bad_block, list_up_to}
+use Rattle.log_block.proofs.BlockLaws.{right_at}
+use Rattle.log_block.proofs.OneBlock.{right_of}
+use Rattle.log.proofs.BadLaws.{bad-next}
+use borrow.Author.Rules.{rules}
+use Rattle.log.proofs.copy.faults.Given as goal
+
+abbrev pub invariant-loop-k : goal.invariant-loop-k
+invariant-loop-k l = (l.k ≤ l.n) × ((i : ℕ) → i < l.k → right_at l.per l.log i ≡ true) × (l.bad ≡ first_bad l.s (list_up_to l.log l.k))
+
+abbrev pub decreases-loop-k : goal.decreases-loop-k
+decreases-loop-k l = l.n - l.k

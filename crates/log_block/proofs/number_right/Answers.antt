@@ -1,0 +1,6 @@
+-- `log_block::number_right` meets its contract: one comparison.
+use Rattle.std.proofs.Common.{rules}
+use Rattle.log_block.proofs.number_right.Goals as goal
+
+pub returns : goal.returns
+returns c = rw (c.wide32.ensures.0, c.u32_at.ensures)

@@ -1,0 +1,19 @@
+-- `log_block::write::write_fields` meets its contract: five stores, one after the other, are the body of the block.
+use Rattle.std.proofs.Common.{arith, rules}
+use Rattle.log_block.proofs.WriteLaws.{body-stores}
+use Rattle.log_block.proofs.write.write_fields.Goals as goal
+
+pub returns : goal.returns
+returns c =
+    let k1 = (PLACE c After-put_bytes) in
+    let k2 = k1.before.before.before.before in
+    let a = k2.before.before.before.before.args in
+    rw (
+      c.put_zeros-2.ensures,
+      c.put_u32-2.ensures,
+      c.put_u32.ensures,
+      c.wide32.ensures.0,
+      k1.put-bytes.ensures,
+      k2.put-zeros.ensures,
+    )
+    (body-stores a.b.now a.stamp.now a.k a.n (omega arith) (omega arith))

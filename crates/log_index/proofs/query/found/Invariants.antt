@@ -1,0 +1,16 @@
+-- `found` meets its contract: n is the count of the words passed so far.
+use Prim.Native.Nat.{◌-◌, ◌≤◌}
+use mathlib.Core.Path.{◌≡◌, refl, sym}
+use native.Mathlib.Omega.{arith}
+use Rattle.num.specs.Marks.{count_up_to}
+use Rattle.num.proofs.bits.CountLaws.{count_next, count-le, at-most-1}
+use Rattle.spec_index.specs.Index.{index_words}
+use Rattle.spec_index.specs.Query.{has_bit}
+use borrow.Author.Rules.{rules}
+use Rattle.log_index.proofs.query.found.Given as goal
+
+abbrev pub invariant-loop-k : goal.invariant-loop-k
+invariant-loop-k l = (l.k ≤ l.words) × (l.n ≡ count_up_to (has_bit l.index l.bank) l.k)
+
+abbrev pub decreases-loop-k : goal.decreases-loop-k
+decreases-loop-k l = l.words - l.k

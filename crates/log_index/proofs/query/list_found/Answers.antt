@@ -1,0 +1,56 @@
+-- `list_found` meets its contract: after k turns the blocks below k are listed.
+use Prim.Native.Nat.{◌+◌, ◌-◌, ◌≤◌}
+use mathlib.Core.Path.{◌≡◌, refl, sym, ap, ◌∙◌}
+use native.Mathlib.Omega.{arith}
+use lib.ListN.{length}
+use Rattle.num.specs.Bytes.{splice}
+use Rattle.num.proofs.SpliceLaws.{splice-none}
+use Rattle.num.specs.Marks.{count_up_to}
+use Rattle.num.proofs.bits.CountLaws.{count_next}
+use Rattle.spec_index.specs.Index.{index_words}
+use Rattle.spec_index.specs.Query.{has_bit, numbers_where, queried}
+use Rattle.spec_index.proofs.ListLaws.{count-mono}
+use Rattle.log_index.proofs.query.QueryLaws.{listed-turn, listed-held}
+use borrow.Author.Rules.{rules}
+use Rattle.log_index.proofs.query.list_found.Goals as goal
+
+pub loop-k-init : goal.loop-k-init
+unfolding count_up_to numbers_where
+loop-k-init c = (omega arith, refl, splice-none c.args.out.now 0)
+
+pub put_found-n-requires : goal.put_found-n-requires
+put_found-n-requires c =
+    let held : length c.loop-k.out ≡ length c.args.out.now = let f = has_bit c.args.index.now c.args.bank in
+    let m = count-mono f (index_words c.args.index.now) c.loop-k.k c.loop-k.invariant.0 in
+    ap length c.loop-k.invariant.2 ∙ listed-held f c.args.out.now c.loop-k.k (omega (arith, c.requires.1)) in
+    let a = (PLACE c Start) in
+    let f = has_bit a.args.index.now a.args.bank in
+    let k = c.loop-k.k in
+    let m = count-mono f (index_words a.args.index.now) (k + 1) (omega (arith, c.loop-k-test.true)) in
+    let h = held in
+    let n = count_next f k in
+    (a.requires.0, c.loop-k-test.true, omega (arith, a.requires.1, c.loop-k.invariant.1))
+
+pub loop-k-preserved : goal.loop-k-preserved
+loop-k-preserved c =
+    let a = (PLACE c Start) in
+    let f = has_bit a.args.index.now a.args.bank in
+    let k = c.loop-k.k in
+    let m = count-mono f (index_words a.args.index.now) k c.loop-k.invariant.0 in (
+      search rules,
+      rw (c.put_found-n.ensures.0, c.loop-k.invariant.1) (sym (count_next f k)),
+      rw (c.put_found-n.ensures.1, c.loop-k.invariant.2, c.loop-k.invariant.1) (listed-turn f a.args.out.now k (omega (arith, a.requires.1))),
+    )
+
+pub shape_of-out : goal.shape_of-out
+shape_of-out c =
+    let held : length c.loop-k.out ≡ length c.args.out.now = let f = has_bit c.args.index.now c.args.bank in
+    let m = count-mono f (index_words c.args.index.now) c.loop-k.k c.loop-k.invariant.0 in
+    ap length c.loop-k.invariant.2 ∙ listed-held f c.args.out.now c.loop-k.k (omega (arith, c.requires.1)) in
+    held
+
+pub returns : goal.returns
+unfolding queried
+returns c =
+    let e : c.loop-k.k ≡ index_words c.args.index.now = omega arith in
+    rw e at c.loop-k.invariant.2

@@ -1,0 +1,43 @@
+-- `query_answer` meets its contract: the tests are the definition's, in their order.
+use mathlib.Core.Path.{◌∙◌, sym}
+use borrow.Author.Tests.{eq-eqb, ne_eqb, lt-ltb, le-ltb}
+use Rattle.spec_index.specs.declared.Indexed.TheVariants.{Count}
+use Rattle.spec_index.specs.Index.{index_words}
+use Rattle.spec_index.specs.Answers.{query_answer}
+use Rattle.log_index.proofs.query.QueryLaws.{beside-refused, beside-differs, beside-passed, beside-next}
+use borrow.Author.Rules.{rules}
+use Rattle.log_index.proofs.query.query_answer.Goals as goal
+
+pub returns-then-log-ne0 : goal.returns-then-log-ne0
+unfolding query_answer
+returns-then-log-ne0 c = rw (ne_eqb _ 0 c.if-log-ne0.true)
+
+pub returns-then-index-ne0 : goal.returns-then-index-ne0
+unfolding query_answer
+returns-then-index-ne0 c = rw (eq-eqb _ 0 c.if-log-ne0.false, ne_eqb _ 0 c.if-index-ne0.true)
+
+pub returns-then-bank-ge32 : goal.returns-then-bank-ge32
+unfolding query_answer
+returns-then-bank-ge32 c = rw (eq-eqb _ 0 c.if-log-ne0.false, eq-eqb _ 0 c.if-index-ne0.false, le-ltb _ _ c.if-bank-ge32.true)
+
+pub returns-in-Refused : goal.returns-in-Refused
+unfolding query_answer
+returns-in-Refused c =
+    let a = c.args in
+    rw (eq-eqb _ 0 c.if-log-ne0.false, eq-eqb _ 0 c.if-index-ne0.false, lt-ltb _ _ c.if-bank-ge32.false)
+    (sym (beside-refused a.s a.log.now a.index.now (index_words a.index.now) _ _ (sym c.beside.ensures ∙ c.in-Refused.is)))
+
+pub returns-in-Differs : goal.returns-in-Differs
+unfolding query_answer
+returns-in-Differs c =
+    let a = c.args in
+    rw (eq-eqb _ 0 c.if-log-ne0.false, eq-eqb _ 0 c.if-index-ne0.false, lt-ltb _ _ c.if-bank-ge32.false)
+    (sym (beside-differs a.s a.log.now a.index.now (index_words a.index.now) _ _ (sym c.beside.ensures ∙ c.in-Differs.is)))
+
+pub returns-in-Count : goal.returns-in-Count
+unfolding query_answer
+returns-in-Count c =
+    let a = c.args in
+    let b = (beside-passed a.s a.log.now a.index.now (Count (index_words a.index.now)) _ (sym c.beside.ensures ∙ c.in-Count.is)).0 in
+    rw (eq-eqb _ 0 c.if-log-ne0.false, eq-eqb _ 0 c.if-index-ne0.false, lt-ltb _ _ c.if-bank-ge32.false)
+    (rw c.found.ensures at c.fits2.ensures ∙ sym (beside-next a.s a.log.now a.index.now _ b))

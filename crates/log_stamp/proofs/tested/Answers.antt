@@ -1,0 +1,19 @@
+-- `tested` meets its contract: block 0 says no settings, and 12 or 17 is answered, or the log is tested under them.
+use mathlib.Core.Path.{◌≡◌, ◌∙◌, sym}
+use Rattle.log_stamp.proofs.StampLaws.{said-range, said-is, none-answer}
+use borrow.Author.Rules.{rules}
+use Rattle.log_stamp.proofs.tested.Goals as goal
+
+pub tested_under-requires : goal.tested_under-requires
+tested_under-requires c =
+    let log = c.args.log.now in
+    let e = sym c.settings_of.ensures ∙ c.in-Accepted.is in
+    record {
+      log_value = said-range log _ e;
+      s_value = said-is log _ e;
+    }
+
+pub returns-in-Refused : goal.returns-in-Refused
+returns-in-Refused c =
+    let log = c.args.log.now in
+    none-answer log (sym c.settings_of.ensures ∙ c.in-Refused.is) _ c.unstamped.ensures

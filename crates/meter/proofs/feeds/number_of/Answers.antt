@@ -1,0 +1,20 @@
+-- `meter::feeds::number_of` meets its contract: each arm is a case of the definition.
+use Rattle.meter.specs.Answer.{feed_number}
+use borrow.Author.Rules.{rules}
+use Rattle.meter.proofs.feeds.number_of.Goals as goal
+
+pub returns-in-Accepted : goal.returns-in-Accepted
+unfolding feed_number
+returns-in-Accepted c = rw c.in-Accepted.is
+
+pub returns-in-Settings : goal.returns-in-Settings
+unfolding feed_number
+returns-in-Settings c = rw c.in-Settings.is
+
+pub returns-in-Horizon : goal.returns-in-Horizon
+unfolding feed_number
+returns-in-Horizon c = rw c.in-Horizon.is
+
+pub returns-in-Overlap : goal.returns-in-Overlap
+unfolding feed_number
+returns-in-Overlap c = rw c.in-Overlap.is

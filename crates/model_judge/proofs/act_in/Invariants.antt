@@ -1,0 +1,18 @@
+-- `model_judge::act_in` meets its contract: asked is what the banks below x ask, in every turn.
+use Prim.Native.Nat.{◌-◌, ◌≤◌}
+use mathlib.Core.Path.{◌≡◌, refl, ◌∙◌}
+use native.Mathlib.Omega.{arith}
+use Rattle.spec_rules.specs.Checks.{max_up_to}
+use Rattle.spec_state.specs.ChannelBytes.{channel_in}
+use Rattle.state_bytes.proofs.RangeLaws.{bank-in-range}
+use Rattle.chan_judge.specs.Form.Tests.{act_term, act_over}
+use Rattle.chan_judge.proofs.ActLaws.{acts-next}
+use Rattle.model_judge.proofs.ReadLaws.{opened-read}
+use borrow.Author.Rules.{rules}
+use Rattle.model_judge.proofs.act_in.Given as goal
+
+abbrev pub invariant-loop-x : goal.invariant-loop-x
+invariant-loop-x l = (l.x ≤ 32) × (l.asked ≡ max_up_to (act_term l.s (channel_in l.b).banks l.bank) l.x)
+
+abbrev pub decreases-loop-x : goal.decreases-loop-x
+decreases-loop-x l = 32 - l.x

@@ -1,0 +1,77 @@
+-- `model_judge::packet_in` meets its contract: the tracks are those of the banks that the packet concerns.
+use mathlib.Core.Path.{◌∙◌}
+use Rattle.spec_state.specs.ChannelBytes.{channel_in}
+use Rattle.chan_judge.proofs.JudgeLaws.{rule-read, rule-unopened}
+use Rattle.model_judge.proofs.ReadLaws.{banks-count, lasts-read, state-enough}
+use borrow.Author.Rules.{rules}
+use Rattle.model_judge.proofs.packet_in.Goals as goal
+
+pub returns-then-v : goal.returns-then-v
+returns-then-v c =
+    let m = (PLACE c After-track_for3) in
+    let n = m.before.before in
+    let z = n.before.before.before.before.before in
+    let b = z.args.b.now in
+    rw (
+      c.packet_rule.ensures,
+      c.act_in.ensures,
+      c.lasts_at-l.ensures,
+      c.around-k.ensures,
+      c.state_alone-next.ensures,
+      c.track_for.ensures,
+      c.track_for-held.ensures,
+      m.track-for3.ensures,
+      m.before.high-of.ensures,
+      n.track-for2.ensures,
+      n.before.low_of.ensures,
+      n.before.before.centre.ensures,
+      n.before.before.before.track-for.ensures,
+      lasts-read b,
+    )
+    (state-enough z.args.s z.args.v z.args.h (channel_in b).banks _ (channel_in b).lasts
+    ∙ rule-read z.args.s z.args.v z.args.h (channel_in b).banks (banks-count b) (channel_in b).lasts)
+
+pub returns : goal.returns
+returns c =
+    let m = (PLACE c After-track_for3) in
+    let n = m.before.before in
+    let z = n.before.before.before.before.before in
+    let b = z.args.b.now in
+    rw (
+      c.packet_rule-2.ensures,
+      c.lasts_at-l.ensures,
+      c.around-k.ensures,
+      c.state_alone-next.ensures,
+      c.track_for.ensures,
+      c.track_for-held.ensures,
+      m.track-for3.ensures,
+      m.before.high-of.ensures,
+      n.track-for2.ensures,
+      n.before.low_of.ensures,
+      n.before.before.centre.ensures,
+      n.before.before.before.track-for.ensures,
+      lasts-read b,
+    )
+    (state-enough z.args.s z.args.v z.args.h (channel_in b).banks _ (channel_in b).lasts
+    ∙ rule-unopened z.args.s z.args.v z.args.h (channel_in b).banks (banks-count b) (channel_in b).lasts c.if-v.false)
+
+pub track_for-own-requires : goal.track_for-own-requires
+track_for-own-requires c = (c.requires.in_bounds, c.requires.in_range)
+
+pub track_for-low-requires : goal.track_for-low-requires
+track_for-low-requires c = (c.requires.in_bounds, c.requires.in_range)
+
+pub track_for-high-requires : goal.track_for-high-requires
+track_for-high-requires c = (c.requires.in_bounds, c.requires.in_range)
+
+pub track_for-held-requires : goal.track_for-held-requires
+track_for-held-requires c = (c.requires.in_bounds, c.requires.in_range)
+
+pub track_for-requires : goal.track_for-requires
+track_for-requires c = (c.requires.in_bounds, c.requires.in_range)
+
+pub lasts_at-l-requires : goal.lasts_at-l-requires
+lasts_at-l-requires c = (c.requires.in_bounds, c.requires.in_range)
+
+pub act_in-requires : goal.act_in-requires
+act_in-requires c = (c.requires.in_bounds, c.requires.in_range)

@@ -1,0 +1,6 @@
+-- `model_next::cols::put_nocop` meets its contract: the retire, then the instants.
+use borrow.Author.Rules.{rules}
+use Rattle.model_next.proofs.cols.put_nocop.Goals as goal
+
+pub returns : goal.returns
+returns c = rw (c.store_col.ensures, c.put_left.ensures.b_after)

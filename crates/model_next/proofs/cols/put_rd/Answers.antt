@@ -1,0 +1,6 @@
+-- `model_next::cols::put_rd` meets its contract: one store after the other.
+use borrow.Author.Rules.{rules}
+use Rattle.model_next.proofs.cols.put_rd.Goals as goal
+
+pub returns : goal.returns
+returns c = rw (c.put_implied.ensures, c.store_rd.ensures)

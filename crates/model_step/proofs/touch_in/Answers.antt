@@ -1,0 +1,38 @@
+-- `model_step::touch_in` meets its contract: by what the record is seen as.
+use mathlib.Core.Path.{sym, ◌∙◌}
+use Rattle.spec_state.specs.ChannelBytes.{channel_in}
+use Rattle.model_judge.proofs.ReadLaws.{buffer-read}
+use Rattle.model_step.proofs.TouchLaws.{touch-packet, touch-data}
+use borrow.Author.Rules.{rules}
+use Rattle.model_step.proofs.touch_in.Goals as goal
+
+pub returns-in-Packet : goal.returns-in-Packet
+returns-in-Packet c =
+    let n = (PLACE c After-seen) in
+    let z = n.before.before.before.before in
+    let b = z.args.b.now in
+    rw (
+      c.touch_of.ensures,
+      c.leaving.ensures,
+      c.buffer_at.ensures,
+      c.track_for-held.ensures,
+      c.track_for-own.ensures,
+      c.held_at-h.ensures,
+      buffer-read b,
+    )
+    (touch-packet z.args.s (channel_in b) z.args.r _ (sym n.before.before.seen_of.ensures ∙ n.seen.given.1))
+
+pub returns-in-Data : goal.returns-in-Data
+returns-in-Data c = touch-data c.args.s (channel_in c.args.b.now) c.args.r _ (sym c.seen_of-seen.ensures ∙ c.in-Data.is)
+
+pub held_at-h-requires : goal.held_at-h-requires
+held_at-h-requires c = (c.requires.in_bounds, c.requires.in_range)
+
+pub track_for-own-requires : goal.track_for-own-requires
+track_for-own-requires c = (c.requires.in_bounds, c.requires.in_range)
+
+pub track_for-held-requires : goal.track_for-held-requires
+track_for-held-requires c = (c.requires.in_bounds, c.requires.in_range)
+
+pub buffer_at-requires : goal.buffer_at-requires
+buffer_at-requires c = (c.requires.in_bounds, c.requires.in_range)

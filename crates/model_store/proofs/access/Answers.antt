@@ -1,0 +1,85 @@
+-- `model_store::access` meets its contract: by what is asked.
+use Prim.Native.Nat.{◌+◌, ◌*◌, ◌≤◌}
+use mathlib.Core.Path.{◌≡◌, refl, ◌∙◌}
+use native.Mathlib.Omega.{arith}
+use lib.ListN.{length}
+use Rattle.num.proofs.SpliceLaws.{splice-none}
+use Rattle.record.specs.declared.Place.{Place}
+use Rattle.spec_rules.specs.Neighbour.{context_of}
+use Rattle.spec_model.specs.Store.{store_length}
+use Rattle.model_store.specs.declared.Touch.TheVariants.{Reads, Retires}
+use Rattle.model_store.specs.Form.Touch.{PlaceIn, TouchIn, place_at, touch_answer, touch_store, touch_bytes}
+use Rattle.model_store.proofs.PlaceLaws.{place_in}
+use borrow.Author.Rules.{rules}
+use Rattle.model_store.proofs.access.Goals as goal
+
+pub number_of-requires : goal.number_of-requires
+unfolding TouchIn
+number_of-requires c =
+    record {
+      s_value = c.requires.s_value;
+      place_in = rw c.in-Reads.is at c.requires.touch_in;
+    }
+
+pub read_out-requires : goal.read_out-requires
+unfolding TouchIn
+read_out-requires c =
+    let within : (p : Place) → PlaceIn (context_of c.args.s) p → 16 * place_at (context_of c.args.s) p + 16 ≤ length c.args.store.now = λ p i. let h = place_in (context_of c.args.s) p i in
+    let l : length c.args.store.now ≡ store_length (context_of c.args.s) = c.requires.store_len in
+    omega arith in
+    let z = (PLACE c Start) in
+    rw c.number_of.ensures (within _ (rw c.in-Reads.is at z.requires.1.1))
+
+pub number_of-requires-in-Retires : goal.number_of-requires-in-Retires
+unfolding TouchIn
+number_of-requires-in-Retires c =
+    record {
+      s_value = c.requires.s_value;
+      place_in = (rw c.in-Retires.is at c.requires.touch_in).0;
+    }
+
+pub retire_to-requires : goal.retire_to-requires
+unfolding TouchIn
+retire_to-requires c =
+    let within : (p : Place) → PlaceIn (context_of c.args.s) p → 16 * place_at (context_of c.args.s) p + 16 ≤ length c.args.store.now = λ p i. let h = place_in (context_of c.args.s) p i in
+    let l : length c.args.store.now ≡ store_length (context_of c.args.s) = c.requires.store_len in
+    omega arith in
+    let z = (PLACE c Start) in
+    rw c.number_of-in-Retires.ensures (within _ (rw c.in-Retires.is at z.requires.1.1).0)
+
+pub ones_of-requires : goal.ones_of-requires
+unfolding TouchIn
+ones_of-requires c = (rw c.in-Retires.is at c.requires.touch_in).1
+
+pub returns-in-Nothing : goal.returns-in-Nothing
+unfolding touch_answer touch_store touch_bytes
+returns-in-Nothing c =
+    let all = rw c.in-Nothing.is (refl, (refl, splice-none c.args.room.now 0)) in
+    record {
+      value = all.0;
+      store_after = all.1.0;
+      room_after = all.1.1;
+    }
+
+pub returns-in-Reads : goal.returns-in-Reads
+unfolding touch_answer touch_store touch_bytes
+returns-in-Reads c =
+    let all = rw c.in-Reads.is
+    (c.read_out.ensures.value, (refl, rw c.number_of.ensures at c.read_out.ensures.room_after)) in
+    record {
+      value = all.0;
+      store_after = all.1.0;
+      room_after = all.1.1;
+    }
+
+pub returns-in-Retires : goal.returns-in-Retires
+unfolding touch_answer touch_store touch_bytes
+returns-in-Retires c =
+    let z = (PLACE c Start) in
+    let all = rw c.in-Retires.is
+    (rw c.ones_of.ensures, (c.retire_to.ensures ∙ rw c.number_of-in-Retires.ensures, splice-none z.args.room.now 0)) in
+    record {
+      value = all.0;
+      store_after = all.1.0;
+      room_after = all.1.1;
+    }

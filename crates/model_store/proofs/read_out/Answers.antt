@@ -1,0 +1,32 @@
+-- `model_store::read_out` meets its contract: the dualoct that is read goes to the answer buffer.
+use Prim.Native.Nat.{◌*◌}
+use mathlib.Core.Path.{refl, ◌∙◌}
+use native.Mathlib.Omega.{arith}
+use borrow.Author.Tests.{le-leb, lt-leb}
+use Rattle.num.proofs.SpliceLaws.{splice-none}
+use Rattle.spec_model.specs.Store.{dualoct}
+use Rattle.model_store.proofs.PlaceLaws.{dualoct-back}
+use borrow.Author.Rules.{rules}
+use Rattle.model_store.proofs.read_out.Goals as goal
+
+pub returns-then-room-lt16 : goal.returns-then-room-lt16
+returns-then-room-lt16 c =
+    let all = rw (lt-leb 16 _ c.if-room-lt16.true) (refl, splice-none c.args.room.now 0) in
+    record {
+      value = all.0;
+      room_after = all.1;
+    }
+
+pub returns : goal.returns
+unfolding dualoct
+returns c =
+    let a = c.args in
+    let all = rw (le-leb 16 _ c.if-room-lt16.false) (
+      refl,
+      c.put_dualoct.ensures
+          ∙ rw (c.dualoct_at.ensures, dualoct-back a.store.now (16 * a.k) (λ i l. omega (arith, c.shared_slice_known-1.given i)) c.requires),
+    ) in
+    record {
+      value = all.0;
+      room_after = all.1;
+    }

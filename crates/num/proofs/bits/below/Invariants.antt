@@ -1,0 +1,16 @@
+-- `num::bits::below` meets its contract: right says whether the marks of the words passed so far are below n, and left is what n has
+-- past them.
+use mathlib.Core.Path.{◌≡◌, refl, sym}
+use Prim.Native.Nat.{◌-◌, ◌*◌, ◌≤◌}
+use native.Mathlib.Omega.{arith}
+use Rattle.num.specs.Search.{all_up_to}
+use Rattle.num.specs.Marks.{aged, below}
+use Rattle.num.proofs.bits.AcrossLaws.{under_next}
+use borrow.Author.Rules.{rules}
+use Rattle.num.proofs.bits.below.Given as goal
+
+abbrev pub invariant-loop-k : goal.invariant-loop-k
+invariant-loop-k l = (l.k ≤ 16) × (l.left ≡ l.n - 64 * l.k) × (l.right ≡ all_up_to (aged l.ws l.n) (64 * l.k))
+
+abbrev pub decreases-loop-k : goal.decreases-loop-k
+decreases-loop-k l = 16 - l.k

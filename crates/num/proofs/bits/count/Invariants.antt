@@ -1,0 +1,16 @@
+-- `num::bits::count` meets its contract: n is the number of marks of the words passed so far.
+use mathlib.Core.Path.{◌≡◌, refl, sym}
+use Prim.Native.Nat.{◌-◌, ◌*◌, ◌≤◌}
+use native.Mathlib.Omega.{arith}
+use lib.Count.{ones-le}
+use lib.ListN.{get_or}
+use Rattle.num.specs.Marks.{mark, count_up_to}
+use Rattle.num.proofs.bits.CountLaws.{count_word_lem, count-le}
+use borrow.Author.Rules.{rules}
+use Rattle.num.proofs.bits.count.Given as goal
+
+abbrev pub invariant-loop-k : goal.invariant-loop-k
+invariant-loop-k l = (l.k ≤ 16) × (l.n ≡ count_up_to (mark l.ws) (64 * l.k))
+
+abbrev pub decreases-loop-k : goal.decreases-loop-k
+decreases-loop-k l = 16 - l.k

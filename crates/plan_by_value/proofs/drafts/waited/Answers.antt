@@ -1,0 +1,9 @@
+-- `plan_by_value::drafts::waited` meets its contract: the sum in 64 bits, clipped.
+use Rattle.plan_by_value.proofs.StepLaws.{draws-waited}
+use borrow.Author.Rules.{rules}
+use Rattle.plan_by_value.proofs.drafts.waited.Goals as goal
+
+pub returns : goal.returns
+returns c =
+    rw (c.moved.ensures, c.is_late.ensures, c.clipped.ensures, c.wide32.ensures.0, c.wide32-slot.ensures.0)
+    (draws-waited s p c.args.d e c.args.cycles k)

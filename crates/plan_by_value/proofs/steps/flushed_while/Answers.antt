@@ -1,0 +1,8 @@
+-- `plan_by_value::steps::flushed_while` meets its contract: one NOCOP, then another, where they are asked for.
+use Rattle.spec_plan.specs.Plan.{flushed_while}
+use borrow.Author.Rules.{rules}
+use Rattle.plan_by_value.proofs.steps.flushed_while.Goals as goal
+
+pub returns : goal.returns
+unfolding flushed_while
+returns c = c.flushed_if-2.ensures p _ (c.flushed_if.ensures p e k)

@@ -1,0 +1,6 @@
+-- `plan_bytes::two` meets its contract.
+use borrow.Author.Rules.{rules}
+use Rattle.plan_bytes.proofs.two.Goals as goal
+
+pub returns : goal.returns
+returns c = rw c.wide.ensures.0

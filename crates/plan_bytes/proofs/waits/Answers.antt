@@ -1,0 +1,6 @@
+-- `plan_bytes::waits` meets its contract.
+use borrow.Author.Rules.{rules}
+use Rattle.plan_bytes.proofs.waits.Goals as goal
+
+pub returns : goal.returns
+returns c = rw c.wide.ensures.0

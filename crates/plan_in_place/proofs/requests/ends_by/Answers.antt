@@ -1,0 +1,6 @@
+-- `plan_in_place::requests::ends_by` meets its contract.
+use borrow.Author.Rules.{rules}
+use Rattle.plan_in_place.proofs.requests.ends_by.Goals as goal
+
+pub returns : goal.returns
+returns c = rw c.after.ensures

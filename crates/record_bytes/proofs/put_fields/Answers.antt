@@ -1,0 +1,15 @@
+-- `put_fields` meets its contract: five numbers put side by side are the fields of a record.
+use Rattle.std.proofs.Common.{arith, rules}
+use Rattle.record.proofs.RecordLaws.{fields-put}
+use Rattle.record_bytes.proofs.put_fields.Goals as goal
+
+pub returns : goal.returns
+returns c =
+    let c1 = (PLACE c After-put_u32) in
+    let a = c1.before.before.before.before.args in
+    fields-put a.out.now a.at a.instant a.kind a.word a.d.dqa a.d.dqb (omega arith) (omega arith)
+    (rw c1.before.wide32.ensures.0 at c1.put-u32.ensures)
+    (rw c.wide32-2.ensures.0 at c.put_u32-2.ensures)
+    c.put_u64.ensures
+    c.put_u64-2.ensures
+    c.put_u64-3.ensures

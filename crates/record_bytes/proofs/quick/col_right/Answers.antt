@@ -1,0 +1,10 @@
+-- `record_bytes::quick::col_right` meets its contract: a word that passes is that of a packet.
+use Rattle.std.proofs.Common.{◌%◌, arith, rules}
+use Rattle.record_bytes.proofs.quick.QuickLaws.{col-says}
+use Rattle.record_bytes.proofs.quick.col_right.Goals as goal
+
+pub returns : goal.returns
+returns c =
+    let y = c.wrapping_sub_u32-sent in
+    let a = c.args in
+    col-says a.device a.columns a.lo a.hi (a.device % 32) y.result (omega arith) y.ensures

@@ -1,0 +1,6 @@
+-- `place_of` meets its contract: each field is read at its place.
+use Rattle.std.proofs.Common.{rules}
+use Rattle.record_bytes.proofs.requests.place_of.Goals as goal
+
+pub returns : goal.returns
+returns c = rw (c.wide-2.ensures.0, c.u16_at.ensures.0, c.wide.ensures.0)

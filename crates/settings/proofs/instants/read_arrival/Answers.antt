@@ -1,0 +1,10 @@
+-- `read_arrival` meets its contract: the delay that it adds is the contract's.
+use borrow.Author.Rules.{rules}
+use Rattle.settings.proofs.instants.read_arrival.Goals as goal
+
+pub returns : goal.returns
+returns c =
+    record {
+      value = c.arrival_after.ensures.value;
+      result_value = c.arrival_after.ensures.result_value;
+    }

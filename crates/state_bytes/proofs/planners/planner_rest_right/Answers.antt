@@ -1,0 +1,10 @@
+-- `state_bytes::planners::planner_rest_right` meets its contract: what is left of the tests of a planner's bytes.
+use native.Mathlib.Omega.{arith}
+use Rattle.state_bytes.proofs.RightLaws.{planner-rest}
+use borrow.Author.Rules.{rules}
+use Rattle.state_bytes.proofs.planners.planner_rest_right.Goals as goal
+
+pub returns : goal.returns
+returns c =
+    rw (c.buffer_right.ensures, c.tags_right.ensures, c.fields_right.ensures)
+    (planner-rest c.args.s c.args.b.now (λ i l. omega (arith, c.shared_slice_known-1.given i)) c.requires.b_len c.requires.b_value)

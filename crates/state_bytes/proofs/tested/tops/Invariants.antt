@@ -1,0 +1,13 @@
+-- `state_bytes::tested::tops` meets its contract: top is no less than each instant passed so far.
+use Prim.Native.Nat.{ℕ, ◌+◌, ◌*◌, ◌-◌, ◌≤◌, ◌<◌}
+use native.Mathlib.Omega.{arith}
+use Rattle.num.specs.Bytes.{number, part}
+use Rattle.state_bytes.proofs.OrLaws.{or-next}
+use borrow.Author.Rules.{rules}
+use Rattle.state_bytes.proofs.tested.tops.Given as goal
+
+abbrev pub invariant-loop-i : goal.invariant-loop-i
+invariant-loop-i l = (l.i ≤ l.n) × ((k : ℕ) → k < l.i → number (part l.b (l.at + 4 * k) 4) ≤ l.top)
+
+abbrev pub decreases-loop-i : goal.decreases-loop-i
+decreases-loop-i l = l.n - l.i

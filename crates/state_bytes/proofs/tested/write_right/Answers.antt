@@ -1,0 +1,15 @@
+-- `state_bytes::tested::write_right` meets its contract: each number is the one read.
+use Rattle.state_bytes.specs.Form.Tested.{write_right}
+use borrow.Author.Rules.{rules}
+use Rattle.state_bytes.proofs.tested.write_right.Goals as goal
+
+pub returns : goal.returns
+unfolding write_right
+returns c =
+    rw (
+      c.u16_at.ensures.0,
+      c.wide.ensures.0,
+      c.u32_at-at.ensures,
+      c.u16_at-tag.ensures.0,
+      c.wide-bank.ensures.0,
+    )
