@@ -9,12 +9,10 @@ use Rattle.chan_judge.proofs.judge.Goals as goal
 pub returns-in-Packet : goal.returns-in-Packet
 returns-in-Packet c =
     let long : length c.args.ch.banks ≡ 32 = search (length-of-map, c.well_formed.1.0) in
-    let z = (PLACE c Start) in
     rw (c.packet_in.ensures, c.held_of-h.ensures)
-    (judged-packet z.args.s z.args.ch z.args.r (long) _ (sym c.seen_of-seen.ensures ∙ c.in-Packet.is))
+    (judged-packet c.args.s c.args.ch c.args.r (long) _ (sym c.seen_of-seen.ensures ∙ c.in-Packet.is))
 
 pub returns-in-Data : goal.returns-in-Data
 returns-in-Data c =
-    let z = (PLACE c Start) in
     rw (c.data_rule.ensures, c.held_of-h.ensures)
-    (judged-data z.args.s z.args.ch z.args.r _ (sym c.seen_of-seen.ensures ∙ c.in-Data.is))
+    (judged-data c.args.s c.args.ch c.args.r _ (sym c.seen_of-seen.ensures ∙ c.in-Data.is))

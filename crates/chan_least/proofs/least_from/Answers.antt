@@ -15,6 +15,5 @@ returns-in_default c =
 pub returns : goal.returns
 returns c =
     let long : length c.args.ch.banks ≡ 32 = search (length-of-map, c.well_formed.1.0) in
-    let z = (PLACE c After-seen_of) in
     rw (c.least_by.ensures, c.act_in-act.ensures, c.tracks_in-k.ensures, c.centre_by.ensures, c.held_of-h.ensures)
-    (least-packet z.args.s z.args.ch (long) z.args.r _ (sym c.seen_of.ensures ∙ c.in-Packet.is) z.args.now.0)
+    (least-packet c.args.s c.args.ch (long) c.args.r _ (sym c.seen_of.ensures ∙ c.in-Packet.is) c.args.now.0)

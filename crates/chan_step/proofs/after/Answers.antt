@@ -23,16 +23,13 @@ returns-in_default c =
 -- the PRER's instant fits: the packet's is that of the record
 pub implied_at-requires : goal.implied_at-requires
 implied_at-requires c =
-    let z = (PLACE c At-match-keys1) in
-    let e = (seen-shows z.args.r _ (sym c.seen_of.ensures ∙ c.in-Packet.is)).instant-of in
-    let p = z.requires in
+    let e = (seen-shows c.args.r _ (sym c.seen_of.ensures ∙ c.in-Packet.is)).instant-of in
     omega arith
 
 pub returns-then-implies : goal.returns-then-implies
 returns-then-implies c =
     let long : length c.args.ch.banks ≡ 32 = search (length-of-map, c.well_formed.1.0) in
-    let packet-next : let k = (PLACE c After-known_told) in let a = k.before.before.before.args in let v = k.v.given.0.0 in after (context_of a.s) a.ch a.r ≡ after_implied (context_of a.s) (v.at.0 + a.s.offp) (only c.implies.result (some (centre_of a.s c.held_of-h.result v))) (channel_of c.banks_after.result c.lasts_after.result c.buffer_after.result v.writes) = let z = (PLACE c After-seen_of) in
-    rw (
+    let packet-next : let a = c.args in let v = c.in-Packet.v in after (context_of a.s) a.ch a.r ≡ after_implied (context_of a.s) (v.at.0 + a.s.offp) (only c.implies.result (some (centre_of a.s c.held_of-h.result v))) (channel_of c.banks_after.result c.lasts_after.result c.buffer_after.result v.writes) = rw (
       c.implies.ensures,
       c.buffer_after.ensures,
       c.lasts_after.ensures,
@@ -41,7 +38,7 @@ returns-then-implies c =
       c.leaving-leaves.ensures,
       c.held_of-h.ensures,
     )
-    (packet-after z.args.s z.args.ch (long) z.args.r _ (sym c.seen_of.ensures ∙ c.in-Packet.is)) in
+    (packet-after c.args.s c.args.ch (long) c.args.r _ (sym c.seen_of.ensures ∙ c.in-Packet.is)) in
     let implied : c.implies.result ≡ true = c.if-implies.true in
     rw (
       c.after_implied.ensures,
@@ -55,8 +52,7 @@ pub returns : goal.returns
 unfolding after_implied
 returns c =
     let long : length c.args.ch.banks ≡ 32 = search (length-of-map, c.well_formed.1.0) in
-    let packet-next : let k = (PLACE c After-known_told) in let a = k.before.before.before.args in let v = k.v.given.0.0 in after (context_of a.s) a.ch a.r ≡ after_implied (context_of a.s) (v.at.0 + a.s.offp) (only c.implies.result (some (centre_of a.s c.held_of-h.result v))) (channel_of c.banks_after.result c.lasts_after.result c.buffer_after.result v.writes) = let z = (PLACE c After-seen_of) in
-    rw (
+    let packet-next : let a = c.args in let v = c.in-Packet.v in after (context_of a.s) a.ch a.r ≡ after_implied (context_of a.s) (v.at.0 + a.s.offp) (only c.implies.result (some (centre_of a.s c.held_of-h.result v))) (channel_of c.banks_after.result c.lasts_after.result c.buffer_after.result v.writes) = rw (
       c.implies.ensures,
       c.buffer_after.ensures,
       c.lasts_after.ensures,
@@ -65,5 +61,5 @@ returns c =
       c.leaving-leaves.ensures,
       c.held_of-h.ensures,
     )
-    (packet-after z.args.s z.args.ch (long) z.args.r _ (sym c.seen_of.ensures ∙ c.in-Packet.is)) in
+    (packet-after c.args.s c.args.ch (long) c.args.r _ (sym c.seen_of.ensures ∙ c.in-Packet.is)) in
     rw (packet-next, c.if-implies.false)

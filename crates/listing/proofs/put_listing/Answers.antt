@@ -14,16 +14,12 @@ put_requests-total-requires c =
 
 pub returns-then-length_right : goal.returns-then-length_right
 returns-then-length_right c =
-    let q = (PLACE c After-put_requests) in
-    let l = q.before.before.before in
-    let a = l.before.before.before.args in
-    listed a.out.now a.input.now q.put-requests.result.records (omega (arith, q.put-requests.ensures.1.1)) (sym l.length-right.ensures ∙ q.before.before.if1.true)
-    q.put-requests.ensures.0 q.put-requests.ensures.1.0 c.put_records.ensures.0
+    let a = c.args in
+    listed a.out.now a.input.now c.put_requests-total.result.records (omega (arith, c.put_requests-total.ensures.put.1)) (sym c.length_right.ensures ∙ c.if-length_right.true)
+    c.put_requests-total.ensures.records_value c.put_requests-total.ensures.put.0 c.put_records.ensures.0
 
 pub returns-else-length_right : goal.returns-else-length_right
 returns-else-length_right c =
-    let q = (PLACE c After-put_refused) in
-    let l = q.before.before.before in
-    let a = l.before.before.before.args in
-    turned-back a.out.now a.input.now (omega (arith, q.Put-refused.ensures.1)) (sym l.length-right.ensures ∙ q.before.before.if1.false)
-    q.Put-refused.ensures.0 c.put_records-else-length_right.ensures.0
+    let a = c.args in
+    turned-back a.out.now a.input.now (omega (arith, c.put_refused-end.ensures.1)) (sym c.length_right.ensures ∙ c.if-length_right.false)
+    c.put_refused-end.ensures.0 c.put_records-else-length_right.ensures.0

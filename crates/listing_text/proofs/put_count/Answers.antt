@@ -15,29 +15,24 @@ put_decimal-end-requires c =
 
 pub bounds-out-end : goal.bounds-out-end
 bounds-out-end c =
-    let w = (PLACE c After-put_bytes) in
-    let n = decimal-length w.before.before.before.before.args.n (omega arith) in
-    omega (arith, n, w.put-bytes.auto.0, c.put_decimal-end.ensures.0, c.put_decimal-end.auto.0)
+    let n = decimal-length c.args.n (omega arith) in
+    omega (arith, n, c.put_bytes.auto.0, c.put_decimal-end.ensures.0, c.put_decimal-end.auto.0)
 
 pub overflow_add-result : goal.overflow_add-result
 overflow_add-result c =
-    let w = (PLACE c After-put_bytes) in
-    let n = decimal-length w.before.before.before.before.args.n (omega arith) in
-    omega (arith, n, w.put-bytes.auto.0, c.put_decimal-end.ensures.0)
+    let n = decimal-length c.args.n (omega arith) in
+    omega (arith, n, c.put_bytes.auto.0, c.put_decimal-end.ensures.0)
 
 pub shape_of-out : goal.shape_of-out
-shape_of-out c =
-    let w = (PLACE c After-put_bytes) in
-    length-set c.put_decimal-end.new.0 c.put_decimal-end.result 10 ∙ c.put_decimal-end.auto.0 ∙ w.put-bytes.auto.0
+shape_of-out c = length-set c.put_decimal-end.new.0 c.put_decimal-end.result 10 ∙ c.put_decimal-end.auto.0 ∙ c.put_bytes.auto.0
 
 pub returns : goal.returns
 returns c =
-    let w = (PLACE c After-put_bytes) in
-    let a = w.before.before.before.before.args in
+    let a = c.args in
     let l = a.out.now in
     let x = a.word.now in
     let n = decimal-length a.n (omega arith) in
-    let p = put_then l a.at x (decimal a.n) (omega arith) (refl, w.put-bytes.ensures) c.put_decimal-end.ensures in (
+    let p = put_then l a.at x (decimal a.n) (omega arith) (refl, c.put_bytes.ensures) c.put_decimal-end.ensures in (
       rw (← append_assoc x (decimal a.n) (line_end ∷ [])) (put-more l a.at (x ++ decimal a.n) line_end (simp length-append (omega (arith, n))) p),
       omega (arith, n, c.put_decimal-end.ensures.0),
     )

@@ -16,17 +16,15 @@ use Rattle.model_judge.proofs.judge_in.Goals as goal
 pub returns-in-Packet : goal.returns-in-Packet
 unfolding model_in
 returns-in-Packet c =
-    let z = (PLACE c Start) in
-    let b = z.args.b.now in
+    let b = c.args.b.now in
     rw (c.packet_in.ensures, c.held_at-h.ensures)
-    (judged-packet z.args.s (channel_in b) z.args.r (banks-count b) _ (sym c.seen_of-seen.ensures ∙ c.in-Packet.is))
+    (judged-packet c.args.s (channel_in b) c.args.r (banks-count b) _ (sym c.seen_of-seen.ensures ∙ c.in-Packet.is))
 
 pub returns-in-Data : goal.returns-in-Data
 unfolding model_in
 returns-in-Data c =
-    let z = (PLACE c Start) in
     rw (c.data_rule.ensures, c.held_at-h.ensures)
-    (judged-data z.args.s (channel_in z.args.b.now) z.args.r _ (sym c.seen_of-seen.ensures ∙ c.in-Data.is))
+    (judged-data c.args.s (channel_in c.args.b.now) c.args.r _ (sym c.seen_of-seen.ensures ∙ c.in-Data.is))
 
 pub held_at-h-requires : goal.held_at-h-requires
 held_at-h-requires c =

@@ -8,10 +8,7 @@ use Rattle.model_judge.proofs.packet_in.Goals as goal
 
 pub returns-then-v : goal.returns-then-v
 returns-then-v c =
-    let m = (PLACE c After-track_for3) in
-    let n = m.before.before in
-    let z = n.before.before.before.before.before in
-    let b = z.args.b.now in
+    let b = c.args.b.now in
     rw (
       c.packet_rule.ensures,
       c.act_in.ensures,
@@ -20,23 +17,20 @@ returns-then-v c =
       c.state_alone-next.ensures,
       c.track_for.ensures,
       c.track_for-held.ensures,
-      m.track-for3.ensures,
-      m.before.high-of.ensures,
-      n.track-for2.ensures,
-      n.before.low_of.ensures,
-      n.before.before.centre.ensures,
-      n.before.before.before.track-for.ensures,
+      c.track_for-high.ensures,
+      c.high_of.ensures,
+      c.track_for-low.ensures,
+      c.low_of.ensures,
+      c.centre-c.ensures,
+      c.track_for-own.ensures,
       lasts-read b,
     )
-    (state-enough z.args.s z.args.v z.args.h (channel_in b).banks _ (channel_in b).lasts
-    ∙ rule-read z.args.s z.args.v z.args.h (channel_in b).banks (banks-count b) (channel_in b).lasts)
+    (state-enough c.args.s c.args.v c.args.h (channel_in b).banks _ (channel_in b).lasts
+    ∙ rule-read c.args.s c.args.v c.args.h (channel_in b).banks (banks-count b) (channel_in b).lasts)
 
 pub returns : goal.returns
 returns c =
-    let m = (PLACE c After-track_for3) in
-    let n = m.before.before in
-    let z = n.before.before.before.before.before in
-    let b = z.args.b.now in
+    let b = c.args.b.now in
     rw (
       c.packet_rule-2.ensures,
       c.lasts_at-l.ensures,
@@ -44,16 +38,16 @@ returns c =
       c.state_alone-next.ensures,
       c.track_for.ensures,
       c.track_for-held.ensures,
-      m.track-for3.ensures,
-      m.before.high-of.ensures,
-      n.track-for2.ensures,
-      n.before.low_of.ensures,
-      n.before.before.centre.ensures,
-      n.before.before.before.track-for.ensures,
+      c.track_for-high.ensures,
+      c.high_of.ensures,
+      c.track_for-low.ensures,
+      c.low_of.ensures,
+      c.centre-c.ensures,
+      c.track_for-own.ensures,
       lasts-read b,
     )
-    (state-enough z.args.s z.args.v z.args.h (channel_in b).banks _ (channel_in b).lasts
-    ∙ rule-unopened z.args.s z.args.v z.args.h (channel_in b).banks (banks-count b) (channel_in b).lasts c.if-v.false)
+    (state-enough c.args.s c.args.v c.args.h (channel_in b).banks _ (channel_in b).lasts
+    ∙ rule-unopened c.args.s c.args.v c.args.h (channel_in b).banks (banks-count b) (channel_in b).lasts c.if-v.false)
 
 pub track_for-own-requires : goal.track_for-own-requires
 track_for-own-requires c = (c.requires.in_bounds, c.requires.in_range)

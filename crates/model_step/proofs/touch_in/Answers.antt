@@ -8,9 +8,7 @@ use Rattle.model_step.proofs.touch_in.Goals as goal
 
 pub returns-in-Packet : goal.returns-in-Packet
 returns-in-Packet c =
-    let n = (PLACE c After-seen) in
-    let z = n.before.before.before.before in
-    let b = z.args.b.now in
+    let b = c.args.b.now in
     rw (
       c.touch_of.ensures,
       c.leaving.ensures,
@@ -20,7 +18,7 @@ returns-in-Packet c =
       c.held_at-h.ensures,
       buffer-read b,
     )
-    (touch-packet z.args.s (channel_in b) z.args.r _ (sym n.before.before.seen_of.ensures ∙ n.seen.given.1))
+    (touch-packet c.args.s (channel_in b) c.args.r _ (sym c.seen_of-seen.ensures ∙ c.in-Packet.is))
 
 pub returns-in-Data : goal.returns-in-Data
 returns-in-Data c = touch-data c.args.s (channel_in c.args.b.now) c.args.r _ (sym c.seen_of-seen.ensures ∙ c.in-Data.is)

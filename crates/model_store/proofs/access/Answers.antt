@@ -27,8 +27,7 @@ read_out-requires c =
     let within : (p : Place) → PlaceIn (context_of c.args.s) p → 16 * place_at (context_of c.args.s) p + 16 ≤ length c.args.store.now = λ p i. let h = place_in (context_of c.args.s) p i in
     let l : length c.args.store.now ≡ store_length (context_of c.args.s) = c.requires.store_len in
     omega arith in
-    let z = (PLACE c Start) in
-    rw c.number_of.ensures (within _ (rw c.in-Reads.is at z.requires.1.1))
+    rw c.number_of.ensures (within _ (rw c.in-Reads.is at c.requires.touch_in))
 
 pub number_of-requires-in-Retires : goal.number_of-requires-in-Retires
 unfolding TouchIn
@@ -44,8 +43,7 @@ retire_to-requires c =
     let within : (p : Place) → PlaceIn (context_of c.args.s) p → 16 * place_at (context_of c.args.s) p + 16 ≤ length c.args.store.now = λ p i. let h = place_in (context_of c.args.s) p i in
     let l : length c.args.store.now ≡ store_length (context_of c.args.s) = c.requires.store_len in
     omega arith in
-    let z = (PLACE c Start) in
-    rw c.number_of-in-Retires.ensures (within _ (rw c.in-Retires.is at z.requires.1.1).0)
+    rw c.number_of-in-Retires.ensures (within _ (rw c.in-Retires.is at c.requires.touch_in).0)
 
 pub ones_of-requires : goal.ones_of-requires
 unfolding TouchIn
@@ -75,9 +73,8 @@ returns-in-Reads c =
 pub returns-in-Retires : goal.returns-in-Retires
 unfolding touch_answer touch_store touch_bytes
 returns-in-Retires c =
-    let z = (PLACE c Start) in
     let all = rw c.in-Retires.is
-    (rw c.ones_of.ensures, (c.retire_to.ensures ∙ rw c.number_of-in-Retires.ensures, splice-none z.args.room.now 0)) in
+    (rw c.ones_of.ensures, (c.retire_to.ensures ∙ rw c.number_of-in-Retires.ensures, splice-none c.args.room.now 0)) in
     record {
       value = all.0;
       store_after = all.1.0;

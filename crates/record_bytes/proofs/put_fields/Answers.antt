@@ -5,10 +5,9 @@ use Rattle.record_bytes.proofs.put_fields.Goals as goal
 
 pub returns : goal.returns
 returns c =
-    let c1 = (PLACE c After-put_u32) in
-    let a = c1.before.before.before.before.args in
+    let a = c.args in
     fields-put a.out.now a.at a.instant a.kind a.word a.d.dqa a.d.dqb (omega arith) (omega arith)
-    (rw c1.before.wide32.ensures.0 at c1.put-u32.ensures)
+    (rw c.wide32.ensures.0 at c.put_u32.ensures)
     (rw c.wide32-2.ensures.0 at c.put_u32-2.ensures)
     c.put_u64.ensures
     c.put_u64-2.ensures

@@ -15,9 +15,8 @@ returns-then-head-ne0 c =
 pub returns : goal.returns
 unfolding record_read
 returns c =
-    let s = (PLACE c Start) in
-    let l = s.args.b.now in
-    let at = s.args.at in
+    let l = c.args.b.now in
+    let at = c.args.at in
     let e = head_in l at c.u32_at-head.result (omega arith) (omega (arith, c.shared_slice_known-1.given (at + 4))) c.u32_at-head.ensures in
     rw (
       eq-eqb _ 0 (sym e.1 ∙ c.if-head-ne0.false),

@@ -23,10 +23,8 @@ returns-in-Refused c =
 pub returns-in-Accepted : goal.returns-in-Accepted
 unfolding plan_all_call under_settings
 returns-in-Accepted c =
-    let r = (PLACE c After-read_settings) in
-    let z = r.before.before.before.before.before in
-    let e = sym r.read-settings.ensures ∙ c.in-Accepted.is in
-    let all = rw (call-under z.args.settings.now _ e, e) (c.plan_all_under.ensures.value, (c.plan_all_under.ensures.planner_after, c.plan_all_under.ensures.room_after)) in
+    let e = sym c.read_settings.ensures ∙ c.in-Accepted.is in
+    let all = rw (call-under c.args.settings.now _ e, e) (c.plan_all_under.ensures.value, (c.plan_all_under.ensures.planner_after, c.plan_all_under.ensures.room_after)) in
     record {
       value = all.0;
       planner_after = all.1.0;

@@ -42,10 +42,9 @@ plan_each-requires c =
 pub returns : goal.returns
 unfolding plan_all_under
 returns c =
-    let i = (PLACE c Else2) in
-    let n = length i.before.before.before.before.before.before.before.args.requests.now in
-    let whole : n % 24 ≡ 0 = omega (arith, i.if2.false) in
-    let all = rw (sym i.before.before.right-state.ensures ∙ not-false _ i.before.if1.false, eq-eqb (n % 24) 0 whole) (c.plan_each.ensures.value, (c.plan_each.ensures.planner_after, c.plan_each.ensures.room_after)) in
+    let n = length c.args.requests.now in
+    let whole : n % 24 ≡ 0 = omega (arith, c.if-requests-ne0.false) in
+    let all = rw (sym c.right_state.ensures ∙ not-false _ c.if-not-right_state.false, eq-eqb (n % 24) 0 whole) (c.plan_each.ensures.value, (c.plan_each.ensures.planner_after, c.plan_each.ensures.room_after)) in
     record {
       value = all.0;
       planner_after = all.1.0;

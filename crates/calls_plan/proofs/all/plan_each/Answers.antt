@@ -45,8 +45,7 @@ shape_of-planner-then-made-ne0 c =
       planner-bytes = λ i h. (c.slice_known-1.given i).fits;
       request-bytes = λ i h. (c.shared_slice_known-1.given i).fits;
     } in
-    let l = (PLACE c At-loop) in
-    c.planner-1.given ∙ planner-kept (given) l.loop.invariant.0
+    c.planner-1.given ∙ planner-kept (given) c.loop-place.invariant.0
 
 pub shape_of-room-then-made-ne0 : goal.shape_of-room-then-made-ne0
 shape_of-room-then-made-ne0 c =
@@ -56,8 +55,7 @@ shape_of-room-then-made-ne0 c =
       planner-bytes = λ i h. (c.slice_known-1.given i).fits;
       request-bytes = λ i h. (c.shared_slice_known-1.given i).fits;
     } in
-    let l = (PLACE c At-loop) in
-    c.room-1.given ∙ room-kept (given) l.loop.invariant.0
+    c.room-1.given ∙ room-kept (given) c.loop-place.invariant.0
 
 pub returns-then-made-ne0 : goal.returns-then-made-ne0
 returns-then-made-ne0 c =
@@ -67,10 +65,9 @@ returns-then-made-ne0 c =
       planner-bytes = λ i h. (c.slice_known-1.given i).fits;
       request-bytes = λ i h. (c.shared_slice_known-1.given i).fits;
     } in
-    let l = (PLACE c At-loop) in
     let e = (c.plan_at-made.ensures.value, (c.plan_at-made.ensures.planner_after, c.plan_at-made.ensures.room_after)) in
     let refused : c.plan_at-made.result.number ≢ 0 = λ z. omega (arith, c.if-made-ne0.true) in
-    let all = last_one (given) l.loop.invariant.0 c.loop-place-test.true _ e.0 _ _ e.1.0 e.1.1 refused c.planned_to.result c.planned_to.ensures in
+    let all = last_one (given) c.loop-place.invariant.0 c.loop-place-test.true _ e.0 _ _ e.1.0 e.1.1 refused c.planned_to.result c.planned_to.ensures in
     record {
       value = all.0;
       planner_after = all.1.0;
@@ -85,13 +82,12 @@ risen-top-requires c =
       planner-bytes = λ i h. (c.slice_known-1.given i).fits;
       request-bytes = λ i h. (c.shared_slice_known-1.given i).fits;
     } in
-    let l = (PLACE c After-highest) in
     let e = (c.plan_at-made.ensures.value, (c.plan_at-made.ensures.planner_after, c.plan_at-made.ensures.room_after)) in
     let accepted : c.plan_at-made.result.number ≡ 0 = omega (arith, c.if-made-ne0.false) in
-    let more = one_more_lem (given) l.loop.invariant.0 c.loop-place-test.true _ e.0 _ _ e.1.0 e.1.1 accepted in
+    let more = one_more_lem (given) c.loop-place.invariant.0 c.loop-place-test.true _ e.0 _ _ e.1.0 e.1.1 accepted in
     record {
-      planner_len = right-length (context_of l.before.before.before.before.before.before.args.s) _ (right-now (given) more);
-      below = λ h. more-rises (given) l.loop.invariant.0 c.loop-place-test.true _ e.0 _ _ e.1.0 e.1.1 accepted l.loop.top l.loop.invariant.1 h;
+      planner_len = right-length (context_of c.args.s) _ (right-now (given) more);
+      below = λ h. more-rises (given) c.loop-place.invariant.0 c.loop-place-test.true _ e.0 _ _ e.1.0 e.1.1 accepted c.loop-place.top c.loop-place.invariant.1 h;
     }
 
 pub overflow_add-records : goal.overflow_add-records
@@ -102,11 +98,10 @@ overflow_add-records c =
       planner-bytes = λ i h. (c.slice_known-1.given i).fits;
       request-bytes = λ i h. (c.shared_slice_known-1.given i).fits;
     } in
-    let l = (PLACE c After-highest) in
     let e = (c.plan_at-made.ensures.value, (c.plan_at-made.ensures.planner_after, c.plan_at-made.ensures.room_after)) in
     let accepted : c.plan_at-made.result.number ≡ 0 = omega (arith, c.if-made-ne0.false) in
-    let next = one_more_lem (given) l.loop.invariant.0 c.loop-place-test.true _ e.0 _ _ e.1.0 e.1.1 accepted in
-    let lent = l.before.before.before.before.before.before.well-formed in
+    let next = one_more_lem (given) c.loop-place.invariant.0 c.loop-place-test.true _ e.0 _ _ e.1.0 e.1.1 accepted in
+    let lent = c.well_formed in
     omega (arith, records-fit (given) next, room-kept (given) next)
 
 pub loop-place-preserved : goal.loop-place-preserved
@@ -117,10 +112,9 @@ loop-place-preserved c =
       planner-bytes = λ i h. (c.slice_known-1.given i).fits;
       request-bytes = λ i h. (c.shared_slice_known-1.given i).fits;
     } in
-    let l = (PLACE c After-highest) in
     let e = (c.plan_at-made.ensures.value, (c.plan_at-made.ensures.planner_after, c.plan_at-made.ensures.room_after)) in
     let accepted : c.plan_at-made.result.number ≡ 0 = omega (arith, c.if-made-ne0.false) in
-    (one_more_lem (given) l.loop.invariant.0 c.loop-place-test.true _ e.0 _ _ e.1.0 e.1.1 accepted, c.risen-top.ensures)
+    (one_more_lem (given) c.loop-place.invariant.0 c.loop-place-test.true _ e.0 _ _ e.1.0 e.1.1 accepted, c.risen-top.ensures)
 
 pub shape_of-planner : goal.shape_of-planner
 shape_of-planner c =

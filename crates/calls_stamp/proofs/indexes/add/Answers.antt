@@ -13,12 +13,11 @@ use Rattle.calls_stamp.proofs.indexes.add.Goals as goal
 
 pub write_index-requires : goal.write_index-requires
 write_index-requires c =
-    let l = (PLACE c After-shared_slice_known) in
-    let a = l.before.before.args in
+    let a = c.args in
     let log = a.log.now in
     let p = added log a.kept a.index.now _ (sym c.add_answer-answer.ensures ∙ c.in-Count.is) in
-    let w : Bytes log = λ i h. (l.before.shared-slice-known.given i).fits in
-    let v : Bytes a.index.now = λ i h. (l.slice-known.given i).fits in
+    let w : Bytes log = λ i h. (c.shared_slice_known-1.given i).fits in
+    let v : Bytes a.index.now = λ i h. (c.slice_known-1.given i).fits in
     record {
       by_index = (used-few 14 fourteen log p.passed.right, kept-most (settings_of log) log a.index.now a.kept p.same, p.room-enough);
       kept_value = kept-said (settings_of log) 14 fourteen log a.kept a.index.now w v (made log p.passed) p.same;
@@ -39,11 +38,9 @@ returns-in-Differs c =
 pub returns-in-Count : goal.returns-in-Count
 unfolding lent_after
 returns-in-Count c =
-    let t = (PLACE c After-add_answer) in
-    let l = t.before.before in
-    let a = l.before.before.args in
+    let a = c.args in
     let log = a.log.now in
-    let e = sym t.add-answer.ensures ∙ c.in-Count.is in
+    let e = sym c.add_answer-answer.ensures ∙ c.in-Count.is in
     let p = added log a.kept a.index.now _ e in
-    let w : Bytes log = λ i h. (l.before.shared-slice-known.given i).fits in
-    (t.add-answer.ensures, rw e (rw (words-said (settings_of log) 14 fourteen log w (made log p.passed)) at c.write_index.ensures))
+    let w : Bytes log = λ i h. (c.shared_slice_known-1.given i).fits in
+    (c.add_answer-answer.ensures, rw e (rw (words-said (settings_of log) 14 fourteen log w (made log p.passed)) at c.write_index.ensures))

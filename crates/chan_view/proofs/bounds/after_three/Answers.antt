@@ -9,10 +9,9 @@ use Rattle.chan_view.proofs.bounds.after_three.Goals as goal
 
 pub returns-then-last-eq0 : goal.returns-then-last-eq0
 returns-then-last-eq0 c =
-    let y = (PLACE c After-later) in
-    let a = y.before.before.before.args in
+    let a = c.args in
     let none : max (max a.a.0 a.b.0) a.c.0 ≡ 0 =
-    rw (c.later-last.ensures, c.wide32-3.ensures.0, y.later.ensures, y.before.wide322.ensures.0, y.before.before.wide32.ensures.0) at c.if-last-eq0.true
+    rw (c.later-last.ensures, c.wide32-3.ensures.0, c.later-two.ensures, c.wide32-2.ensures.0, c.wide32.ensures.0) at c.if-last-eq0.true
     in
     rw (eq-eqb _ _ none) at (three-since a.a.0 a.b.0 a.c.0 a.gap)
 
@@ -30,10 +29,9 @@ overflow_add-result c =
 
 pub returns : goal.returns
 returns c =
-    let y = (PLACE c After-later) in
-    let a = y.before.before.before.args in
+    let a = c.args in
     let some : max (max a.a.0 a.b.0) a.c.0 ≡ 0 → ⊥ =
-    rw (c.later-last.ensures, c.wide32-3.ensures.0, y.later.ensures, y.before.wide322.ensures.0, y.before.before.wide32.ensures.0) at c.if-last-eq0.false
+    rw (c.later-last.ensures, c.wide32-3.ensures.0, c.later-two.ensures, c.wide32-2.ensures.0, c.wide32.ensures.0) at c.if-last-eq0.false
     in
-    rw (c.wide32-4.ensures.0, c.later-last.ensures, c.wide32-3.ensures.0, y.later.ensures, y.before.wide322.ensures.0, y.before.before.wide32.ensures.0)
+    rw (c.wide32-4.ensures.0, c.later-last.ensures, c.wide32-3.ensures.0, c.later-two.ensures, c.wide32-2.ensures.0, c.wide32.ensures.0)
     (rw (ne_eqb _ _ some) at (three-since a.a.0 a.b.0 a.c.0 a.gap))

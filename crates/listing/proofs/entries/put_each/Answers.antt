@@ -23,8 +23,7 @@ put_lines-lines-requires c =
       whole = c.requires.input_len_bound.1;
       space = c.requires.input_len_bound.2;
     } in
-    let l = (PLACE c At-loop) in
-    let t = turn (given) l.loop.invariant.0 c.loop-i-test.true l.loop.room c.plan_all_under-arg-in-loop-i-2-1.given.0.1 c.set_h.result c.set_h.ensures (c.plan_all_under-planned.ensures.value, (c.plan_all_under-planned.ensures.planner_after, c.plan_all_under-planned.ensures.room_after)) in
+    let t = turn (given) c.loop-i.invariant.0 c.loop-i-test.true c.loop-i.room c.plan_all_under-arg-in-loop-i-2-1.given.0.1 c.set_h.result c.set_h.ensures (c.plan_all_under-planned.ensures.value, (c.plan_all_under-planned.ensures.planner_after, c.plan_all_under-planned.ensures.room_after)) in
     lines_fit t
 
 pub overflow_add-records : goal.overflow_add-records
@@ -35,8 +34,7 @@ overflow_add-records c =
       whole = c.requires.input_len_bound.1;
       space = c.requires.input_len_bound.2;
     } in
-    let l = (PLACE c At-loop) in
-    let t = turn (given) l.loop.invariant.0 c.loop-i-test.true l.loop.room c.plan_all_under-arg-in-loop-i-2-1.given.0.1 c.set_h.result c.set_h.ensures (c.plan_all_under-planned.ensures.value, (c.plan_all_under-planned.ensures.planner_after, c.plan_all_under-planned.ensures.room_after)) in
+    let t = turn (given) c.loop-i.invariant.0 c.loop-i-test.true c.loop-i.room c.plan_all_under-arg-in-loop-i-2-1.given.0.1 c.set_h.result c.set_h.ensures (c.plan_all_under-planned.ensures.value, (c.plan_all_under-planned.ensures.planner_after, c.plan_all_under-planned.ensures.room_after)) in
     omega (arith, records-bound t, place-bound t, (given).short)
 
 pub overflow_add-i : goal.overflow_add-i
@@ -47,8 +45,7 @@ overflow_add-i c =
       whole = c.requires.input_len_bound.1;
       space = c.requires.input_len_bound.2;
     } in
-    let l = (PLACE c At-loop) in
-    let t = turn (given) l.loop.invariant.0 c.loop-i-test.true l.loop.room c.plan_all_under-arg-in-loop-i-2-1.given.0.1 c.set_h.result c.set_h.ensures (c.plan_all_under-planned.ensures.value, (c.plan_all_under-planned.ensures.planner_after, c.plan_all_under-planned.ensures.room_after)) in
+    let t = turn (given) c.loop-i.invariant.0 c.loop-i-test.true c.loop-i.room c.plan_all_under-arg-in-loop-i-2-1.given.0.1 c.set_h.result c.set_h.ensures (c.plan_all_under-planned.ensures.value, (c.plan_all_under-planned.ensures.planner_after, c.plan_all_under-planned.ensures.room_after)) in
     omega (arith, place-bound t, (given).short)
 
 pub put_refused-end-requires : goal.put_refused-end-requires
@@ -59,8 +56,7 @@ put_refused-end-requires c =
       whole = c.requires.input_len_bound.1;
       space = c.requires.input_len_bound.2;
     } in
-    let l = (PLACE c At-loop) in
-    let t = turn (given) l.loop.invariant.0 c.loop-i-test.true l.loop.room c.plan_all_under-arg-in-loop-i-2-1.given.0.1 c.set_h.result c.set_h.ensures (c.plan_all_under-planned.ensures.value, (c.plan_all_under-planned.ensures.planner_after, c.plan_all_under-planned.ensures.room_after)) in
+    let t = turn (given) c.loop-i.invariant.0 c.loop-i-test.true c.loop-i.room c.plan_all_under-arg-in-loop-i-2-1.given.0.1 c.set_h.result c.set_h.ensures (c.plan_all_under-planned.ensures.value, (c.plan_all_under-planned.ensures.planner_after, c.plan_all_under-planned.ensures.room_after)) in
     let p = c.put_lines-lines in
     let stopped : c.plan_all_under-planned.result.number ≢ 0 = λ z. omega (arith, c.if-planned-ne0.true) in
     stop-room t p.ensures.0 p.auto.0 p.ensures.1 stopped
@@ -73,8 +69,7 @@ overflow_add-i-then-planned-ne0 c =
       whole = c.requires.input_len_bound.1;
       space = c.requires.input_len_bound.2;
     } in
-    let l = (PLACE c At-loop) in
-    let t = turn (given) l.loop.invariant.0 c.loop-i-test.true l.loop.room c.plan_all_under-arg-in-loop-i-2-1.given.0.1 c.set_h.result c.set_h.ensures (c.plan_all_under-planned.ensures.value, (c.plan_all_under-planned.ensures.planner_after, c.plan_all_under-planned.ensures.room_after)) in
+    let t = turn (given) c.loop-i.invariant.0 c.loop-i-test.true c.loop-i.room c.plan_all_under-arg-in-loop-i-2-1.given.0.1 c.set_h.result c.set_h.ensures (c.plan_all_under-planned.ensures.value, (c.plan_all_under-planned.ensures.planner_after, c.plan_all_under-planned.ensures.room_after)) in
     let p = c.put_lines-lines in
     let stopped : c.plan_all_under-planned.result.number ≢ 0 = λ z. omega (arith, c.if-planned-ne0.true) in
     omega (arith, stop-within t p.ensures.0 p.auto.0 p.ensures.1 stopped, (given).short)
@@ -87,8 +82,7 @@ loop-i-smaller-then-planned-ne0 c =
       whole = c.requires.input_len_bound.1;
       space = c.requires.input_len_bound.2;
     } in
-    let l = (PLACE c At-loop) in
-    let t = turn (given) l.loop.invariant.0 c.loop-i-test.true l.loop.room c.plan_all_under-arg-in-loop-i-2-1.given.0.1 c.set_h.result c.set_h.ensures (c.plan_all_under-planned.ensures.value, (c.plan_all_under-planned.ensures.planner_after, c.plan_all_under-planned.ensures.room_after)) in
+    let t = turn (given) c.loop-i.invariant.0 c.loop-i-test.true c.loop-i.room c.plan_all_under-arg-in-loop-i-2-1.given.0.1 c.set_h.result c.set_h.ensures (c.plan_all_under-planned.ensures.value, (c.plan_all_under-planned.ensures.planner_after, c.plan_all_under-planned.ensures.room_after)) in
     omega (arith, t.left)
 
 pub loop-i-preserved-then-planned-ne0 : goal.loop-i-preserved-then-planned-ne0
@@ -99,12 +93,11 @@ loop-i-preserved-then-planned-ne0 c =
       whole = c.requires.input_len_bound.1;
       space = c.requires.input_len_bound.2;
     } in
-    let l = (PLACE c At-loop) in
-    let t = turn (given) l.loop.invariant.0 c.loop-i-test.true l.loop.room c.plan_all_under-arg-in-loop-i-2-1.given.0.1 c.set_h.result c.set_h.ensures (c.plan_all_under-planned.ensures.value, (c.plan_all_under-planned.ensures.planner_after, c.plan_all_under-planned.ensures.room_after)) in
+    let t = turn (given) c.loop-i.invariant.0 c.loop-i-test.true c.loop-i.room c.plan_all_under-arg-in-loop-i-2-1.given.0.1 c.set_h.result c.set_h.ensures (c.plan_all_under-planned.ensures.value, (c.plan_all_under-planned.ensures.planner_after, c.plan_all_under-planned.ensures.room_after)) in
     let p = c.put_lines-lines in
     let f = c.put_refused-end in
     let stopped : c.plan_all_under-planned.result.number ≢ 0 = λ z. omega (arith, c.if-planned-ne0.true) in
-    (stop-listed t p.ensures.0 p.auto.0 p.ensures.1 stopped f.ensures f.auto.0, c.plan_all_under-planned.auto.1.0 ∙ l.loop.invariant.1)
+    (stop-listed t p.ensures.0 p.auto.0 p.ensures.1 stopped f.ensures f.auto.0, c.plan_all_under-planned.auto.1.0 ∙ c.loop-i.invariant.1)
 
 pub loop-i-smaller : goal.loop-i-smaller
 loop-i-smaller c =
@@ -114,8 +107,7 @@ loop-i-smaller c =
       whole = c.requires.input_len_bound.1;
       space = c.requires.input_len_bound.2;
     } in
-    let l = (PLACE c At-loop) in
-    let t = turn (given) l.loop.invariant.0 c.loop-i-test.true l.loop.room c.plan_all_under-arg-in-loop-i-2-1.given.0.1 c.set_h.result c.set_h.ensures (c.plan_all_under-planned.ensures.value, (c.plan_all_under-planned.ensures.planner_after, c.plan_all_under-planned.ensures.room_after)) in
+    let t = turn (given) c.loop-i.invariant.0 c.loop-i-test.true c.loop-i.room c.plan_all_under-arg-in-loop-i-2-1.given.0.1 c.set_h.result c.set_h.ensures (c.plan_all_under-planned.ensures.value, (c.plan_all_under-planned.ensures.planner_after, c.plan_all_under-planned.ensures.room_after)) in
     let p = c.put_lines-lines in
     let passed : c.plan_all_under-planned.result.number ≡ 0 = omega (arith, c.if-planned-ne0.false) in
     omega (arith, t.left, all_listed t p.ensures.0 p.auto.0 p.ensures.1 passed)
@@ -128,10 +120,9 @@ loop-i-preserved c =
       whole = c.requires.input_len_bound.1;
       space = c.requires.input_len_bound.2;
     } in
-    let l = (PLACE c At-loop) in
-    let t = turn (given) l.loop.invariant.0 c.loop-i-test.true l.loop.room c.plan_all_under-arg-in-loop-i-2-1.given.0.1 c.set_h.result c.set_h.ensures (c.plan_all_under-planned.ensures.value, (c.plan_all_under-planned.ensures.planner_after, c.plan_all_under-planned.ensures.room_after)) in
+    let t = turn (given) c.loop-i.invariant.0 c.loop-i-test.true c.loop-i.room c.plan_all_under-arg-in-loop-i-2-1.given.0.1 c.set_h.result c.set_h.ensures (c.plan_all_under-planned.ensures.value, (c.plan_all_under-planned.ensures.planner_after, c.plan_all_under-planned.ensures.room_after)) in
     let p = c.put_lines-lines in
-    (now-listed t p.ensures.0 p.auto.0 p.ensures.1, c.plan_all_under-planned.auto.1.0 ∙ l.loop.invariant.1)
+    (now-listed t p.ensures.0 p.auto.0 p.ensures.1, c.plan_all_under-planned.auto.1.0 ∙ c.loop-i.invariant.1)
 
 pub shape_of-planner : goal.shape_of-planner
 shape_of-planner c = c.loop-i.invariant.1

@@ -29,18 +29,16 @@ loop-i-init c = (omega arith, refl, refl, (sym (add-zero _), splice-none c.args.
 
 pub loop-i-preserved : goal.loop-i-preserved
 loop-i-preserved c =
-    let g = (PLACE c After-record_at) in
-    let k = g.before.before.loop in
-    let z = g.before.before.before in
-    let a = z.before.before.before.args in
-    let e = next z.set-h.result z.set-h.ensures a.room.now k.i g.record-at.result g.record-at.ensures in
+    let k = c.loop-i in
+    let a = c.args in
+    let e = next c.set_h-s.result c.set_h-s.ensures a.room.now k.i c.record_at-r.result c.record_at-r.ensures in
     let h = c.latest_after-latest.ensures in
     let old = records_up_to set_h a.room.now k.i in
     rw e (
       omega arith,
-      h.0 ∙ ap (write_bank g.record-at.result) k.invariant.1 ∙ sym (bank-next a.before.bank old g.record-at.result),
-      h.1 ∙ ap (write_column g.record-at.result) k.invariant.2 ∙ sym (column-next a.before.column old g.record-at.result),
-      line-next a.out.now a.at a.before.bank a.before.column old g.record-at.result k.latest.bank k.latest.column (omega (arith, k.invariant.4)) k.invariant.1 k.invariant.2 k.invariant.3 c.put_record_line-end.ensures.0,
+      h.0 ∙ ap (write_bank c.record_at-r.result) k.invariant.1 ∙ sym (bank-next a.before.bank old c.record_at-r.result),
+      h.1 ∙ ap (write_column c.record_at-r.result) k.invariant.2 ∙ sym (column-next a.before.column old c.record_at-r.result),
+      line-next a.out.now a.at a.before.bank a.before.column old c.record_at-r.result k.latest.bank k.latest.column (omega (arith, k.invariant.4)) k.invariant.1 k.invariant.2 k.invariant.3 c.put_record_line-end.ensures.0,
       omega (arith, k.invariant.4, c.put_record_line-end.ensures.1),
       c.put_record_line-end.auto.0 ∙ k.invariant.5,
     )

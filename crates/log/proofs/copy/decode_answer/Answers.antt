@@ -27,27 +27,24 @@ records_in-n-requires c =
 pub returns-then-found-n : goal.returns-then-found-n
 unfolding decode_answer
 returns-then-found-n c =
-    let d = (PLACE c After-faults) in
-    let g = sym d.faults.ensures.0 ∙ c.if-found-log.false in
-    let e = d.faults.ensures.1 ∙ bad-of-all d.before.before.before.args.s d.before.before.before.args.per d.before.before.before.args.log.now g in
-    rw (eq-eqb _ 0 d.before.if1.false, eq-eqb _ _ g, ne_eqb _ _ (λ z. c.if-found-n.true (e ∙ z ∙ sym c.records_in-n.ensures)), e)
+    let g = sym c.faults-found.ensures.0 ∙ c.if-found-log.false in
+    let e = c.faults-found.ensures.1 ∙ bad-of-all c.args.s c.args.per c.args.log.now g in
+    rw (eq-eqb _ 0 c.if-log-ne0.false, eq-eqb _ _ g, ne_eqb _ _ (λ z. c.if-found-n.true (e ∙ z ∙ sym c.records_in-n.ensures)), e)
 
 pub returns-then-n-room : goal.returns-then-n-room
 unfolding decode_answer
 returns-then-n-room c =
-    let d = (PLACE c After-faults) in
-    let room = d.before.before.before.args.room in
-    let g = sym d.faults.ensures.0 ∙ c.if-found-log.false in
-    let e = d.faults.ensures.1 ∙ bad-of-all d.before.before.before.args.s d.before.before.before.args.per d.before.before.before.args.log.now g in
+    let room = c.args.room in
+    let g = sym c.faults-found.ensures.0 ∙ c.if-found-log.false in
+    let e = c.faults-found.ensures.1 ∙ bad-of-all c.args.s c.args.per c.args.log.now g in
     let n = c.records_in-n.ensures in
-    rw (eq-eqb _ 0 d.before.if1.false, eq-eqb _ _ g, eq-eqb _ _ (sym e ∙ c.if-found-n.false ∙ n), ← n, le-leb _ (room / 32) c.if-n-room.true)
+    rw (eq-eqb _ 0 c.if-log-ne0.false, eq-eqb _ _ g, eq-eqb _ _ (sym e ∙ c.if-found-n.false ∙ n), ← n, le-leb _ (room / 32) c.if-n-room.true)
 
 pub returns : goal.returns
 unfolding decode_answer
 returns c =
-    let d = (PLACE c After-faults) in
-    let room = d.before.before.before.args.room in
-    let g = sym d.faults.ensures.0 ∙ c.if-found-log.false in
-    let e = d.faults.ensures.1 ∙ bad-of-all d.before.before.before.args.s d.before.before.before.args.per d.before.before.before.args.log.now g in
+    let room = c.args.room in
+    let g = sym c.faults-found.ensures.0 ∙ c.if-found-log.false in
+    let e = c.faults-found.ensures.1 ∙ bad-of-all c.args.s c.args.per c.args.log.now g in
     let n = c.records_in-n.ensures in
-    rw (eq-eqb _ 0 d.before.if1.false, eq-eqb _ _ g, eq-eqb _ _ (sym e ∙ c.if-found-n.false ∙ n), ← n, lt-leb _ (room / 32) c.if-n-room.false)
+    rw (eq-eqb _ 0 c.if-log-ne0.false, eq-eqb _ _ g, eq-eqb _ _ (sym e ∙ c.if-found-n.false ∙ n), ← n, lt-leb _ (room / 32) c.if-n-room.false)

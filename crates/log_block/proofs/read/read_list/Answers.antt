@@ -15,27 +15,25 @@ pub read_at-requires : goal.read_at-requires
 read_at-requires c =
     let held : length c.loop-k.list ≡ length c.args.list.now = let a = c.args in
     ap length c.loop-k.invariant.1 ∙ list_held a.log.now a.list.now (omega arith) c.loop-k.k (omega arith) in
-    let s = (PLACE c Start) in
-    let log = s.args.log.now in
+    let log = c.args.log.now in
     let k = c.loop-k.k in
-    let e = s.requires.1.0 in
+    let e = c.requires.log_value in
     let h = held in
-    let n = length-next s.args.per s.requires.0 log e k (omega arith) in
+    let n = length-next c.args.per c.requires.le_per log e k (omega arith) in
     let w = list-within log (k + 1) (omega arith) in
     record {
-      le_per = s.requires.0;
+      le_per = c.requires.le_per;
       k_bound = (omega arith, e);
       k_in_bounds = omega arith;
     }
 
 pub loop-k-preserved : goal.loop-k-preserved
 loop-k-preserved c =
-    let s = (PLACE c Start) in
-    let log = s.args.log.now in
+    let log = c.args.log.now in
     let k = c.loop-k.k in (
       search rules,
       rw (c.read_at.ensures, c.loop-k.invariant.1)
-          (list-turn log s.args.list.now (32 * (s.args.per * k)) (omega arith) k (omega arith) (length-up_to s.args.per s.requires.0 log s.requires.1.0 k (omega arith))),
+          (list-turn log c.args.list.now (32 * (c.args.per * k)) (omega arith) k (omega arith) (length-up_to c.args.per c.requires.le_per log c.requires.log_value k (omega arith))),
     )
 
 pub shape_of-list : goal.shape_of-list

@@ -5,15 +5,13 @@ use Rattle.log_block.proofs.write.write_fields.Goals as goal
 
 pub returns : goal.returns
 returns c =
-    let k1 = (PLACE c After-put_bytes) in
-    let k2 = k1.before.before.before.before in
-    let a = k2.before.before.before.before.args in
+    let a = c.args in
     rw (
       c.put_zeros-2.ensures,
       c.put_u32-2.ensures,
       c.put_u32.ensures,
       c.wide32.ensures.0,
-      k1.put-bytes.ensures,
-      k2.put-zeros.ensures,
+      c.put_bytes.ensures,
+      c.put_zeros.ensures,
     )
     (body-stores a.b.now a.stamp.now a.k a.n (omega arith) (omega arith))

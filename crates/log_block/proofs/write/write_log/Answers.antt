@@ -14,21 +14,19 @@ pub write_at-requires : goal.write_at-requires
 write_at-requires c =
     let held : length c.loop-k.log ≡ length c.args.log.now = let a = c.args in
     ap length c.loop-k.invariant.1 ∙ log-held a.per a.stamp.now c.requires.le_per.1 a.log.now a.list.now c.loop-k.k (omega arith) in
-    let s = (PLACE c Start) in
     let h = held in
-    let w = starts-within s.args.per (length s.args.list.now) c.loop-k.k (omega arith) (omega arith) in
+    let w = starts-within c.args.per (length c.args.list.now) c.loop-k.k (omega arith) (omega arith) in
     record {
       k_in_bounds = (omega arith, omega arith, omega arith);
-      stamp_value = s.requires.0.1;
+      stamp_value = c.requires.le_per.1;
     }
 
 pub loop-k-preserved : goal.loop-k-preserved
 loop-k-preserved c =
-    let s = (PLACE c Start) in
-    let a = s.args in (
+    let a = c.args in (
       search rules,
       rw (c.write_at.ensures, c.loop-k.invariant.1)
-          (log-turn a.per a.stamp.now s.requires.0.1 a.log.now a.list.now c.loop-k.k (omega arith)),
+          (log-turn a.per a.stamp.now c.requires.le_per.1 a.log.now a.list.now c.loop-k.k (omega arith)),
     )
 
 pub shape_of-log : goal.shape_of-log

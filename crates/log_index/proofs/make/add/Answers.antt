@@ -10,11 +10,10 @@ use Rattle.log_index.proofs.make.add.Goals as goal
 
 pub write_index-requires : goal.write_index-requires
 write_index-requires c =
-    let l = (PLACE c After-shared_slice_known) in
-    let a = l.before.before.args in
+    let a = c.args in
     let p = added a.s a.log.now a.kept a.index.now _ (sym c.add_answer-answer.ensures ∙ c.in-Count.is) in
-    let w : Bytes a.log.now = λ i h. (l.before.shared-slice-known.given i).fits in
-    let v : Bytes a.index.now = λ i h. (l.slice-known.given i).fits in
+    let w : Bytes a.log.now = λ i h. (c.shared_slice_known-1.given i).fits in
+    let v : Bytes a.index.now = λ i h. (c.slice_known-1.given i).fits in
     record {
       by_index = (used-few 15 fifteen a.log.now p.passed.right, kept-most a.s a.log.now a.index.now a.kept p.same, p.room-enough);
       kept_value = kept-said a.s 15 fifteen a.log.now a.kept a.index.now w v p.passed p.same;
@@ -35,10 +34,8 @@ returns-in-Differs c =
 pub returns-in-Count : goal.returns-in-Count
 unfolding lent_after
 returns-in-Count c =
-    let t = (PLACE c After-add_answer) in
-    let l = t.before.before in
-    let a = l.before.before.args in
-    let e = sym t.add-answer.ensures ∙ c.in-Count.is in
+    let a = c.args in
+    let e = sym c.add_answer-answer.ensures ∙ c.in-Count.is in
     let p = added a.s a.log.now a.kept a.index.now _ e in
-    let w : Bytes a.log.now = λ i h. (l.before.shared-slice-known.given i).fits in
-    (t.add-answer.ensures, rw e (rw (words-said a.s 15 fifteen a.log.now w p.passed) at c.write_index.ensures))
+    let w : Bytes a.log.now = λ i h. (c.shared_slice_known-1.given i).fits in
+    (c.add_answer-answer.ensures, rw e (rw (words-said a.s 15 fifteen a.log.now w p.passed) at c.write_index.ensures))

@@ -24,16 +24,14 @@ records_in-requires c =
 
 pub returns-then-found-records_in : goal.returns-then-found-records_in
 returns-then-found-records_in c =
-    let d = (PLACE c After-faults) in
-    let a = d.before.before.args in
-    let g = sym d.faults.ensures.0 ∙ c.if-found-n.false in
-    let e = d.faults.ensures.1 ∙ bad-of-all a.s 15 a.log.now g in
+    let a = c.args in
+    let g = sym c.faults-found.ensures.0 ∙ c.if-found-n.false in
+    let e = c.faults-found.ensures.1 ∙ bad-of-all a.s 15 a.log.now g in
     rw (eq-eqb _ _ g, ne_eqb _ _ (λ z. c.if-found-records_in.true (e ∙ z ∙ sym c.records_in.ensures)), e)
 
 pub returns : goal.returns
 returns c =
-    let d = (PLACE c After-faults) in
-    let a = d.before.before.args in
-    let g = sym d.faults.ensures.0 ∙ c.if-found-n.false in
-    let e = d.faults.ensures.1 ∙ bad-of-all a.s 15 a.log.now g in
+    let a = c.args in
+    let g = sym c.faults-found.ensures.0 ∙ c.if-found-n.false in
+    let e = c.faults-found.ensures.1 ∙ bad-of-all a.s 15 a.log.now g in
     rw (eq-eqb _ _ g, eq-eqb _ _ (sym e ∙ c.if-found-records_in.false ∙ c.records_in.ensures))

@@ -25,12 +25,11 @@ put_word-requires c =
     }
 
 pub loop-k-preserved : goal.loop-k-preserved
-loop-k-preserved c =
-    let a = (PLACE c Start) in (
-      search rules,
-      rw (c.put_word.ensures, c.loop-k.invariant.1)
-          (words-turn fields_word a.args.log.now a.args.index.now c.loop-k.k (omega (arith, a.requires.0.2))),
-    )
+loop-k-preserved c = (
+  search rules,
+  rw (c.put_word.ensures, c.loop-k.invariant.1)
+      (words-turn fields_word c.args.log.now c.args.index.now c.loop-k.k (omega (arith, c.requires.by_index.2))),
+)
 
 pub shape_of-index : goal.shape_of-index
 shape_of-index c =

@@ -23,23 +23,21 @@ put_found-n-requires c =
     let held : length c.loop-k.out ≡ length c.args.out.now = let f = has_bit c.args.index.now c.args.bank in
     let m = count-mono f (index_words c.args.index.now) c.loop-k.k c.loop-k.invariant.0 in
     ap length c.loop-k.invariant.2 ∙ listed-held f c.args.out.now c.loop-k.k (omega (arith, c.requires.1)) in
-    let a = (PLACE c Start) in
-    let f = has_bit a.args.index.now a.args.bank in
+    let f = has_bit c.args.index.now c.args.bank in
     let k = c.loop-k.k in
-    let m = count-mono f (index_words a.args.index.now) (k + 1) (omega (arith, c.loop-k-test.true)) in
+    let m = count-mono f (index_words c.args.index.now) (k + 1) (omega (arith, c.loop-k-test.true)) in
     let h = held in
     let n = count_next f k in
-    (a.requires.0, c.loop-k-test.true, omega (arith, a.requires.1, c.loop-k.invariant.1))
+    (c.requires.0, c.loop-k-test.true, omega (arith, c.requires.1, c.loop-k.invariant.1))
 
 pub loop-k-preserved : goal.loop-k-preserved
 loop-k-preserved c =
-    let a = (PLACE c Start) in
-    let f = has_bit a.args.index.now a.args.bank in
+    let f = has_bit c.args.index.now c.args.bank in
     let k = c.loop-k.k in
-    let m = count-mono f (index_words a.args.index.now) k c.loop-k.invariant.0 in (
+    let m = count-mono f (index_words c.args.index.now) k c.loop-k.invariant.0 in (
       search rules,
       rw (c.put_found-n.ensures.0, c.loop-k.invariant.1) (sym (count_next f k)),
-      rw (c.put_found-n.ensures.1, c.loop-k.invariant.2, c.loop-k.invariant.1) (listed-turn f a.args.out.now k (omega (arith, a.requires.1))),
+      rw (c.put_found-n.ensures.1, c.loop-k.invariant.2, c.loop-k.invariant.1) (listed-turn f c.args.out.now k (omega (arith, c.requires.1))),
     )
 
 pub shape_of-out : goal.shape_of-out

@@ -25,15 +25,14 @@ move_at-requires c =
     let held : length c.loop-k.out ≡ length c.args.out.now = let a = c.args in
     let e = ap (block_count a.next) c.records_in-n.ensures in
     ap length c.loop-k.invariant.1 ∙ log-held a.next a.stamp.now c.requires.le_per.3 a.out.now (list_of a.log.now) c.loop-k.k (omega arith) in
-    let s = (PLACE c Start) in
-    let a = s.args in
+    let a = c.args in
     let h = held in
     let n = c.records_in-n.ensures in
     let e = ap (block_count a.next) n in
     let w = count-start a.next (records_in (list_of a.log.now)) c.loop-k.k (omega arith) (omega arith) in
     record {
-      le_per = s.requires.0;
-      log_value = (s.requires.1.0, n);
+      le_per = c.requires.le_per;
+      log_value = (c.requires.log_value, n);
       k_bound = (omega arith, omega arith, omega arith);
     }
 
@@ -45,12 +44,11 @@ overflow_add-k c =
 
 pub loop-k-preserved : goal.loop-k-preserved
 loop-k-preserved c =
-    let s = (PLACE c Start) in
-    let a = s.args in
+    let a = c.args in
     let e = ap (block_count a.next) c.records_in-n.ensures in (
       search rules,
       rw (c.move_at.ensures, c.loop-k.invariant.1)
-          (log-turn a.next a.stamp.now s.requires.0.3 a.out.now (list_of a.log.now) c.loop-k.k (omega arith)),
+          (log-turn a.next a.stamp.now c.requires.le_per.3 a.out.now (list_of a.log.now) c.loop-k.k (omega arith)),
     )
 
 pub shape_of-out : goal.shape_of-out

@@ -28,20 +28,17 @@ returns-then-at-gt-HORIZON_WIDE c =
 
 pub overflow_add-newest : goal.overflow_add-newest
 overflow_add-newest c =
-    let at_entry_lem = (PLACE c Start) in
-    let v = valid-in (meter_of at_entry_lem.args.marks.now at_entry_lem.args.newest) at_entry_lem.requires (sym c.right.ensures ∙ not-false c.right.result c.if-not-right.false) in
+    let v = valid-in (meter_of c.args.marks.now c.args.newest) c.requires (sym c.right.ensures ∙ not-false c.right.result c.if-not-right.false) in
     record { fits = omega (arith, v.in-range) }
 
 pub returns-then-at-newest : goal.returns-then-at-newest
 unfolding feed_answer
 returns-then-at-newest c =
-    let at_entry_lem = (PLACE c Start) in
-    let at = at_entry_lem.args.at in
-    rw (sym c.right.ensures, not-false c.right.result c.if-not-right.false, le-leb 4 at c.if-at-lt4.false, le-leb at horizon c.if-at-gt-HORIZON_WIDE.false, lt-ltb at (at_entry_lem.args.newest + 4) c.if-at-newest.true)
+    let at = c.args.at in
+    rw (sym c.right.ensures, not-false c.right.result c.if-not-right.false, le-leb 4 at c.if-at-lt4.false, le-leb at horizon c.if-at-gt-HORIZON_WIDE.false, lt-ltb at (c.args.newest + 4) c.if-at-newest.true)
 
 pub returns-else-at-newest : goal.returns-else-at-newest
 unfolding feed_answer
 returns-else-at-newest c =
-    let at_entry_lem = (PLACE c Start) in
-    let at = at_entry_lem.args.at in
-    rw (sym c.right.ensures, not-false c.right.result c.if-not-right.false, le-leb 4 at c.if-at-lt4.false, le-leb at horizon c.if-at-gt-HORIZON_WIDE.false, le-ltb at (at_entry_lem.args.newest + 4) c.if-at-newest.false)
+    let at = c.args.at in
+    rw (sym c.right.ensures, not-false c.right.result c.if-not-right.false, le-leb 4 at c.if-at-lt4.false, le-leb at horizon c.if-at-gt-HORIZON_WIDE.false, le-ltb at (c.args.newest + 4) c.if-at-newest.false)

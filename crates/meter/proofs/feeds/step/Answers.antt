@@ -18,8 +18,7 @@ is-accepted m t z = eq-eqb (feed_number (feed_answer m t)) 0 z
 
 pub overflow_sub-t : goal.overflow_sub-t
 overflow_sub-t c =
-    let at_entry_lem = (PLACE c Start) in
-    let m = at_entry_lem.args.m in
+    let m = c.args.m in
     let t = c.wide32-t.result in
     let z : feed_number (feed_answer m t) ≡ 0 = sym (ap feed_number c.answer_to-answer.ensures) ∙ sym c.number_of.ensures ∙ c.if-number_of-eq0.true in
     let f = accepted-follows m t (is-accepted m t z) in
@@ -28,19 +27,17 @@ overflow_sub-t c =
 pub returns-then-number_of-eq0 : goal.returns-then-number_of-eq0
 unfolding fed_by feed_meter advanced feed_accepted
 returns-then-number_of-eq0 c =
-    let at_entry_lem = (PLACE c Start) in
-    let m = at_entry_lem.args.m in
+    let m = c.args.m in
     let t = c.wide32-t.result in
     let z : feed_number (feed_answer m t) ≡ 0 = sym (ap feed_number c.answer_to-answer.ensures) ∙ sym c.number_of.ensures ∙ c.if-number_of-eq0.true in
-    let e : t ≡ at_entry_lem.args.at.0 = c.wide32-t.ensures.0 in
+    let e : t ≡ c.args.at.0 = c.wide32-t.ensures.0 in
     rw (c.pushed-pushed.ensures, c.answer_to-answer.ensures, ← e, z)
 
 pub returns-else-number_of-eq0 : goal.returns-else-number_of-eq0
 unfolding fed_by feed_meter feed_accepted
 returns-else-number_of-eq0 c =
-    let at_entry_lem = (PLACE c Start) in
-    let m = at_entry_lem.args.m in
+    let m = c.args.m in
     let t = c.wide32-t.result in
     let n : eqb (feed_number (feed_answer m t)) 0 ≡ false = ne_eqb (feed_number (feed_answer m t)) 0 (λ z. c.if-number_of-eq0.false (c.number_of.ensures ∙ ap feed_number c.answer_to-answer.ensures ∙ z)) in
-    let e : t ≡ at_entry_lem.args.at.0 = c.wide32-t.ensures.0 in
+    let e : t ≡ c.args.at.0 = c.wide32-t.ensures.0 in
     rw (c.answer_to-answer.ensures, ← e, n)

@@ -6,18 +6,13 @@ use Rattle.model_next.proofs.cols.put_out.Goals as goal
 pub returns : goal.returns
 unfolding moved_up
 returns c =
-    let bytes = (PLACE c After-put_dualoct) in
-    let shift = bytes.before.before.before.before in
-    let retire = shift.before.before.before.before in
-    let second = retire.before.before in
-    let z = second.before.before.before.before.before.before.before in
     rw (
       c.put_implied.ensures,
-      bytes.put-dualoct.ensures,
-      shift.store-shift.ensures,
-      retire.store-retire.ensures,
-      second.second_at.ensures,
-      second.before.before.u16-at.ensures.0,
-      second.before.before.before.before.wide.ensures.0,
-      ← z.requires.1.1.1.0,
+      c.put_dualoct.ensures,
+      c.store_shift.ensures,
+      c.store_retire.ensures,
+      c.second_at-data.ensures,
+      c.u16_at-closes.ensures.0,
+      c.wide-h.ensures.0,
+      ← c.requires.count_value,
     )

@@ -14,9 +14,7 @@ unfolding all_up_to
 loop-k-init c = (omega arith, omega arith, refl)
 
 pub loop-k-preserved : goal.loop-k-preserved
-loop-k-preserved c =
-    let at_entry_lem = (PLACE c Start) in
-    (search rules, omega (arith, c.past-left.ensures, c.loop-k.invariant.1), rw (c.under-right.ensures, c.loop-k.invariant.1, c.loop-k.invariant.2) (sym (under_next at_entry_lem.args.ws.now at_entry_lem.args.n c.loop-k.k)))
+loop-k-preserved c = (search rules, omega (arith, c.past-left.ensures, c.loop-k.invariant.1), rw (c.under-right.ensures, c.loop-k.invariant.1, c.loop-k.invariant.2) (sym (under_next c.args.ws.now c.args.n c.loop-k.k)))
 
 pub returns : goal.returns
 unfolding below

@@ -22,9 +22,8 @@ loop-k-init c = (omega arith, refl, rw (lt-ltb 0 (c.args.d / 64 + 1) (omega arit
 
 pub loop-k-preserved : goal.loop-k-preserved
 loop-k-preserved c =
-    let at_entry_lem = (PLACE c Start) in
-    let ws = at_entry_lem.args.ws.now in
-    let d = at_entry_lem.args.d in
+    let ws = c.args.ws.now in
+    let d = c.args.d in
     let out = c.loop-k.out in
     let k = c.loop-k.k in
     let w = c.across.result in
@@ -38,8 +37,7 @@ loop-k-preserved c =
 pub returns : goal.returns
 unfolding pushed
 returns c =
-    let at_entry_lem = (PLACE c Start) in
-    let f : ℕ → Bool = later (mark at_entry_lem.args.ws.now) at_entry_lem.args.d in
+    let f : ℕ → Bool = later (mark c.args.ws.now) c.args.d in
     let out = c.loop-k.out in
     let e : c.loop-k.k ≡ 16 = omega arith in
     let t : out ≡ words f 16 = sym (take_all 16 out (omega arith)) ∙ rw e at c.loop-k.invariant.3 in

@@ -1,4 +1,5 @@
 -- `num::put_bytes` meets its contract: after j turns the first j bytes are copied.
+use mathlib.Core.Path.{refl}
 use mathlib.Core.Path.{◌≡◌, ◌∙◌, ap}
 use Prim.Native.Nat.{◌-◌, ◌≤◌}
 use native.Mathlib.Omega.{arith}

@@ -5,9 +5,6 @@ use Rattle.record_bytes.proofs.requests.spare_right.Goals as goal
 
 pub returns : goal.returns
 returns c =
-    let y = (PLACE c After-either2) in
-    let z = y.before.before.before.before in
-    let o = z.before.before.before.before in
     c.both-3.ensures
     ∙ rw (
       c.both-2.ensures,
@@ -17,9 +14,9 @@ returns c =
       c.both-rest.ensures,
       c.u64_at.ensures,
       c.u32_at-3.ensures,
-      y.either2.ensures,
-      y.before.u32-at2.ensures,
-      y.before.before.u16-at.ensures.0,
-      z.either.ensures,
-      z.before.u32-at.ensures,
-    ) (sym (spare-groups o.args.b.now o.requires))
+      c.either-cycles.ensures,
+      c.u32_at-2.ensures,
+      c.u16_at-mask.ensures.0,
+      c.either-place.ensures,
+      c.u32_at.ensures,
+    ) (sym (spare-groups c.args.b.now c.requires))
