@@ -92,7 +92,7 @@ module _ (cx : Context) (ns : Neighbours cx) (ch : Channel) (es : List Record) (
   acts = (k.lasts.acts, λ e f. f.acts-in)
 
   reads : AtBank RD
-  reads = (k.lasts.rds, λ e f. f.reads_in)
+  reads = (k.lasts.rds, λ e f. f.reads-in)
 
   retires : AtBank retire
   retires = (k.lasts.retires, λ e f. f.retired-in)

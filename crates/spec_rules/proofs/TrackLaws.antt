@@ -86,7 +86,7 @@ pub record Bare (k : Traits) : Type 0 where
 pub record Fine (cx : Context) (e : Event) : Type 0 where
   pub opens_in : Within bank_count e.traits.opens
   pub acts-in : Within bank_count e.traits.acts
-  pub reads_in_lem : Within bank_count e.traits.reads
+  pub reads-in : Within bank_count e.traits.reads
   pub retired-in : Within bank_count e.traits.retires
   pub reaching : Reaching cx e
   pub bare : is_implied e.traits ≡ true → Bare e.traits
@@ -136,7 +136,7 @@ pub record Inside (r : Record) : Type 0 where
   pub opens_in : Within bank_count (traits r).opens
   pub acts-in : Within bank_count (traits r).acts
   pub precharges-in : Within bank_count (traits r).precharges
-  pub reads_in_lem : Within bank_count (traits r).reads
+  pub reads-in : Within bank_count (traits r).reads
   pub writes-in : Within bank_count (traits r).writes
   pub implies-in : Within bank_count (traits r).implies
 
@@ -144,19 +144,19 @@ pub fits-inside : (s : Settings) (r : Record) → record_fits s r ≡ true → I
 unfolding record_fits row_fits col_fits traits row_traits col_traits bank_count
 fits-inside s (RowAt t (Act b row)) e =
     let m : b < 32 = ltb-true b 32 (and_left (ltb b 32) _ e) in
-    record { opens_in = m; acts-in = m; precharges-in = tt; reads_in_lem = tt; writes-in = tt; implies-in = tt }
-fits-inside s (RowAt t (Prer b)) e = record { opens_in = tt; acts-in = tt; precharges-in = ltb-true b 32 e; reads_in_lem = tt; writes-in = tt; implies-in = tt }
-fits-inside s (RowAt t (Refa b)) e = record { opens_in = ltb-true b 32 e; acts-in = tt; precharges-in = tt; reads_in_lem = tt; writes-in = tt; implies-in = tt }
-fits-inside s (RowAt t (Refp b)) e = record { opens_in = tt; acts-in = tt; precharges-in = ltb-true b 32 e; reads_in_lem = tt; writes-in = tt; implies-in = tt }
-fits-inside s (ColAt t (Nocop m)) e = record { opens_in = tt; acts-in = tt; precharges-in = tt; reads_in_lem = tt; writes-in = tt; implies-in = tt }
+    record { opens_in = m; acts-in = m; precharges-in = tt; reads-in = tt; writes-in = tt; implies-in = tt }
+fits-inside s (RowAt t (Prer b)) e = record { opens_in = tt; acts-in = tt; precharges-in = ltb-true b 32 e; reads-in = tt; writes-in = tt; implies-in = tt }
+fits-inside s (RowAt t (Refa b)) e = record { opens_in = ltb-true b 32 e; acts-in = tt; precharges-in = tt; reads-in = tt; writes-in = tt; implies-in = tt }
+fits-inside s (RowAt t (Refp b)) e = record { opens_in = tt; acts-in = tt; precharges-in = ltb-true b 32 e; reads-in = tt; writes-in = tt; implies-in = tt }
+fits-inside s (ColAt t (Nocop m)) e = record { opens_in = tt; acts-in = tt; precharges-in = tt; reads-in = tt; writes-in = tt; implies-in = tt }
 fits-inside s (ColAt t (Wr b c m x)) e =
-    record { opens_in = tt; acts-in = tt; precharges-in = tt; reads_in_lem = tt; writes-in = ltb-true b 32 (and_left (ltb b 32) _ e); implies-in = tt }
+    record { opens_in = tt; acts-in = tt; precharges-in = tt; reads-in = tt; writes-in = ltb-true b 32 (and_left (ltb b 32) _ e); implies-in = tt }
 fits-inside s (ColAt t (Rd b c m true)) e =
     let l : b < 32 = ltb-true b 32 (and_left (ltb b 32) _ e) in
-    record { opens_in = tt; acts-in = tt; precharges-in = tt; reads_in_lem = l; writes-in = tt; implies-in = l }
+    record { opens_in = tt; acts-in = tt; precharges-in = tt; reads-in = l; writes-in = tt; implies-in = l }
 fits-inside s (ColAt t (Rd b c m false)) e =
-    record { opens_in = tt; acts-in = tt; precharges-in = tt; reads_in_lem = ltb-true b 32 (and_left (ltb b 32) _ e); writes-in = tt; implies-in = tt }
-fits-inside s (DataOf t d) e = record { opens_in = tt; acts-in = tt; precharges-in = tt; reads_in_lem = tt; writes-in = tt; implies-in = tt }
+    record { opens_in = tt; acts-in = tt; precharges-in = tt; reads-in = ltb-true b 32 (and_left (ltb b 32) _ e); writes-in = tt; implies-in = tt }
+fits-inside s (DataOf t d) e = record { opens_in = tt; acts-in = tt; precharges-in = tt; reads-in = tt; writes-in = tt; implies-in = tt }
 
 -- a packet is on the pins, and neither a retire nor an implied PRER
 pub packet-pins : (r : Record) → is_packet r ≡ true → (on_pins (traits r) ≡ true) × ((traits r).retires ≡ none) × (is_implied (traits r) ≡ false)
@@ -240,7 +240,7 @@ module _ (cx : Context) (ch : Channel) (h : List Event) (k : Lasts cx ch h) wher
             record {
               opens_in = i.opens_in;
               acts-in = i.acts-in;
-              reads_in_lem = i.reads_in;
+              reads-in = i.reads-in;
               retired-in = rw p.1 tt;
               reaching = record { precharges-in = i.precharges-in; closed-reached = λ x e. and_left (reaches cx (traits r).precharges x) _ e };
               bare = λ e. not-both (is_implied (traits r)) e p.2;
@@ -280,7 +280,7 @@ module _ (cx : Context) (ch : Channel) (h : List Event) (k : Lasts cx ch h) wher
             record {
               opens_in = tt;
               acts-in = tt;
-              reads_in_lem = tt;
+              reads-in = tt;
               retired-in = i;
               reaching = record { precharges-in = tt; closed-reached = λ x e. e };
               bare = λ e. not-both false e refl;
@@ -319,7 +319,7 @@ module _ (cx : Context) (ch : Channel) (h : List Event) (k : Lasts cx ch h) wher
             record {
               opens_in = tt;
               acts-in = tt;
-              reads_in_lem = tt;
+              reads-in = tt;
               retired-in = tt;
               reaching = record { precharges-in = i; closed-reached = λ x e. and_left (reaches cx (some b) x) _ e };
               bare = λ e. record { bank = b; is = refl };

@@ -10,17 +10,15 @@ use Rattle.calls_model.proofs.model_fresh.Goals as goal
 pub returns-then-model-ne-MODEL_BYTES : goal.returns-then-model-ne-MODEL_BYTES
 unfolding model_fresh model_length answer_of
 returns-then-model-ne-MODEL_BYTES c =
-    let all = rw (ne_eqb _ 792 c.if-model-ne-MODEL_BYTES.true) (refl, refl) in
     record {
-      value = all.0;
-      model_after = all.1;
+      value = rw (ne_eqb _ 792 c.if-model-ne-MODEL_BYTES.true) refl;
+      model_after = rw (ne_eqb _ 792 c.if-model-ne-MODEL_BYTES.true) refl;
     }
 
 pub returns : goal.returns
 unfolding model_fresh model_length
 returns c =
-    let all = rw (eq-eqb _ 792 c.if-model-ne-MODEL_BYTES.false) (refl, c.put_fresh_model.ensures) in
     record {
-      value = all.0;
-      model_after = all.1;
+      value = rw (eq-eqb _ 792 c.if-model-ne-MODEL_BYTES.false) refl;
+      model_after = rw (eq-eqb _ 792 c.if-model-ne-MODEL_BYTES.false) c.put_fresh_model.ensures;
     }

@@ -12,21 +12,19 @@ step_under-requires c = accepted-valid c.args.settings.now _ (sym c.read_setting
 pub returns-in-Refused : goal.returns-in-Refused
 unfolding step_call under_settings
 returns-in-Refused c =
-    let all = rw (sym c.read_settings.ensures ∙ c.in-Refused.is) (c.answer.ensures, (refl, (refl, refl))) in
     record {
-      value = all.0;
-      model_after = all.1.0;
-      store_after = all.1.1.0;
-      room_after = all.1.1.1;
+      value = rw (sym c.read_settings.ensures ∙ c.in-Refused.is) c.answer.ensures;
+      model_after = rw (sym c.read_settings.ensures ∙ c.in-Refused.is) refl;
+      store_after = rw (sym c.read_settings.ensures ∙ c.in-Refused.is) refl;
+      room_after = rw (sym c.read_settings.ensures ∙ c.in-Refused.is) refl;
     }
 
 pub returns-in-Accepted : goal.returns-in-Accepted
 unfolding step_call under_settings
 returns-in-Accepted c =
-    let all = rw (sym c.read_settings.ensures ∙ c.in-Accepted.is) (c.step_under.ensures.value, (c.step_under.ensures.model_after, (c.step_under.ensures.store_after, c.step_under.ensures.room_after))) in
     record {
-      value = all.0;
-      model_after = all.1.0;
-      store_after = all.1.1.0;
-      room_after = all.1.1.1;
+      value = rw (sym c.read_settings.ensures ∙ c.in-Accepted.is) c.step_under.ensures.value;
+      model_after = rw (sym c.read_settings.ensures ∙ c.in-Accepted.is) c.step_under.ensures.model_after;
+      store_after = rw (sym c.read_settings.ensures ∙ c.in-Accepted.is) c.step_under.ensures.store_after;
+      room_after = rw (sym c.read_settings.ensures ∙ c.in-Accepted.is) c.step_under.ensures.room_after;
     }

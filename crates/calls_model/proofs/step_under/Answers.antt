@@ -9,7 +9,7 @@ use Rattle.calls_model.proofs.step_under.Goals as goal
 pub returns-then-not-model_right : goal.returns-then-not-model_right
 returns-then-not-model_right c =
     let a = c.args in
-    let all = turned-back a.s a.model.now a.store.now a.given.now a.room.now (sym c.model_right.ensures ∙ not-true _ c.if-not-model_right.true) _ c.answer.ensures in
+    let all = turned-back a.s a.model.now a.store.now a.given.now a.room.now (sym c.model_right.ensures ∙ c.if-not-model_right.true) _ c.answer.ensures in
     record {
       value = all.0;
       model_after = all.1.0;
@@ -21,14 +21,14 @@ pub step-requires : goal.step-requires
 step-requires c =
     record {
       s_value = c.requires;
-      model_value = sym c.model_right.ensures ∙ not-false _ c.if-not-model_right.false;
+      model_value = sym c.model_right.ensures ∙ c.if-not-model_right.false;
     }
 
 pub returns : goal.returns
 returns c =
     let a = c.args in
     let k = (c.step.ensures.value, (c.step.ensures.model_after, (c.step.ensures.store_after, c.step.ensures.room_after))) in
-    let all = stepped a.s a.model.now a.store.now a.given.now a.room.now (λ i l. omega (arith, c.slice_known-1.given i)) (sym c.model_right.ensures ∙ not-false _ c.if-not-model_right.false) _ k.0 _ k.1.0 _ k.1.1.0 _ k.1.1.1 _ c.answer-2.ensures in
+    let all = stepped a.s a.model.now a.store.now a.given.now a.room.now (λ i l. omega (arith, c.slice_known-1.given i)) (sym c.model_right.ensures ∙ c.if-not-model_right.false) _ k.0 _ k.1.0 _ k.1.1.0 _ k.1.1.1 _ c.answer-2.ensures in
     record {
       value = all.0;
       model_after = all.1.0;

@@ -12,19 +12,17 @@ plan_under-requires c = accepted-valid c.args.settings.now _ (sym c.read_setting
 pub returns-in-Refused : goal.returns-in-Refused
 unfolding plan_call under_settings
 returns-in-Refused c =
-    let all = rw (sym c.read_settings.ensures ∙ c.in-Refused.is) (c.answer.ensures, (refl, refl)) in
     record {
-      value = all.0;
-      planner_after = all.1.0;
-      room_after = all.1.1;
+      value = rw (sym c.read_settings.ensures ∙ c.in-Refused.is) c.answer.ensures;
+      planner_after = rw (sym c.read_settings.ensures ∙ c.in-Refused.is) refl;
+      room_after = rw (sym c.read_settings.ensures ∙ c.in-Refused.is) refl;
     }
 
 pub returns-in-Accepted : goal.returns-in-Accepted
 unfolding plan_call under_settings
 returns-in-Accepted c =
-    let all = rw (sym c.read_settings.ensures ∙ c.in-Accepted.is) (c.plan_under.ensures.value, (c.plan_under.ensures.planner_after, c.plan_under.ensures.room_after)) in
     record {
-      value = all.0;
-      planner_after = all.1.0;
-      room_after = all.1.1;
+      value = rw (sym c.read_settings.ensures ∙ c.in-Accepted.is) c.plan_under.ensures.value;
+      planner_after = rw (sym c.read_settings.ensures ∙ c.in-Accepted.is) c.plan_under.ensures.planner_after;
+      room_after = rw (sym c.read_settings.ensures ∙ c.in-Accepted.is) c.plan_under.ensures.room_after;
     }

@@ -20,7 +20,7 @@ returns-then-planner-ne-PLANNER_BYTES c =
 pub returns-then-not-right : goal.returns-then-not-right
 returns-then-not-right c =
     let a = c.args in
-    let all = turned-back a.s a.planner.now a.request.now a.room.now (sym c.right.ensures ∙ not-true _ c.if-not-right.true) _ c.answer-then-not-right.ensures in
+    let all = turned-back a.s a.planner.now a.request.now a.room.now (sym c.right.ensures ∙ c.if-not-right.true) _ c.answer-then-not-right.ensures in
     record {
       value = all.0;
       planner_after = all.1.0;
@@ -31,7 +31,7 @@ pub asked-requires : goal.asked-requires
 asked-requires c =
     record {
       s_value = c.requires;
-      planner_value = sym c.right.ensures ∙ not-false _ c.if-not-right.false;
+      planner_value = sym c.right.ensures ∙ c.if-not-right.false;
       below = λ e. calm-below _ (sym c.calm-quick.ensures ∙ e);
     }
 

@@ -10,17 +10,15 @@ use Rattle.calls_plan.proofs.planner_fresh.Goals as goal
 pub returns-then-planner-ne-PLANNER_BYTES : goal.returns-then-planner-ne-PLANNER_BYTES
 unfolding planner_fresh planner_length answer_of
 returns-then-planner-ne-PLANNER_BYTES c =
-    let all = rw (ne_eqb _ 768 c.if-planner-ne-PLANNER_BYTES.true) (refl, refl) in
     record {
-      value = all.0;
-      planner_after = all.1;
+      value = rw (ne_eqb _ 768 c.if-planner-ne-PLANNER_BYTES.true) refl;
+      planner_after = rw (ne_eqb _ 768 c.if-planner-ne-PLANNER_BYTES.true) refl;
     }
 
 pub returns : goal.returns
 unfolding planner_fresh planner_length
 returns c =
-    let all = rw (eq-eqb _ 768 c.if-planner-ne-PLANNER_BYTES.false) (refl, c.put_fresh_planner.ensures) in
     record {
-      value = all.0;
-      planner_after = all.1;
+      value = rw (eq-eqb _ 768 c.if-planner-ne-PLANNER_BYTES.false) refl;
+      planner_after = rw (eq-eqb _ 768 c.if-planner-ne-PLANNER_BYTES.false) c.put_fresh_planner.ensures;
     }

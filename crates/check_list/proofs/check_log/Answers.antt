@@ -51,11 +51,10 @@ judge_all-requires c =
     let g = sym f.0 ∙ c.if-block-log.false in
     let n = c.records_in-n.ensures in
     let e = sym (f.1 ∙ bad-of-all a.s 15 a.log.now g) ∙ c.if-bad-n.false ∙ n in
-    let all = rw n ((omega (arith, log-few 15 fifteen a.log.now g), omega arith, λ h. omega arith), (log-within 15 fifteen a.log.now g, log-formed a.s 15 fifteen a.log.now g e)) in
     record {
-      n_bound = all.0;
-      by_index = all.1.0;
-      by_index_2 = all.1.1;
+      n_bound = rw n (omega (arith, log-few 15 fifteen a.log.now g), omega arith, λ h. omega arith);
+      by_index = rw n (log-within 15 fifteen a.log.now g);
+      by_index_2 = rw n (log-formed a.s 15 fifteen a.log.now g e);
     }
 
 pub returns : goal.returns

@@ -3,12 +3,7 @@ use Rattle.listing_text.specs.Text.{codes, refused_line}
 use borrow.Author.Rules.{rules}
 use Rattle.listing_text.proofs.put_refused.Goals as goal
 
--- UNMAPPED
-slice-aggregate-put-count : tie.Need-slice-aggregate-put-count
-slice-aggregate-put-count c = search rules
-
 pub returns : goal.returns
 unfolding codes refused_line
 returns c = rw c.wide32.ensures.0 at c.put_count.ensures
 
--- INLINE slice-aggregate-put-count

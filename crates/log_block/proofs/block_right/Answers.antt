@@ -17,11 +17,11 @@ zeros-passed c = sym c.before.zeros-right.ensures ∙ not-false _ c.if3.false
 
 pub returns-then-not-number_right : goal.returns-then-not-number_right
 unfolding block_right
-returns-then-not-number_right c = rw (sym c.number_right.ensures ∙ not-true _ c.if-not-number_right.true)
+returns-then-not-number_right c = rw (sym c.number_right.ensures ∙ c.if-not-number_right.true)
 
 pub returns-then-not-count_right : goal.returns-then-not-count_right
 unfolding block_right
-returns-then-not-count_right c = rw (number_passed (PLACE c Else1), sym c.count_right.ensures ∙ not-true _ c.if-not-count_right.true)
+returns-then-not-count_right c = rw (number_passed (PLACE c Else1), sym c.count_right.ensures ∙ c.if-not-count_right.true)
 
 pub zeros_right-requires : goal.zeros_right-requires
 zeros_right-requires c =
@@ -29,7 +29,7 @@ zeros_right-requires c =
 
 pub returns-then-not-zeros_right : goal.returns-then-not-zeros_right
 unfolding block_right
-returns-then-not-zeros_right c = rw (number_passed (PLACE c Else1), count-passed (PLACE c Else2), sym c.zeros_right.ensures ∙ not-true _ c.if-not-zeros_right.true)
+returns-then-not-zeros_right c = rw (number_passed (PLACE c Else1), count-passed (PLACE c Else2), sym c.zeros_right.ensures ∙ c.if-not-zeros_right.true)
 
 pub returns : goal.returns
 unfolding block_right

@@ -21,10 +21,10 @@ loop-k-init c = (search rules, λ i h. absurd (omega arith))
 pub returns-then-not-same_at : goal.returns-then-not-same_at
 returns-then-not-same_at c =
     let log = c.args.log.now in
-    sym (first-at (same_at log) (blocks_in log) c.loop-k.k c.loop-k.invariant.1 (omega arith) (sym c.same_at.ensures ∙ not-true _ c.if-not-same_at.true))
+    sym (first-at (same_at log) (blocks_in log) c.loop-k.k c.loop-k.invariant.1 (omega arith) (sym c.same_at.ensures ∙ c.if-not-same_at.true))
 
 pub loop-k-preserved : goal.loop-k-preserved
-loop-k-preserved c = (search rules, below_more _ _ c.loop-k.invariant.1 (sym c.same_at.ensures ∙ not-false _ c.if-not-same_at.false))
+loop-k-preserved c = (search rules, below_more _ _ c.loop-k.invariant.1 (sym c.same_at.ensures ∙ c.if-not-same_at.false))
 
 pub returns : goal.returns
 returns c =

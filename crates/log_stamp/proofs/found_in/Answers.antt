@@ -31,7 +31,7 @@ pub returns-then-not-right_at : goal.returns-then-not-right_at
 unfolding first_bad_block
 returns-then-not-right_at c =
     let log = c.args.log.now in
-    let bad = first-at (right_at 14 log) (blocks_in log) c.loop-k.k c.loop-k.invariant.1 (omega arith) (sym c.right_at.ensures ∙ not-true _ c.if-not-right_at.true) in
+    let bad = first-at (right_at 14 log) (blocks_in log) c.loop-k.k c.loop-k.invariant.1 (omega arith) (sym c.right_at.ensures ∙ c.if-not-right_at.true) in
     record {
       block_value = (sym bad, rw bad c.loop-k.invariant.2);
       log_value = c.loop-k.invariant.3;
@@ -42,7 +42,7 @@ bad_up_to-bad-requires c =
     let log = c.args.log.now in
     let k = c.loop-k.k in
     let t = eqb (k + 1) (blocks_in log) in
-    (omega arith, (right_of 14 k t (block_at log k) (sym c.right_at.ensures ∙ not-false _ c.if-not-right_at.false)).used-most, omega arith)
+    (omega arith, (right_of 14 k t (block_at log k) (sym c.right_at.ensures ∙ c.if-not-right_at.false)).used-most, omega arith)
 
 pub loop-k-preserved : goal.loop-k-preserved
 loop-k-preserved c =
@@ -50,7 +50,7 @@ loop-k-preserved c =
     let k = c.loop-k.k in
     let most : 14 ≤ 15 = omega arith in (
       search rules,
-      below_more _ _ c.loop-k.invariant.1 (sym c.right_at.ensures ∙ not-false _ c.if-not-right_at.false),
+      below_more _ _ c.loop-k.invariant.1 (sym c.right_at.ensures ∙ c.if-not-right_at.false),
       rw (c.bad_up_to-bad.ensures, c.loop-k.invariant.2) (sym (bad-next a.s 14 most a.log.now k c.loop-k.invariant.1 (omega arith))),
       λ e. let w = both_true {a = c.loop-k.same} e in below_more _ _ (c.loop-k.invariant.3 w.0) (sym c.same_at-same.ensures ∙ w.1),
     )

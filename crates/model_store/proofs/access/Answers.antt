@@ -52,31 +52,26 @@ ones_of-requires c = (rw c.in-Retires.is at c.requires.touch_in).1
 pub returns-in-Nothing : goal.returns-in-Nothing
 unfolding touch_answer touch_store touch_bytes
 returns-in-Nothing c =
-    let all = rw c.in-Nothing.is (refl, (refl, splice-none c.args.room.now 0)) in
     record {
-      value = all.0;
-      store_after = all.1.0;
-      room_after = all.1.1;
+      value = rw c.in-Nothing.is refl;
+      store_after = rw c.in-Nothing.is refl;
+      room_after = rw c.in-Nothing.is (splice-none c.args.room.now 0);
     }
 
 pub returns-in-Reads : goal.returns-in-Reads
 unfolding touch_answer touch_store touch_bytes
 returns-in-Reads c =
-    let all = rw c.in-Reads.is
-    (c.read_out.ensures.value, (refl, rw c.number_of.ensures at c.read_out.ensures.room_after)) in
     record {
-      value = all.0;
-      store_after = all.1.0;
-      room_after = all.1.1;
+      value = rw c.in-Reads.is c.read_out.ensures.value;
+      store_after = rw c.in-Reads.is refl;
+      room_after = rw c.in-Reads.is (rw c.number_of.ensures at c.read_out.ensures.room_after);
     }
 
 pub returns-in-Retires : goal.returns-in-Retires
 unfolding touch_answer touch_store touch_bytes
 returns-in-Retires c =
-    let all = rw c.in-Retires.is
-    (rw c.ones_of.ensures, (c.retire_to.ensures ∙ rw c.number_of-in-Retires.ensures, splice-none c.args.room.now 0)) in
     record {
-      value = all.0;
-      store_after = all.1.0;
-      room_after = all.1.1;
+      value = rw c.in-Retires.is (rw c.ones_of.ensures);
+      store_after = rw c.in-Retires.is (c.retire_to.ensures ∙ rw c.number_of-in-Retires.ensures);
+      room_after = rw c.in-Retires.is (splice-none c.args.room.now 0);
     }

@@ -11,22 +11,17 @@ use Rattle.model_store.proofs.read_out.Goals as goal
 
 pub returns-then-room-lt16 : goal.returns-then-room-lt16
 returns-then-room-lt16 c =
-    let all = rw (lt-leb 16 _ c.if-room-lt16.true) (refl, splice-none c.args.room.now 0) in
     record {
-      value = all.0;
-      room_after = all.1;
+      value = rw (lt-leb 16 _ c.if-room-lt16.true) refl;
+      room_after = rw (lt-leb 16 _ c.if-room-lt16.true) (splice-none c.args.room.now 0);
     }
 
 pub returns : goal.returns
 unfolding dualoct
 returns c =
     let a = c.args in
-    let all = rw (le-leb 16 _ c.if-room-lt16.false) (
-      refl,
-      c.put_dualoct.ensures
-          ∙ rw (c.dualoct_at.ensures, dualoct-back a.store.now (16 * a.k) (λ i l. omega (arith, c.shared_slice_known-1.given i)) c.requires),
-    ) in
     record {
-      value = all.0;
-      room_after = all.1;
+      value = rw (le-leb 16 _ c.if-room-lt16.false) refl;
+      room_after = rw (le-leb 16 _ c.if-room-lt16.false) (c.put_dualoct.ensures
+          ∙ rw (c.dualoct_at.ensures, dualoct-back a.store.now (16 * a.k) (λ i l. omega (arith, c.shared_slice_known-1.given i)) c.requires));
     }

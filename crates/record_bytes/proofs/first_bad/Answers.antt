@@ -8,11 +8,11 @@ pub loop-i-init : goal.loop-i-init
 loop-i-init c = (omega arith, λ k l. absurd (omega arith))
 
 pub loop-i-preserved : goal.loop-i-preserved
-loop-i-preserved c = (search rules, below_more _ _ c.loop-i.invariant.1 (sym c.well-formed-2.ensures ∙ c.if-well_formed.true))
+loop-i-preserved c = (search rules, below_more _ _ c.loop-i.invariant.1 (sym c.well_formed-in-loop-i.ensures ∙ c.if-well_formed.true))
 
 pub returns-else-well_formed : goal.returns-else-well_formed
 unfolding first_bad
-returns-else-well_formed c = sym (first-at _ _ _ c.loop-i.invariant.1 c.loop-i-test.true (sym c.well-formed-2.ensures ∙ c.if-well_formed.false))
+returns-else-well_formed c = sym (first-at _ _ _ c.loop-i.invariant.1 c.loop-i-test.true (sym c.well_formed-in-loop-i.ensures ∙ c.if-well_formed.false))
 
 pub returns : goal.returns
 unfolding first_bad

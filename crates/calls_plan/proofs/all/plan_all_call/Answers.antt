@@ -13,20 +13,18 @@ plan_all_under-requires c = accepted-valid c.args.settings.now _ (sym c.read_set
 pub returns-in-Refused : goal.returns-in-Refused
 unfolding plan_all_call under_settings
 returns-in-Refused c =
-    let all = rw (sym c.read_settings.ensures ∙ c.in-Refused.is) (c.none_planned.ensures, (refl, refl)) in
     record {
-      value = all.0;
-      planner_after = all.1.0;
-      room_after = all.1.1;
+      value = rw (sym c.read_settings.ensures ∙ c.in-Refused.is) c.none_planned.ensures;
+      planner_after = rw (sym c.read_settings.ensures ∙ c.in-Refused.is) refl;
+      room_after = rw (sym c.read_settings.ensures ∙ c.in-Refused.is) refl;
     }
 
 pub returns-in-Accepted : goal.returns-in-Accepted
 unfolding plan_all_call under_settings
 returns-in-Accepted c =
     let e = sym c.read_settings.ensures ∙ c.in-Accepted.is in
-    let all = rw (call-under c.args.settings.now _ e, e) (c.plan_all_under.ensures.value, (c.plan_all_under.ensures.planner_after, c.plan_all_under.ensures.room_after)) in
     record {
-      value = all.0;
-      planner_after = all.1.0;
-      room_after = all.1.1;
+      value = rw (call-under c.args.settings.now _ e, e) c.plan_all_under.ensures.value;
+      planner_after = rw (call-under c.args.settings.now _ e, e) c.plan_all_under.ensures.planner_after;
+      room_after = rw (call-under c.args.settings.now _ e, e) c.plan_all_under.ensures.room_after;
     }

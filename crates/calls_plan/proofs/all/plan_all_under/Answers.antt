@@ -12,11 +12,10 @@ use Rattle.calls_plan.proofs.all.plan_all_under.Goals as goal
 pub returns-then-not-right_state : goal.returns-then-not-right_state
 unfolding plan_all_under
 returns-then-not-right_state c =
-    let all = rw (sym c.right_state.ensures ∙ not-true _ c.if-not-right_state.true) (c.none_planned.ensures, (refl, refl)) in
     record {
-      value = all.0;
-      planner_after = all.1.0;
-      room_after = all.1.1;
+      value = rw (sym c.right_state.ensures ∙ c.if-not-right_state.true) c.none_planned.ensures;
+      planner_after = rw (sym c.right_state.ensures ∙ c.if-not-right_state.true) refl;
+      room_after = rw (sym c.right_state.ensures ∙ c.if-not-right_state.true) refl;
     }
 
 pub returns-then-requests-ne0 : goal.returns-then-requests-ne0
@@ -24,19 +23,17 @@ unfolding plan_all_under
 returns-then-requests-ne0 c =
     let n = length c.args.requests.now in
     let broken : n % 24 ≢ 0 = λ z. omega (arith, c.if-requests-ne0.true) in
-    let all = rw (sym c.right_state.ensures ∙ not-false _ c.if-not-right_state.false, ne_eqb (n % 24) 0 broken)
-    (c.none_planned-then-requests-ne0.ensures, (refl, refl)) in
     record {
-      value = all.0;
-      planner_after = all.1.0;
-      room_after = all.1.1;
+      value = rw (sym c.right_state.ensures ∙ c.if-not-right_state.false, ne_eqb (n % 24) 0 broken) c.none_planned-then-requests-ne0.ensures;
+      planner_after = rw (sym c.right_state.ensures ∙ c.if-not-right_state.false, ne_eqb (n % 24) 0 broken) refl;
+      room_after = rw (sym c.right_state.ensures ∙ c.if-not-right_state.false, ne_eqb (n % 24) 0 broken) refl;
     }
 
 pub plan_each-requires : goal.plan_each-requires
 plan_each-requires c =
     record {
       s_value = c.requires;
-      planner_value = sym c.right_state.ensures ∙ not-false _ c.if-not-right_state.false;
+      planner_value = sym c.right_state.ensures ∙ c.if-not-right_state.false;
     }
 
 pub returns : goal.returns
@@ -44,9 +41,8 @@ unfolding plan_all_under
 returns c =
     let n = length c.args.requests.now in
     let whole : n % 24 ≡ 0 = omega (arith, c.if-requests-ne0.false) in
-    let all = rw (sym c.right_state.ensures ∙ not-false _ c.if-not-right_state.false, eq-eqb (n % 24) 0 whole) (c.plan_each.ensures.value, (c.plan_each.ensures.planner_after, c.plan_each.ensures.room_after)) in
     record {
-      value = all.0;
-      planner_after = all.1.0;
-      room_after = all.1.1;
+      value = rw (sym c.right_state.ensures ∙ c.if-not-right_state.false, eq-eqb (n % 24) 0 whole) c.plan_each.ensures.value;
+      planner_after = rw (sym c.right_state.ensures ∙ c.if-not-right_state.false, eq-eqb (n % 24) 0 whole) c.plan_each.ensures.planner_after;
+      room_after = rw (sym c.right_state.ensures ∙ c.if-not-right_state.false, eq-eqb (n % 24) 0 whole) c.plan_each.ensures.room_after;
     }

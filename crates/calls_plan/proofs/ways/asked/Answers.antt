@@ -63,9 +63,8 @@ returns-in-Refused c =
 
 pub returns-in-Accepted : goal.returns-in-Accepted
 returns-in-Accepted c =
-    let all = rw (by-request c.args.s c.args.planner.now c.args.request.now c.args.room.now c.requires.planner_value, sym c.read_request.ensures ∙ c.in-Accepted.is) (c.granted.ensures.value, (c.granted.ensures.planner_after, c.granted.ensures.room_after)) in
     record {
-      value = all.0;
-      planner_after = all.1.0;
-      room_after = all.1.1;
+      value = rw (by-request c.args.s c.args.planner.now c.args.request.now c.args.room.now c.requires.planner_value, sym c.read_request.ensures ∙ c.in-Accepted.is) c.granted.ensures.value;
+      planner_after = rw (by-request c.args.s c.args.planner.now c.args.request.now c.args.room.now c.requires.planner_value, sym c.read_request.ensures ∙ c.in-Accepted.is) c.granted.ensures.planner_after;
+      room_after = rw (by-request c.args.s c.args.planner.now c.args.request.now c.args.room.now c.requires.planner_value, sym c.read_request.ensures ∙ c.in-Accepted.is) c.granted.ensures.room_after;
     }

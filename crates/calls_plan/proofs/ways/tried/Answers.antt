@@ -33,7 +33,7 @@ left_in_time-requires c =
 
 pub returns-then-not-left_in_time : goal.returns-then-not-left_in_time
 returns-then-not-left_in_time c =
-    let all = late c.args.s c.args.planner.now c.args.q c.args.room.now c.requires.planner_value c.requires.granted.1 (sym c.left_in_time.ensures ∙ not-true _ c.if-not-left_in_time.true) _ c.answer.ensures in
+    let all = late c.args.s c.args.planner.now c.args.q c.args.room.now c.requires.planner_value c.requires.granted.1 (sym c.left_in_time.ensures ∙ c.if-not-left_in_time.true) _ c.answer.ensures in
     record {
       value = all.0;
       planner_after = all.1.0;
@@ -42,7 +42,7 @@ returns-then-not-left_in_time c =
 
 pub returns-then-room-n : goal.returns-then-room-n
 returns-then-room-n c =
-    let all = tried-full c.args.s c.args.planner.now c.args.q c.args.room.now c.requires.planner_value c.requires.granted.1 c.args.state.now c.args.list.now c.requires.state_len c.requires.in_bounds _ c.put_bytes.ensures _ _ _ c.plan-made.ensures.planner_after c.plan-made.ensures.room_after c.plan-made.ensures.records_value (sym c.left_in_time.ensures ∙ not-false _ c.if-not-left_in_time.false) c.if-room-n.true _ c.answer-then-room-n.ensures in
+    let all = tried-full c.args.s c.args.planner.now c.args.q c.args.room.now c.requires.planner_value c.requires.granted.1 c.args.state.now c.args.list.now c.requires.state_len c.requires.in_bounds _ c.put_bytes.ensures _ _ _ c.plan-made.ensures.planner_after c.plan-made.ensures.room_after c.plan-made.ensures.records_value (sym c.left_in_time.ensures ∙ c.if-not-left_in_time.false) c.if-room-n.true _ c.answer-then-room-n.ensures in
     record {
       value = all.0;
       planner_after = all.1.0;
@@ -61,7 +61,7 @@ put_first-requires c =
 
 pub returns : goal.returns
 returns c =
-    let all = tried-made c.args.s c.args.planner.now c.args.q c.args.room.now c.requires.planner_value c.requires.granted.1 c.args.state.now c.args.list.now c.requires.state_len c.requires.in_bounds _ c.put_bytes.ensures _ _ _ c.plan-made.ensures.planner_after c.plan-made.ensures.room_after c.plan-made.ensures.records_value (sym c.left_in_time.ensures ∙ not-false _ c.if-not-left_in_time.false) c.if-room-n.false _ c.plan-made.ensures.banks_value _ c.answer-2.ensures _ _ c.put_bytes-2.ensures c.put_first.ensures in
+    let all = tried-made c.args.s c.args.planner.now c.args.q c.args.room.now c.requires.planner_value c.requires.granted.1 c.args.state.now c.args.list.now c.requires.state_len c.requires.in_bounds _ c.put_bytes.ensures _ _ _ c.plan-made.ensures.planner_after c.plan-made.ensures.room_after c.plan-made.ensures.records_value (sym c.left_in_time.ensures ∙ c.if-not-left_in_time.false) c.if-room-n.false _ c.plan-made.ensures.banks_value _ c.answer-2.ensures _ _ c.put_bytes-2.ensures c.put_first.ensures in
     record {
       value = all.0;
       planner_after = all.1.0;

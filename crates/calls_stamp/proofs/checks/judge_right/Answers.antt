@@ -20,11 +20,10 @@ judge_all-requires c =
     let a = c.args in
     let log = a.log.now in
     let n = c.records_in.ensures in
-    let all = rw n ((omega (arith, log-few 14 fourteen log c.requires.log_value), omega arith, λ h. omega arith), (log-within 14 fourteen log c.requires.log_value, log-formed a.s 14 fourteen log c.requires.log_value c.requires.log_value_2)) in
     record {
-      n_bound = all.0;
-      by_index = all.1.0;
-      by_index_2 = all.1.1;
+      n_bound = rw n (omega (arith, log-few 14 fourteen log c.requires.log_value), omega arith, λ h. omega arith);
+      by_index = rw n (log-within 14 fourteen log c.requires.log_value);
+      by_index_2 = rw n (log-formed a.s 14 fourteen log c.requires.log_value c.requires.log_value_2);
     }
 
 pub returns : goal.returns

@@ -18,4 +18,4 @@ pub returns : goal.returns
 returns c =
     let a = c.args in
     λ p. read_found a.s a.b.now a.at c.requires.0 (omega (arith, c.shared_slice_known-1.given (a.at + 4))) a.f c.requires.1 c.if-f-ne1.false
-    (c.read_word.ensures (not-false _ c.if-not-read_word.false)) (sym c.no_data.ensures ∙ p)
+    (c.read_word.ensures (c.if-not-read_word.false)) (sym c.no_data.ensures ∙ p)

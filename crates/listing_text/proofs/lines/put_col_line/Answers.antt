@@ -44,4 +44,3 @@ returns-in-Rd c =
     rw c.in-Rd.is
     (rw (c.letters-n-in-Rd.ensures.0, named _ _ _ _) at c.put_line-in-Rd.ensures)
 
--- INLINE slice-aggregate-put-line-3

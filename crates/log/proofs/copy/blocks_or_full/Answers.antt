@@ -3,14 +3,9 @@ use mathlib.Core.Path.{◌∙◌, sym}
 use borrow.Author.Rules.{rules}
 use Rattle.log.proofs.copy.blocks_or_full.Goals as goal
 
--- UNMAPPED
-div-blocks : tie.Need-nonzero-div-blocks
-div-blocks c = search rules
-
 pub returns-then-both : goal.returns-then-both
 returns-then-both c = rw (sym c.both.ensures ∙ c.if-both.true)
 
 pub returns : goal.returns
 returns c = rw (sym c.both.ensures ∙ c.if-both.false)
 
--- INLINE div-blocks

@@ -25,7 +25,7 @@ unfolding first_bad_block
 returns-then-not-right_at c =
     let per = c.args.per in
     let log = c.args.log.now in
-    let bad = first-at (right_at per log) (blocks_in log) c.loop-k.k c.loop-k.invariant.1 (omega arith) (sym c.right_at.ensures ∙ not-true _ c.if-not-right_at.true) in
+    let bad = first-at (right_at per log) (blocks_in log) c.loop-k.k c.loop-k.invariant.1 (omega arith) (sym c.right_at.ensures ∙ c.if-not-right_at.true) in
     (sym bad, rw bad c.loop-k.invariant.2)
 
 pub bad_up_to-bad-requires : goal.bad_up_to-bad-requires
@@ -34,14 +34,14 @@ bad_up_to-bad-requires c =
     let per = c.args.per in
     let k = c.loop-k.k in
     let t = eqb (k + 1) (blocks_in log) in
-    (omega arith, (right_of per k t (block_at log k) (sym c.right_at.ensures ∙ not-false _ c.if-not-right_at.false)).used-most, c.requires)
+    (omega arith, (right_of per k t (block_at log k) (sym c.right_at.ensures ∙ c.if-not-right_at.false)).used-most, c.requires)
 
 pub loop-k-preserved : goal.loop-k-preserved
 loop-k-preserved c =
     let a = c.args in
     let k = c.loop-k.k in (
       search rules,
-      below_more _ _ c.loop-k.invariant.1 (sym c.right_at.ensures ∙ not-false _ c.if-not-right_at.false),
+      below_more _ _ c.loop-k.invariant.1 (sym c.right_at.ensures ∙ c.if-not-right_at.false),
       rw (c.bad_up_to-bad.ensures, c.loop-k.invariant.2) (sym (bad-next a.s a.per c.requires a.log.now k c.loop-k.invariant.1 (omega arith))),
     )
 

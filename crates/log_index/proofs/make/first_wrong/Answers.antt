@@ -15,10 +15,10 @@ pub loop-k-init : goal.loop-k-init
 loop-k-init c = (omega arith, λ i h. absurd (omega arith))
 
 pub returns-then-not-word_right : goal.returns-then-not-word_right
-returns-then-not-word_right c = sym (first-at _ _ c.loop-k.k c.loop-k.invariant.1 (omega arith) (sym c.word_right.ensures ∙ not-true _ c.if-not-word_right.true))
+returns-then-not-word_right c = sym (first-at _ _ c.loop-k.k c.loop-k.invariant.1 (omega arith) (sym c.word_right.ensures ∙ c.if-not-word_right.true))
 
 pub loop-k-preserved : goal.loop-k-preserved
-loop-k-preserved c = (search rules, below_more _ _ c.loop-k.invariant.1 (sym c.word_right.ensures ∙ not-false _ c.if-not-word_right.false))
+loop-k-preserved c = (search rules, below_more _ _ c.loop-k.invariant.1 (sym c.word_right.ensures ∙ c.if-not-word_right.false))
 
 pub returns : goal.returns
 returns c =

@@ -12,33 +12,33 @@ use Rattle.meter.proofs.feeds.answer_to.Goals as goal
 
 pub returns-then-not-right : goal.returns-then-not-right
 unfolding feed_answer
-returns-then-not-right c = rw (sym c.right.ensures, not-true c.right.result c.if-not-right.true)
+returns-then-not-right c = rw (sym c.right.ensures, c.if-not-right.true)
 
 pub returns-then-at-lt4 : goal.returns-then-at-lt4
 unfolding feed_answer
 returns-then-at-lt4 c =
     let at = c.args.at in
-    rw (sym c.right.ensures, not-false c.right.result c.if-not-right.false, lt-leb 4 at c.if-at-lt4.true)
+    rw (sym c.right.ensures, c.if-not-right.false, lt-leb 4 at c.if-at-lt4.true)
 
 pub returns-then-at-gt-HORIZON_WIDE : goal.returns-then-at-gt-HORIZON_WIDE
 unfolding feed_answer
 returns-then-at-gt-HORIZON_WIDE c =
     let at = c.args.at in
-    rw (sym c.right.ensures, not-false c.right.result c.if-not-right.false, le-leb 4 at c.if-at-lt4.false, lt-leb at horizon c.if-at-gt-HORIZON_WIDE.true)
+    rw (sym c.right.ensures, c.if-not-right.false, le-leb 4 at c.if-at-lt4.false, lt-leb at horizon c.if-at-gt-HORIZON_WIDE.true)
 
 pub overflow_add-newest : goal.overflow_add-newest
 overflow_add-newest c =
-    let v = valid-in (meter_of c.args.marks.now c.args.newest) c.requires (sym c.right.ensures ∙ not-false c.right.result c.if-not-right.false) in
+    let v = valid-in (meter_of c.args.marks.now c.args.newest) c.requires (sym c.right.ensures ∙ c.if-not-right.false) in
     record { fits = omega (arith, v.in-range) }
 
 pub returns-then-at-newest : goal.returns-then-at-newest
 unfolding feed_answer
 returns-then-at-newest c =
     let at = c.args.at in
-    rw (sym c.right.ensures, not-false c.right.result c.if-not-right.false, le-leb 4 at c.if-at-lt4.false, le-leb at horizon c.if-at-gt-HORIZON_WIDE.false, lt-ltb at (c.args.newest + 4) c.if-at-newest.true)
+    rw (sym c.right.ensures, c.if-not-right.false, le-leb 4 at c.if-at-lt4.false, le-leb at horizon c.if-at-gt-HORIZON_WIDE.false, lt-ltb at (c.args.newest + 4) c.if-at-newest.true)
 
 pub returns-else-at-newest : goal.returns-else-at-newest
 unfolding feed_answer
 returns-else-at-newest c =
     let at = c.args.at in
-    rw (sym c.right.ensures, not-false c.right.result c.if-not-right.false, le-leb 4 at c.if-at-lt4.false, le-leb at horizon c.if-at-gt-HORIZON_WIDE.false, le-ltb at (c.args.newest + 4) c.if-at-newest.false)
+    rw (sym c.right.ensures, c.if-not-right.false, le-leb 4 at c.if-at-lt4.false, le-leb at horizon c.if-at-gt-HORIZON_WIDE.false, le-ltb at (c.args.newest + 4) c.if-at-newest.false)

@@ -7,18 +7,18 @@ use Rattle.packet.proofs.col.decode_col.Goals as goal
 
 pub returns-then-not-head_fits : goal.returns-then-not-head_fits
 unfolding col_decoded
-returns-then-not-head_fits c = simp (sym c.head_fits.ensures ∙ not-true _ c.if-not-head_fits.true)
+returns-then-not-head_fits c = simp (sym c.head_fits.ensures ∙ c.if-not-head_fits.true)
 
 pub returns-then-not-mask_said : goal.returns-then-not-mask_said
 unfolding col_decoded
 returns-then-not-mask_said c =
-    let h = sym c.head_fits.ensures ∙ not-false _ c.if-not-head_fits.false in
-    let m = sym c.mask_said.ensures ∙ not-true _ c.if-not-mask_said.true in
+    let h = sym c.head_fits.ensures ∙ c.if-not-head_fits.false in
+    let m = sym c.mask_said.ensures ∙ c.if-not-mask_said.true in
     simp (h, m)
 
 pub returns : goal.returns
 unfolding col_decoded
 returns c =
-    let h = sym c.head_fits.ensures ∙ not-false _ c.if-not-head_fits.false in
-    let m = sym c.mask_said.ensures ∙ not-false _ c.if-not-mask_said.false in
+    let h = sym c.head_fits.ensures ∙ c.if-not-head_fits.false in
+    let m = sym c.mask_said.ensures ∙ c.if-not-mask_said.false in
     simp (h, m) (rw c.mask_of.ensures at c.col_of.ensures)

@@ -4,18 +4,6 @@ use Rattle.packet.specs.Row.{row_of}
 use borrow.Author.Rules.{rules}
 use Rattle.packet.proofs.row.row_of.Goals as goal
 
--- UNMAPPED
-array-read-if1 : tie.Need-array-read-if1
-array-read-if1 c = search rules
-
--- UNMAPPED
-array-read-if2 : tie.Need-array-read-if2
-array-read-if2 c = search rules
-
--- UNMAPPED
-array-read-if3 : tie.Need-array-read-if3
-array-read-if3 c = search rules
-
 pub returns-then-rop : goal.returns-then-rop
 unfolding row_of
 returns-then-rop c = simp (eq-eqb _ _ c.if-rop.true)
@@ -32,6 +20,3 @@ pub returns : goal.returns
 unfolding row_of
 returns c = simp (ne_eqb _ _ c.if-rop.false, ne_eqb _ _ c.if-rop-2.false, ne_eqb _ _ c.if-rop-3.false)
 
--- INLINE array-read-if1
--- INLINE array-read-if2
--- INLINE array-read-if3

@@ -26,9 +26,8 @@ returns-then-allowed c =
 pub returns : goal.returns
 unfolding planning
 returns c =
-    let all = rw (sym c.allowed.ensures ∙ c.if-allowed.false) (c.refused.ensures.0, (c.refused.ensures.1, refl)) in
     record {
-      outcome_value = all.0;
-      state_value = all.1.0;
-      room_after = all.1.1;
+      outcome_value = rw (sym c.allowed.ensures ∙ c.if-allowed.false) c.refused.ensures.0;
+      state_value = rw (sym c.allowed.ensures ∙ c.if-allowed.false) c.refused.ensures.1;
+      room_after = rw (sym c.allowed.ensures ∙ c.if-allowed.false) refl;
     }

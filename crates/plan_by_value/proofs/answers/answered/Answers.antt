@@ -20,9 +20,8 @@ returns-in-Refused c =
 
 pub returns-in-Accepted : goal.returns-in-Accepted
 returns-in-Accepted c =
-    let all = rw c.in-Accepted.is (c.granted.ensures.outcome_value, (c.granted.ensures.state_value, c.granted.ensures.room_after)) in
     record {
-      outcome_value = all.0;
-      state_value = all.1.0;
-      room_after = all.1.1;
+      outcome_value = rw c.in-Accepted.is c.granted.ensures.outcome_value;
+      state_value = rw c.in-Accepted.is c.granted.ensures.state_value;
+      room_after = rw c.in-Accepted.is c.granted.ensures.room_after;
     }

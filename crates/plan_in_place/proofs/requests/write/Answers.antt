@@ -30,7 +30,7 @@ open_row-to-requires c =
       b_len = c.requires.b_len;
       bank_bound = i.0;
       row_lt_rows = i.1;
-      fits = reach-fits _ _ c.requires.rested a.room.now c.requires.in_bounds a.at i _ c.on_row.ensures (not-true _ c.if-not-on_row.true) (write-first _ _ c.requires.rested a.room.now c.requires.in_bounds a.at i a.close a.mask a.d);
+      fits = reach-fits _ _ c.requires.rested a.room.now c.requires.in_bounds a.at i _ c.on_row.ensures (c.if-not-on_row.true) (write-first _ _ c.requires.rested a.room.now c.requires.in_bounds a.at i a.close a.mask a.d);
     }
 
 pub wr-next-requires : goal.wr-next-requires

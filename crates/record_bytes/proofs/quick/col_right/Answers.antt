@@ -7,4 +7,4 @@ pub returns : goal.returns
 returns c =
     let y = c.wrapping_sub_u32-sent in
     let a = c.args in
-    col-says a.device a.columns a.lo a.hi (a.device % 32) y.result (omega arith) y.ensures
+    col-says a.device a.columns a.lo a.hi (a.device % 32) y.result (omega arith) y.ensures.value

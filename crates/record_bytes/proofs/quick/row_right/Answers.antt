@@ -15,4 +15,4 @@ returns c =
     let y = c.wrapping_sub_u32-low in
     let x = c.wrapping_sub_u32-row in
     let a = c.args in
-    row-says a.device a.rows a.w head.result y.result x.result head.ensures y.ensures x.ensures
+    row-says a.device a.rows a.w head.result y.result x.result head.ensures y.ensures.value x.ensures.value

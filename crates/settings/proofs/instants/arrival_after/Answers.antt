@@ -12,10 +12,9 @@ unfolding arrival arrival_number
 returns-then-sum-le-HORIZON_WIDE c =
     let a = c.args in
     let e : a.t.0 + a.delay ≤ 1000000000 = omega arith in
-    let all = rw (le-leb _ _ e, c.wide32-2.ensures.0, c.wide32.ensures.0) (refl, refl) in
     record {
-      value = all.0;
-      result_value = all.1;
+      value = rw (le-leb _ _ e, c.wide32-2.ensures.0, c.wide32.ensures.0) refl;
+      result_value = rw (le-leb _ _ e) refl;
     }
 
 pub returns-else-sum-le-HORIZON_WIDE : goal.returns-else-sum-le-HORIZON_WIDE
@@ -23,8 +22,7 @@ unfolding arrival arrival_number
 returns-else-sum-le-HORIZON_WIDE c =
     let a = c.args in
     let e : 1000000000 < a.t.0 + a.delay = omega arith in
-    let all = rw (lt-leb _ _ e) (refl, refl) in
     record {
-      value = all.0;
-      result_value = all.1;
+      value = rw (lt-leb _ _ e) refl;
+      result_value = rw (lt-leb _ _ e) refl;
     }

@@ -19,20 +19,20 @@ rest_of s = rest_right s.cac s.cwd s.device s.core
 pub returns-then-not-numbers_right : goal.returns-then-not-numbers_right
 returns-then-not-numbers_right c =
     let b = c.args.b.now in
-    let e : eqb (length b) 32 && numbers_right (half b) 15 ≡ false = sym c.numbers_right.ensures ∙ not-true _ c.if-not-numbers_right.true in
+    let e : eqb (length b) 32 && numbers_right (half b) 15 ≡ false = sym c.numbers_right.ensures ∙ c.if-not-numbers_right.true in
     rw (read-numbers b, e)
 
 pub halves_in-h-requires : goal.halves_in-h-requires
 halves_in-h-requires c =
     let b = c.args.b.now in
-    eqb-true (length b) 32 (both_true {a = eqb (length b) 32} (sym c.numbers_right.ensures ∙ not-false _ c.if-not-numbers_right.false)).0
+    eqb-true (length b) 32 (both_true {a = eqb (length b) 32} (sym c.numbers_right.ensures ∙ c.if-not-numbers_right.false)).0
 
 pub returns-then-rest_right : goal.returns-then-rest_right
 returns-then-rest_right c =
     let b = c.args.b.now in
     let h = c.halves_in-h in
     let e : settings_of h.result ≡ settings_in b = settings-same h.result b h.ensures in
-    let n : eqb (length b) 32 && numbers_right (half b) 15 ≡ true = sym c.numbers_right.ensures ∙ not-false _ c.if-not-numbers_right.false in
+    let n : eqb (length b) 32 && numbers_right (half b) 15 ≡ true = sym c.numbers_right.ensures ∙ c.if-not-numbers_right.false in
     let r : rest_of (settings_in b) ≡ true = ap rest_of (sym e) ∙ sym c.rest_right.ensures ∙ c.if-rest_right.true in
     rw (read-numbers b, n, r) (ap Accepted e)
 
@@ -41,6 +41,6 @@ returns-else-rest_right c =
     let b = c.args.b.now in
     let h = c.halves_in-h in
     let e : settings_of h.result ≡ settings_in b = settings-same h.result b h.ensures in
-    let n : eqb (length b) 32 && numbers_right (half b) 15 ≡ true = sym c.numbers_right.ensures ∙ not-false _ c.if-not-numbers_right.false in
+    let n : eqb (length b) 32 && numbers_right (half b) 15 ≡ true = sym c.numbers_right.ensures ∙ c.if-not-numbers_right.false in
     let r : rest_of (settings_in b) ≡ false = ap rest_of (sym e) ∙ sym c.rest_right.ensures ∙ c.if-rest_right.false in
     rw (read-numbers b, n, r)
