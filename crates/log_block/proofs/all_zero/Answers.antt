@@ -22,3 +22,7 @@ loop-i-preserved c =
 pub returns : goal.returns
 returns c =
     let e : c.loop-i.i ≡ c.args.n = omega arith in rw e at c.loop-i.invariant.1
+
+pub loop-i-init : goal.loop-i-init
+unfolding all_up_to
+loop-i-init c = search rules

@@ -5,11 +5,8 @@ use Rattle.log_block.proofs.ListThenLog.{used-few}
 use Rattle.log_block.proofs.ReadLaws.{used-part}
 use Rattle.log_block.proofs.read.read_at.Goals as goal
 
--- UNMAPPED
-part-put-bytes-end : tie.Need-slice-bounds-put-bytes-end
-part-put-bytes-end c =
-    let s = c.before.before.before.before in
-    omega (arith, used-few s.args.per s.requires.0 s.args.log.now s.requires.1.0.1 s.args.k s.requires.1.0.0)
+pub slice_bounds-put_bytes-end : goal.slice_bounds-put_bytes-end
+slice_bounds-put_bytes-end c = omega (arith, used-few c.args.per c.requires.le_per c.args.log.now c.requires.k_bound.1 c.args.k c.requires.k_bound.0)
 
 pub returns : goal.returns
 returns c =

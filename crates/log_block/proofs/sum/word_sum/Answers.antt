@@ -10,3 +10,7 @@ loop-k-preserved c = (search rules, omega (arith, sum-next c.args.b.now c.loop-k
 pub returns : goal.returns
 returns c =
     let e : c.loop-k.k ≡ c.args.n = omega arith in rw e at c.loop-k.invariant.1
+
+pub loop-k-init : goal.loop-k-init
+unfolding word_sum
+loop-k-init c = search rules

@@ -7,7 +7,7 @@ pub returns : goal.returns
 returns c =
     let a = c.args in
     let w = c.wrapping_sub_u32-check.result in
-    let z = rw (c.word_sum-s.ensures, c.write_fields.ensures) at c.wrapping_sub_u32-check.ensures in
+    let z = rw (c.word_sum-s.ensures, c.write_fields.ensures) at c.wrapping_sub_u32-check.ensures.value in
     let recs = take a.n a.b.now in
     let m : length recs ≡ a.n = length-take-le a.n a.b.now (omega arith) in
     rw (c.put_u32.ensures, c.wide32.ensures.0, c.write_fields.ensures)

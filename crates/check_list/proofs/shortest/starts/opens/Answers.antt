@@ -11,3 +11,7 @@ returns-in-RowAt c = rw c.in-RowAt.is c.row_opens.ensures
 
 pub returns-in-ColAt : goal.returns-in-ColAt
 returns-in-ColAt c = rw c.in-ColAt.is (sym (col-opens _ _))
+
+pub returns-in-DataOf : goal.returns-in-DataOf
+unfolding traits
+returns-in-DataOf c = search rules
