@@ -2,7 +2,7 @@
 ghost use Rattle.std.specs.Prelude.{◌≡◌};
 ghost use Rattle.spec_calls.specs.Logs.{copy_answer, log_encode_call, log_decode_call};
 
-use log::Copied;
+use log_list::Copied;
 use record::Refusal;
 use settings::SettingsRead;
 use spec_calls::CopyAnswer;
@@ -33,7 +33,7 @@ pub fn encode_by(settings: &[u8], list: &[u8], log: &mut [u8]) -> CopyAnswer
 {
     match settings::read::read_settings(settings) {
         SettingsRead::Refused => copy_answer(Copied::Refused(Refusal::Settings)),
-        SettingsRead::Accepted(s) => copy_answer(log::copy::encode(
+        SettingsRead::Accepted(s) => copy_answer(log_list::copy::encode(
             s,
             15,
             &settings[0..0],
@@ -49,6 +49,6 @@ pub fn decode_by(settings: &[u8], log: &[u8], list: &mut [u8]) -> CopyAnswer
 {
     match settings::read::read_settings(settings) {
         SettingsRead::Refused => copy_answer(Copied::Refused(Refusal::Settings)),
-        SettingsRead::Accepted(s) => copy_answer(log::copy::decode(s, log, 15, list)),
+        SettingsRead::Accepted(s) => copy_answer(log_list::copy::decode(s, log, 15, list)),
     }
 }

@@ -21,10 +21,10 @@ use Rattle.record.proofs.RefusalLaws.{refused-number}
 use Rattle.log_block.specs.Block.{block_count, log_of, blocks_in, list_of}
 use Rattle.log_block.proofs.LogThenList.{log-length, log-blocks}
 use Rattle.log_block.proofs.ListThenLog.{list-none, list-whole}
-use Rattle.log.specs.declared.Copied.{Copied}
-use Rattle.log.specs.declared.Copied.TheVariants as copied
-use Rattle.log.specs.Log.{copied, encode_answer}
-use Rattle.log.proofs.CopyLaws.{encoded}
+use Rattle.log_list.specs.declared.Copied.{Copied}
+use Rattle.log_list.specs.declared.Copied.TheVariants as copied
+use Rattle.log_list.specs.Log.{copied, encode_answer}
+use Rattle.log_list.proofs.CopyLaws.{encoded}
 use Rattle.spec_index.specs.declared.Indexed.{Indexed}
 use Rattle.spec_index.specs.declared.Indexed.TheVariants as indexed
 use Rattle.spec_index.specs.Index.{index_of, words_up_to}

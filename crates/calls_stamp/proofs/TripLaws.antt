@@ -18,9 +18,9 @@ use Rattle.log_block.specs.Block.{block_count, log_of, blocks_in, first_bad_bloc
 use Rattle.log_block.proofs.CountLaws.{Records}
 use Rattle.log_block.proofs.LogThenList.{log-whole, log-blocks, log-right, log-then-list, stamp-log}
 use Rattle.log_block.proofs.ListThenLog.{list-none, list-whole, list-blocks, blocks-most, list-then-log}
-use Rattle.log.specs.declared.Copied.{Copied}
-use Rattle.log.specs.declared.Copied.TheVariants as copied
-use Rattle.log.specs.Log.{encode_answer, blocks_or_full, records_or_full}
+use Rattle.log_list.specs.declared.Copied.{Copied}
+use Rattle.log_list.specs.declared.Copied.TheVariants as copied
+use Rattle.log_list.specs.Log.{encode_answer, blocks_or_full, records_or_full}
 use Rattle.log_stamp.specs.Stamp.{stamp_at, settings_of}
 use Rattle.log_stamp.specs.Copy.{stamped_decode_answer, stamp_answer, unstamp_answer}
 use Rattle.log_stamp.proofs.StampLaws.{fourteen, Passed, made-right, stamps-same, right-next}

@@ -3,7 +3,7 @@
 use Rattle.std.specs.Prelude.{ℕ, cond, List, [], ltb, length}
 use Rattle.record.specs.declared.Refusal.TheVariants.{Bank}
 use Rattle.log_block.specs.Block.{log_of, blocks_in, list_of}
-use Rattle.log.specs.Log.{encode_answer}
+use Rattle.log_list.specs.Log.{encode_answer}
 use Rattle.log_block.specs.Right.{whole_in}
 use Rattle.log_stamp.specs.Stamp.{settings_of, right_stamped}
 use Rattle.log_stamp.specs.Copy.{stamped_decode_answer, stamp_answer, unstamp_answer}

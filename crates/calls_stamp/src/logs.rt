@@ -3,7 +3,7 @@ ghost use Rattle.std.specs.Prelude.{◌≡◌};
 ghost use Rattle.calls_stamp.specs.Results.{stamped_encode_call, stamped_decode_call, stamp_call, unstamp_call};
 
 use calls_list::logs::copy_answer;
-use log::Copied;
+use log_list::Copied;
 use record::Refusal;
 use settings::SettingsRead;
 use spec_calls::CopyAnswer;
@@ -14,7 +14,7 @@ pub fn encode_by(settings: &[u8], list: &[u8], log: &mut [u8]) -> CopyAnswer
 {
     match settings::read::read_settings(settings) {
         SettingsRead::Refused => copy_answer(Copied::Refused(Refusal::Settings)),
-        SettingsRead::Accepted(s) => copy_answer(log::copy::encode(s, 14, settings, list, log)),
+        SettingsRead::Accepted(s) => copy_answer(log_list::copy::encode(s, 14, settings, list, log)),
     }
 }
 

@@ -45,7 +45,7 @@ pub fn check_log(s: Settings, log: &[u8]) -> Judged
     if log.len() % 512 != 0 {
         return Judged::Refused(Refusal::Length);
     }
-    let found = log::copy::faults(s, log, 15);
+    let found = log_list::copy::faults(s, log, 15);
     let block = found.block;
     if block != log.len() / 512 {
         return Judged::Refused(Refusal::Block(block as u64));

@@ -3,14 +3,14 @@ ghost use Rattle.std.specs.Prelude.{◌≡◌, ℕ, ◌+◌, ◌*◌, ◌<◌, �
 ghost use Rattle.num.specs.Bytes.{bytes, part, splice};
 ghost use Rattle.num.specs.Search.{first_false};
 ghost use Rattle.log_block.specs.Block.{used, blocks_in, block_at};
-ghost use Rattle.log.specs.declared.Copied.TheVariants.{Refused, Count};
+ghost use Rattle.log_list.specs.declared.Copied.TheVariants.{Refused, Count};
 ghost use Rattle.log_block.specs.Right.{right_log};
 ghost use Rattle.spec_index.specs.Index.{words_up_to, word_right, index_of};
 ghost use Rattle.spec_index.specs.Answers.{lent_after, add_answer};
 ghost use Rattle.log_index.specs.Form.Fields.{fields_word};
 ghost use Rattle.log_index.specs.Form.Room.{room_answer};
 
-use log::Copied;
+use log_list::Copied;
 use record::Refusal;
 use settings::Settings;
 use spec_index::Indexed;
@@ -74,7 +74,7 @@ pub fn right(s: Settings, log: &[u8]) -> Copied
     ensures { result ≡ right_log Refused 15 s log.now (Count (blocks_in log.now)) }
 {
     let n = log.len() / 512;
-    let found = log::copy::faults(s, log, 15);
+    let found = log_list::copy::faults(s, log, 15);
     if found.block != n {
         return Copied::Refused(Refusal::Block(found.block as u64));
     }

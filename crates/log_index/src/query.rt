@@ -10,7 +10,7 @@ ghost use Rattle.spec_index.specs.Answers.{lent_after, right_beside, count_or_fu
 ghost use Rattle.log_index.specs.Form.Beside.{beside_fields};
 
 use crate::make::{first_wrong, right};
-use log::Copied;
+use log_list::Copied;
 use record::Refusal;
 use settings::Settings;
 use spec_index::Indexed;

@@ -13,9 +13,9 @@ use Rattle.record.specs.declared.Refusal.{Refusal}
 use Rattle.record.specs.declared.Refusal.TheVariants.{Full, Word, Block, Length, Stamp}
 use Rattle.record.specs.Record.{first_bad, records_in}
 use Rattle.log_block.specs.Block.{block_count, blocks_in, first_bad_block, list_of}
-use Rattle.log.specs.declared.Copied.{Copied}
-use Rattle.log.specs.declared.Copied.TheVariants.{Refused, Count}
-use Rattle.log.specs.Log.{blocks_fit, blocks_or_full, records_or_full}
+use Rattle.log_list.specs.declared.Copied.{Copied}
+use Rattle.log_list.specs.declared.Copied.TheVariants.{Refused, Count}
+use Rattle.log_list.specs.Log.{blocks_fit, blocks_or_full, records_or_full}
 use Rattle.log_block.specs.Right.{right_log}
 use Rattle.log_stamp.specs.Stamp.{first_bad_stamp, settings_of, right_stamped}
 use Rattle.log_stamp.specs.Copy.{stamped_decode_answer, stamp_answer, unstamp_answer}

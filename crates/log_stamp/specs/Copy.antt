@@ -4,9 +4,9 @@
 use Rattle.std.specs.Prelude.{ℕ, List}
 use Rattle.settings.specs.declared.Settings.{Settings}
 use Rattle.log_block.specs.Block.{list_of}
-use Rattle.log.specs.declared.Copied.{Copied}
-use Rattle.log.specs.declared.Copied.TheVariants.{Refused}
-use Rattle.log.specs.Log.{blocks_or_full, records_or_full}
+use Rattle.log_list.specs.declared.Copied.{Copied}
+use Rattle.log_list.specs.declared.Copied.TheVariants.{Refused}
+use Rattle.log_list.specs.Log.{blocks_or_full, records_or_full}
 use Rattle.log_block.specs.Right.{whole_in, right_log}
 use Rattle.log_stamp.specs.Stamp.{right_stamped}
 

@@ -2,13 +2,13 @@
 ghost use Rattle.std.specs.Prelude.{◌≡◌, cond, ◌+◌, ◌*◌, ◌/◌, ◌%◌, ◌≤◌, leb, [], length};
 ghost use Rattle.log_block.specs.Block.{log_of, list_of};
 ghost use Rattle.record.specs.declared.Refusal.TheVariants.{Full};
-ghost use Rattle.log.specs.declared.Copied.TheVariants.{Refused, Count};
-ghost use Rattle.log.specs.Log.{copied};
+ghost use Rattle.log_list.specs.declared.Copied.TheVariants.{Refused, Count};
+ghost use Rattle.log_list.specs.Log.{copied};
 ghost use Rattle.log_stamp.specs.Copy.{stamped_decode_answer, stamp_answer, unstamp_answer};
 
 use crate::{Judgement, tested};
-use log::Copied;
-use log::copy::blocks_or_full;
+use log_list::Copied;
+use log_list::copy::blocks_or_full;
 use record::Refusal;
 use settings::Settings;
 

@@ -90,7 +90,7 @@ fn found_in(s: Settings, log: &[u8]) -> Found
                 same: same,
             };
         }
-        bad = log::copy::bad_up_to(s, log, 14, k, bad);
+        bad = log_list::copy::bad_up_to(s, log, 14, k, bad);
         same = same & same_at(log, k);
         k += 1;
     }
@@ -153,7 +153,7 @@ fn settings_of(log: &[u8]) -> SettingsRead
 fn unstamped(log: &[u8]) -> Refusal
     ensures { result ≡ cond (eqb (first_bad_block 14 log.now) (blocks_in log.now)) (Stamp 0) (Block (first_bad_block 14 log.now)) }
 {
-    let found = log::copy::faults(no_settings(), log, 14);
+    let found = log_list::copy::faults(no_settings(), log, 14);
     if found.block != log.len() / 512 {
         return Refusal::Block(found.block as u64);
     }

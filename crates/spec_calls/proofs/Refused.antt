@@ -25,9 +25,9 @@ use Rattle.spec_model.specs.declared.Stepped.{Stepped}
 use Rattle.spec_model.specs.declared.Stepped.TheVariants as stepped
 use Rattle.spec_model.specs.ModelBytes.{model_in, model_right}
 use Rattle.spec_model.specs.Step.{step_answer}
-use Rattle.log.specs.declared.Copied.{Copied}
-use Rattle.log.specs.declared.Copied.TheVariants as copied
-use Rattle.log.specs.Log.{copied}
+use Rattle.log_list.specs.declared.Copied.{Copied}
+use Rattle.log_list.specs.declared.Copied.TheVariants as copied
+use Rattle.log_list.specs.Log.{copied}
 use Rattle.meter.specs.Answer.{feed_accepted}
 use Rattle.meter.specs.Meter.{feed_meter}
 use Rattle.meter.specs.Calls.{fed_answered}

@@ -13,11 +13,11 @@ use Rattle.settings.specs.declared.SettingsRead.TheVariants.{Refused, Accepted}
 use Rattle.settings.specs.Settings.{settings_read}
 use Rattle.record.specs.declared.Refusal.TheVariants as refusal
 use Rattle.record.proofs.RefusalLaws.{refused-number}
-use Rattle.log.specs.declared.Copied.{Copied}
-use Rattle.log.specs.declared.Copied.TheVariants as copied
-use Rattle.log.specs.Log.{copied, encode_answer, decode_answer}
-use Rattle.log.proofs.CopyLaws.{encoded, decoded}
-use Rattle.log.proofs.RoundTrip.{decode-encoded, encode-decoded}
+use Rattle.log_list.specs.declared.Copied.{Copied}
+use Rattle.log_list.specs.declared.Copied.TheVariants as copied
+use Rattle.log_list.specs.Log.{copied, encode_answer, decode_answer}
+use Rattle.log_list.proofs.CopyLaws.{encoded, decoded}
+use Rattle.log_list.proofs.RoundTrip.{decode-encoded, encode-decoded}
 use Rattle.log_block.specs.Block.{log_of, list_of}
 use Rattle.log_block.proofs.CountLaws.{Records}
 use Rattle.log_block.proofs.LogThenList.{log-length, log-then-list}

@@ -4,9 +4,9 @@ use Rattle.std.specs.Prelude.{ℕ, List, [], length}
 use Rattle.settings.specs.declared.Settings.{Settings as Figures}
 use Rattle.record.specs.Refusal.{answer_of}
 use Rattle.log_block.specs.Block.{log_of, list_of}
-use Rattle.log.specs.declared.Copied.{Copied}
-use Rattle.log.specs.declared.Copied.TheVariants.{Refused, Count}
-use Rattle.log.specs.Log.{copied, encode_answer, decode_answer}
+use Rattle.log_list.specs.declared.Copied.{Copied}
+use Rattle.log_list.specs.declared.Copied.TheVariants.{Refused, Count}
+use Rattle.log_list.specs.Log.{copied, encode_answer, decode_answer}
 use Rattle.spec_calls.specs.declared.CopyAnswer.{CopyAnswer}
 use Rattle.spec_calls.specs.Settings.{under_settings}
 

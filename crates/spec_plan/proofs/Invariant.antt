@@ -2,7 +2,7 @@
 -- that the planner sends then passes the tests on the state (rules 4, 9, 14, 15 and 16).
 -- Assumes nothing.
 use Prim.Native.Nat.{ℕ, ◌≤◌, ◌<◌, ◌^◌}
-use mathlib.Core.Path.{◌≡◌, refl, sym, ◌∙◌}
+use mathlib.Core.Path.{◌≡◌, refl, sym, subst, ◌∙◌}
 use mathlib.Core.Bool.{Bool, true, false, not, ◌&&◌, ◌||◌, cond, or-true}
 use mathlib.Core.List.{List, [], ◌∷◌}
 use mathlib.Core.Option.{Option, none, some}
@@ -331,7 +331,8 @@ unfolding traits col_traits
 leaver-nocop cx ch [] h c = refl
 leaver-nocop cx ch (w ∷ []) h c = rw (and_left (is_open (state_of ch w.bank)) _ h)
 leaver-nocop cx ch (w ∷ y ∷ ws) h c =
-    rw (not-true w.close c, and_left (is_open (state_of ch w.bank)) _ h, none-picked ws) (or-true (not (y.close || any_closes ws)))
+    subst (λ q. leaver_fits cx ch (ColAt never (Nocop 0xFFFF)) (record w { close = q } ∷ y ∷ ws) ≡ true) (sym (not-true w.close c))
+    (rw (and_left (is_open (state_of ch w.bank)) _ h, none-picked ws) (or-true (not (y.close || any_closes ws))))
 
 pub free-near : (cx : Context) (state : ℕ → Bank) (b : ℕ) → NearClosed cx state b → free_for cx state (some b) ≡ true
 free-near cx state b c = all-intro (λ x. not (near cx b x) || is_closed (state x)) bank_count (λ x m. go x (near cx b x) refl (c x m))

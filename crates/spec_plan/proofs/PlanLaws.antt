@@ -1,7 +1,7 @@
 -- Every step of the planner keeps its invariant, and each of its records passes the tests on the state, at the least instant.
 -- Assumes nothing.
 use Prim.Native.Nat.{ℕ, zero, suc, ◌+◌, ◌≤◌, ◌<◌, ◌^◌}
-use mathlib.Core.Path.{◌≡◌, refl, ap, ◌∙◌}
+use mathlib.Core.Path.{◌≡◌, refl, sym, subst, ap, ◌∙◌}
 use mathlib.Core.Bool.{Bool, true, false, not, ◌&&◌, ◌||◌, cond, or-true, and-false}
 use mathlib.Core.List.{List, [], ◌∷◌}
 use mathlib.Core.Option.{Option, none, some}
@@ -27,7 +27,7 @@ use Rattle.spec_rules.specs.declared.Buffer.TheVariants.{Empty, One, Two}
 use Rattle.spec_rules.specs.declared.Channel.{Channel}
 use Rattle.spec_rules.specs.Neighbour.{bank_count, Context, Neighbours, near}
 use Rattle.spec_rules.specs.Packets.{traits, row_traits, col_traits, is_packet}
-use Rattle.spec_rules.specs.History.{bank_by, is_closed, is_open, first, rest, left, queued, any_write, retire_implies, closed_by, reaches, two}
+use Rattle.spec_rules.specs.History.{bank_by, is_closed, is_open, only, first, rest, left, queued, any_write, retire_implies, closed_by, reaches, two}
 use Rattle.spec_rules.specs.Rules.{open_for, stays}
 use Rattle.spec_rules.specs.Channel.{waiting_of, newest_due, due_of, after_data, after}
 use Rattle.spec_rules.specs.Earliest.{placed_at, fits, may_stay, soonest, least_from}
@@ -79,7 +79,7 @@ implied-changed cx (some p) x b = refl
 pub rest-far : (cx : Context) (ws : List Write) → newest_closes ws ≡ true → in_banks (reaches cx (retire_implies (first ws))) (rest ws) ≡ false
 rest-far cx [] h = refl
 rest-far cx (x ∷ []) h = refl
-rest-far cx (x ∷ y ∷ ws) h = rw (not-true x.close h) (none-picked ws)
+rest-far cx (x ∷ y ∷ ws) h = subst (λ q. in_banks (reaches cx (only q (some x.bank))) (y ∷ ws) ≡ false) (sym (not-true x.close h)) (none-picked ws)
 
 rest-queue : (b : Buffer) → newest_closes (rest (waiting_of b)) ≡ true
 unfolding waiting_of

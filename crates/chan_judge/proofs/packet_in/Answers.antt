@@ -8,7 +8,7 @@ use Rattle.chan_judge.proofs.packet_in.Goals as goal
 
 pub returns-then-v : goal.returns-then-v
 returns-then-v c =
-    let long : length c.args.t2.banks ≡ 32 = search (length-of-map, c.well_formed.1.0) in
+    let long : length c.args.ch.banks ≡ 32 = search (length-of-map, c.well_formed.1.0) in
     rw (
       c.packet_rule.ensures,
       c.act_bound.ensures,
@@ -22,11 +22,11 @@ returns-then-v c =
       c.centre-c.ensures,
       c.slot_of-i.ensures.0,
     )
-    (rule-read c.args.s c.args.v c.args.h c.args.t2.banks (long) c.args.t2.lasts)
+    (rule-read c.args.s c.args.v c.args.h c.args.ch.banks (long) c.args.ch.lasts)
 
 pub returns : goal.returns
 returns c =
-    let long : length c.args.t2.banks ≡ 32 = search (length-of-map, c.well_formed.1.0) in
+    let long : length c.args.ch.banks ≡ 32 = search (length-of-map, c.well_formed.1.0) in
     rw (
       c.packet_rule-2.ensures,
       c.around-k.ensures,
@@ -39,4 +39,4 @@ returns c =
       c.centre-c.ensures,
       c.slot_of-i.ensures.0,
     )
-    (rule-unopened c.args.s c.args.v c.args.h c.args.t2.banks (long) c.args.t2.lasts c.if-v.false)
+    (rule-unopened c.args.s c.args.v c.args.h c.args.ch.banks (long) c.args.ch.lasts c.if-v.false)

@@ -7,7 +7,7 @@ use Rattle.chan_least.proofs.tracks_in.Goals as goal
 
 pub returns : goal.returns
 returns c =
-    let long : length c.args.t2 ≡ 32 = search (length-of-map, c.well_formed.1.0) in
+    let long : length c.args.banks ≡ 32 = search (length-of-map, c.well_formed.1.0) in
     rw (
       c.around.ensures,
       c.slot_of-o.ensures.0,
@@ -18,4 +18,4 @@ returns c =
       c.low_of.ensures,
       c.slot_of-i.ensures.0,
     )
-    (around-is c.args.t2 (long) c.args.s c.args.b c.args.c c.args.h)
+    (around-is c.args.banks (long) c.args.s c.args.b c.args.c c.args.h)

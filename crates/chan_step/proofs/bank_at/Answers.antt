@@ -7,5 +7,5 @@ use Rattle.chan_step.proofs.bank_at.Goals as goal
 
 pub returns : goal.returns
 returns c =
-    let long : length c.args.t1 ≡ 32 = search (length-of-map, c.well_formed.0) in
-    rw (c.track_of.ensures, c.slot_of-i.ensures.0) (slot_read c.args.t1 (long) c.args.b)
+    let long : length c.args.banks ≡ 32 = search (length-of-map, c.well_formed.0) in
+    rw (c.track_of.ensures, c.slot_of-i.ensures.0) (slot_read c.args.banks (long) c.args.b)

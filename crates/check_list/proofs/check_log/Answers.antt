@@ -4,7 +4,7 @@ use native.Mathlib.Omega.{arith}
 use borrow.Author.Tests.{eq-eqb, ne_eqb}
 use Rattle.spec_rules.specs.Neighbour.{context_of}
 use Rattle.log_block.proofs.CountLaws.{Records}
-use Rattle.log.proofs.BadLaws.{bad-of-all}
+use Rattle.log_list.proofs.BadLaws.{bad-of-all}
 use Rattle.spec_check.specs.Check.{log_answer, records_answer, rule_answer}
 use Rattle.check_list.proofs.WalkLaws.{log-via, log-within, log-formed, log-few}
 use borrow.Author.Rules.{rules}

@@ -19,8 +19,8 @@ use Rattle.record.specs.declared.Refusal.TheVariants.{Full, Word, Block, Length}
 use Rattle.record.specs.Record.{first_bad, records_in}
 use Rattle.log_block.specs.Block.{blocks_in, block_at, first_bad_block, list_of}
 use Rattle.log_block.proofs.CountLaws.{Records}
-use Rattle.log.specs.declared.Copied.{Copied}
-use Rattle.log.specs.declared.Copied.TheVariants.{Refused as CopyRefused, Count as CopyCount}
+use Rattle.log_list.specs.declared.Copied.{Copied}
+use Rattle.log_list.specs.declared.Copied.TheVariants.{Refused as CopyRefused, Count as CopyCount}
 use Rattle.log_block.specs.Right.{right_log}
 use Rattle.spec_index.specs.declared.Indexed.{Indexed}
 use Rattle.spec_index.specs.declared.Indexed.TheVariants.{Refused, Differs, Count}

@@ -15,7 +15,7 @@ use Rattle.record.specs.Record.{first_bad}
 use Rattle.log_block.specs.Block.{blocks_in, block_at, first_bad_block, list_up_to}
 use Rattle.log_block.proofs.BlockLaws.{right_at}
 use Rattle.log_block.proofs.OneBlock.{right_of}
-use Rattle.log.proofs.BadLaws.{bad-next}
+use Rattle.log_list.proofs.BadLaws.{bad-next}
 use Rattle.log_stamp.specs.Stamp.{stamp_at, same_stamp}
 use borrow.Author.Rules.{rules}
 use Rattle.log_stamp.proofs.found_in.Goals as goal

@@ -6,7 +6,7 @@ use Rattle.settings.specs.declared.Settings.{Settings}
 use Rattle.record.specs.Record.{first_bad}
 use Rattle.log_block.specs.Block.{list_of}
 use Rattle.log_block.proofs.CountLaws.{Records}
-use Rattle.log.proofs.BadLaws.{bad-of-all}
+use Rattle.log_list.proofs.BadLaws.{bad-of-all}
 use Rattle.log_stamp.specs.declared.Judgement.TheVariants.{Right}
 use Rattle.log_stamp.proofs.StampLaws.{fourteen, others-are}
 use borrow.Author.Rules.{rules}

@@ -1,6 +1,6 @@
 -- `decode_by` meets its contract: each arm is a case of the definition.
 use mathlib.Core.Path.{◌∙◌, sym}
-use Rattle.log.specs.Log.{copied, decode_log}
+use Rattle.log_list.specs.Log.{copied, decode_log}
 use Rattle.spec_calls.specs.Settings.{under_settings}
 use Rattle.spec_calls.specs.Logs.{copy_call, log_decode_call}
 use borrow.Author.Rules.{rules}

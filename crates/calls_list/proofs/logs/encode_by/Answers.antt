@@ -1,7 +1,7 @@
 -- `encode_by` meets its contract: each arm is a case of the definition.
 use mathlib.Core.Path.{◌∙◌, sym, refl}
 use native.Mathlib.Omega.{arith}
-use Rattle.log.specs.Log.{copied, encode_log}
+use Rattle.log_list.specs.Log.{copied, encode_log}
 use Rattle.spec_calls.specs.Settings.{under_settings}
 use Rattle.spec_calls.specs.Logs.{copy_call, log_encode_call}
 use borrow.Author.Rules.{rules}

@@ -1,7 +1,7 @@
 -- `encode_by` meets its contract: each arm is a case of the definition.
 use mathlib.Core.Path.{◌∙◌, sym}
 use native.Mathlib.Omega.{arith}
-use Rattle.log.specs.Log.{copied, encode_log}
+use Rattle.log_list.specs.Log.{copied, encode_log}
 use Rattle.spec_calls.specs.Settings.{under_settings}
 use Rattle.spec_calls.specs.Logs.{copy_call}
 use Rattle.calls_stamp.specs.Results.{stamped_encode_call}

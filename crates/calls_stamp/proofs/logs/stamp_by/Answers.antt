@@ -1,6 +1,6 @@
 -- `stamp_by` meets its contract: each arm is a case of the definition.
 use mathlib.Core.Path.{◌∙◌, sym}
-use Rattle.log.specs.Log.{copied}
+use Rattle.log_list.specs.Log.{copied}
 use Rattle.spec_calls.specs.Settings.{under_settings}
 use Rattle.spec_calls.specs.Logs.{copy_call}
 use Rattle.calls_stamp.specs.Results.{stamp_call}

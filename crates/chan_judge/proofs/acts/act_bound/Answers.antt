@@ -16,7 +16,7 @@ pub loop-x-preserved : goal.loop-x-preserved
 loop-x-preserved c =
     let a = c.args in
     let g = c.loop-x in
-    (search rules, c.act_with-asked.ensures ∙ rw (g.invariant.1, acts-next a.s a.t2 a.b g.x))
+    (search rules, c.act_with-asked.ensures ∙ rw (g.invariant.1, acts-next a.s a.banks a.b g.x))
 
 pub returns : goal.returns
 unfolding act_over

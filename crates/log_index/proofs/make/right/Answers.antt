@@ -1,7 +1,7 @@
 -- `right` meets its contract: the tests are the definition's, in their order.
 use mathlib.Core.Path.{◌∙◌, sym}
 use borrow.Author.Tests.{eq-eqb, ne_eqb}
-use Rattle.log.proofs.BadLaws.{bad-of-all}
+use Rattle.log_list.proofs.BadLaws.{bad-of-all}
 use native.Mathlib.Omega.{arith}
 use Rattle.log_index.proofs.make.MakeLaws.{fifteen}
 use borrow.Author.Rules.{rules}

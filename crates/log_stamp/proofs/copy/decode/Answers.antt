@@ -1,7 +1,7 @@
 -- `decode` meets its contract: the list is written only where the answer is a count, and then every test was passed.
 use mathlib.Core.Path.{◌∙◌, sym}
 use native.Mathlib.Omega.{arith}
-use Rattle.log.specs.Log.{copied}
+use Rattle.log_list.specs.Log.{copied}
 use Rattle.log_block.proofs.ListThenLog.{list-whole}
 use Rattle.log_stamp.proofs.StampLaws.{fourteen}
 use Rattle.log_stamp.proofs.CopyLaws.{decoded}

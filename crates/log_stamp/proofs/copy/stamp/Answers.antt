@@ -1,7 +1,7 @@
 -- `stamp` meets its contract: the new log is written only where the answer is a count, and then every test was passed.
 use mathlib.Core.Path.{◌∙◌, sym}
 use native.Mathlib.Omega.{arith}
-use Rattle.log.specs.Log.{copied}
+use Rattle.log_list.specs.Log.{copied}
 use Rattle.log_stamp.proofs.CopyLaws.{stamped}
 use borrow.Author.Rules.{rules}
 use Rattle.log_stamp.proofs.copy.stamp.Goals as goal

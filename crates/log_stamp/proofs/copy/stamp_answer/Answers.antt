@@ -2,7 +2,7 @@
 use mathlib.Core.Path.{◌≡◌, ◌∙◌, sym, ap}
 use native.Mathlib.Omega.{arith}
 use borrow.Author.Tests.{eq-eqb, ne_eqb}
-use Rattle.log.specs.declared.Copied.TheVariants.{Refused}
+use Rattle.log_list.specs.declared.Copied.TheVariants.{Refused}
 use Rattle.log_block.specs.Block.{blocks_in}
 use Rattle.log_index.proofs.make.MakeLaws.{fifteen, right-passed}
 use Rattle.log_stamp.proofs.moved.ChunkLaws.{records-few}

@@ -1,7 +1,7 @@
 -- `unstamp` meets its contract: the old log is written only where the answer is a count, and then every test was passed.
 use mathlib.Core.Path.{◌∙◌, sym, refl}
 use native.Mathlib.Omega.{arith}
-use Rattle.log.specs.Log.{copied}
+use Rattle.log_list.specs.Log.{copied}
 use Rattle.log_stamp.proofs.CopyLaws.{unstamped}
 use borrow.Author.Rules.{rules}
 use Rattle.log_stamp.proofs.copy.unstamp.Goals as goal

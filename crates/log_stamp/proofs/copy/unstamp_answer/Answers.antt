@@ -2,8 +2,8 @@
 use mathlib.Core.Path.{◌≡◌, ◌∙◌, sym}
 use native.Mathlib.Omega.{arith}
 use borrow.Author.Tests.{eq-eqb, ne_eqb}
-use Rattle.log.specs.declared.Copied.TheVariants.{Refused}
-use Rattle.log.specs.Log.{blocks_or_full}
+use Rattle.log_list.specs.declared.Copied.TheVariants.{Refused}
+use Rattle.log_list.specs.Log.{blocks_or_full}
 use Rattle.log_block.specs.Block.{list_of}
 use Rattle.log_stamp.proofs.moved.ChunkLaws.{records-few}
 use Rattle.log_stamp.specs.Copy.{unstamp_answer}

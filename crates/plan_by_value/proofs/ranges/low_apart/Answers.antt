@@ -7,7 +7,7 @@ use Rattle.plan_by_value.proofs.ranges.low_apart.Goals as goal
 
 pub returns : goal.returns
 returns c =
-    let long : length c.args.t2.banks ≡ 32 = search (length-of-map, c.good.1.0) in
+    let long : length c.args.ch.banks ≡ 32 = search (length-of-map, c.good.1.0) in
     rw (
       c.is_closed-2.ensures,
       c.is_closed.ensures,
@@ -16,6 +16,6 @@ returns c =
       c.low_of-b.ensures,
       c.track_of-own.ensures,
       c.slot_of-i.ensures.0,
-      slot_read c.args.t2.banks (long) c.args.x,
-      slot_read c.args.t2.banks (long) _,
+      slot_read c.args.ch.banks (long) c.args.x,
+      slot_read c.args.ch.banks (long) _,
     )

@@ -27,7 +27,7 @@ shape_of-room c =
 pub loop-i-preserved : goal.loop-i-preserved
 loop-i-preserved c =
     let k = c.loop-i in
-    (omega (arith, c.loop-i-test.true), c.put_record.ensures ∙ rw k.invariant.1 (put-turn c.args.s c.args.t3 c.args.room.now k.i (omega (arith, c.requires.1, k.invariant.0))))
+    (omega (arith, c.loop-i-test.true), c.put_record.ensures ∙ rw k.invariant.1 (put-turn c.args.s c.args.list c.args.room.now k.i (omega (arith, c.requires.1, k.invariant.0))))
 
 pub returns : goal.returns
 returns c =

@@ -12,9 +12,9 @@ use Rattle.record.specs.Record.{first_bad}
 use Rattle.log_block.specs.Block.{blocks_in, block_at, first_bad_block, list_up_to}
 use Rattle.log_block.proofs.BlockLaws.{right_at}
 use Rattle.log_block.proofs.OneBlock.{right_of}
-use Rattle.log.proofs.BadLaws.{bad-next}
+use Rattle.log_list.proofs.BadLaws.{bad-next}
 use borrow.Author.Rules.{rules}
-use Rattle.log.proofs.copy.faults.Given as goal
+use Rattle.log_list.proofs.copy.faults.Given as goal
 
 abbrev pub invariant-loop-k : goal.invariant-loop-k
 invariant-loop-k l = (l.k ≤ l.n) × ((i : ℕ) → i < l.k → right_at l.per l.log i ≡ true) × (l.bad ≡ first_bad l.s (list_up_to l.log l.k))

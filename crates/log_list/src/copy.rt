@@ -4,8 +4,8 @@ ghost use Rattle.num.specs.Bytes.{part};
 ghost use Rattle.record.specs.Record.{first_bad};
 ghost use Rattle.record.specs.declared.Refusal.TheVariants.{Full};
 ghost use Rattle.log_block.specs.Block.{block_count, used, blocks_in, block_at, first_bad_block, list_up_to};
-ghost use Rattle.log.specs.declared.Copied.TheVariants.{Refused, Count};
-ghost use Rattle.log.specs.Log.{encode_answer, encode_log, decode_answer, decode_log};
+ghost use Rattle.log_list.specs.declared.Copied.TheVariants.{Refused, Count};
+ghost use Rattle.log_list.specs.Log.{encode_answer, encode_log, decode_answer, decode_log};
 
 use crate::{Copied, Faults};
 use record::Refusal;

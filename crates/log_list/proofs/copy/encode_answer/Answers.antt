@@ -1,9 +1,9 @@
 -- `encode_answer` meets its contract: the tests are the definition's, in their order.
 use mathlib.Core.Path.{◌∙◌, sym}
 use borrow.Author.Tests.{eq-eqb, ne_eqb}
-use Rattle.log.specs.Log.{encode_answer}
+use Rattle.log_list.specs.Log.{encode_answer}
 use borrow.Author.Rules.{rules}
-use Rattle.log.proofs.copy.encode_answer.Goals as goal
+use Rattle.log_list.proofs.copy.encode_answer.Goals as goal
 
 pub returns-then-list-ne0 : goal.returns-then-list-ne0
 unfolding encode_answer

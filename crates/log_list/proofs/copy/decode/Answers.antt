@@ -1,11 +1,11 @@
 -- `decode` meets its contract: the list is written only where the answer is a count, and then every test was passed.
 use mathlib.Core.Path.{◌∙◌, sym}
 use native.Mathlib.Omega.{arith}
-use Rattle.log.specs.Log.{decode_log, copied}
-use Rattle.log.proofs.CopyLaws.{decoded}
+use Rattle.log_list.specs.Log.{decode_log, copied}
+use Rattle.log_list.proofs.CopyLaws.{decoded}
 use Rattle.log_block.proofs.ListThenLog.{list-whole}
 use borrow.Author.Rules.{rules}
-use Rattle.log.proofs.copy.decode.Goals as goal
+use Rattle.log_list.proofs.copy.decode.Goals as goal
 
 pub read_list-requires : goal.read_list-requires
 read_list-requires c =

@@ -2,10 +2,10 @@
 use Prim.Native.Nat.{◌/◌}
 use mathlib.Core.Path.{◌≡◌, ◌∙◌, sym}
 use borrow.Author.Tests.{eq-eqb, ne_eqb, le-leb, lt-leb}
-use Rattle.log.specs.Log.{decode_answer}
-use Rattle.log.proofs.BadLaws.{bad-of-all}
+use Rattle.log_list.specs.Log.{decode_answer}
+use Rattle.log_list.proofs.BadLaws.{bad-of-all}
 use borrow.Author.Rules.{rules}
-use Rattle.log.proofs.copy.decode_answer.Goals as goal
+use Rattle.log_list.proofs.copy.decode_answer.Goals as goal
 
 pub returns-then-log-ne0 : goal.returns-then-log-ne0
 unfolding decode_answer

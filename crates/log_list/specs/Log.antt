@@ -6,8 +6,8 @@ use Rattle.num.specs.Bytes.{splice}
 use Rattle.settings.specs.declared.Settings.{Settings}
 use Rattle.record.specs.declared.Refusal.TheVariants.{Full}
 use Rattle.record.specs.Record.{records_in}
-use Rattle.log.specs.declared.Copied.{Copied}
-use Rattle.log.specs.declared.Copied.TheVariants.{Refused, Count}
+use Rattle.log_list.specs.declared.Copied.{Copied}
+use Rattle.log_list.specs.declared.Copied.TheVariants.{Refused, Count}
 use Rattle.log_block.specs.Block.{block_count, log_of, list_of}
 use Rattle.log_block.specs.Right.{whole_in, right_records, right_log}
 

@@ -1,9 +1,9 @@
 -- `encode` meets its contract: the log is written only where the answer is a count, and then every test was passed.
 use mathlib.Core.Path.{◌∙◌, sym}
-use Rattle.log.specs.Log.{encode_log, copied}
-use Rattle.log.proofs.CopyLaws.{encoded}
+use Rattle.log_list.specs.Log.{encode_log, copied}
+use Rattle.log_list.proofs.CopyLaws.{encoded}
 use borrow.Author.Rules.{rules}
-use Rattle.log.proofs.copy.encode.Goals as goal
+use Rattle.log_list.proofs.copy.encode.Goals as goal
 
 pub write_log-requires : goal.write_log-requires
 write_log-requires c =

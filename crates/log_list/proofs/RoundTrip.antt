@@ -11,13 +11,13 @@ use Rattle.num.specs.Bytes.{splice, Bytes}
 use Rattle.settings.specs.declared.Settings.{Settings}
 use Rattle.record.specs.declared.Refusal.{Refusal}
 use Rattle.record.specs.Record.{records_in}
-use Rattle.log.specs.declared.Copied.TheVariants.{Refused, Count}
+use Rattle.log_list.specs.declared.Copied.TheVariants.{Refused, Count}
 use Rattle.log_block.specs.Block.{log_of, block_at, stamp_of, blocks_in, list_of}
-use Rattle.log.specs.Log.{copied, encode_answer, encode_log, decode_answer, decode_log}
+use Rattle.log_list.specs.Log.{copied, encode_answer, encode_log, decode_answer, decode_log}
 use Rattle.log_block.proofs.CountLaws.{Records}
 use Rattle.log_block.proofs.LogThenList.{log-whole, log-right, log-then-list}
 use Rattle.log_block.proofs.ListThenLog.{list-whole, list-blocks, blocks-most, list-then-log}
-use Rattle.log.proofs.CopyLaws.{encoded, decoded}
+use Rattle.log_list.proofs.CopyLaws.{encoded, decoded}
 
 -- of blocks of so many records, with this stamp
 module _ (per : ℕ) (stamp : List ℕ) (form : Records per) (fits : 32 * per + length stamp ≡ 480) where

@@ -12,10 +12,10 @@ use Rattle.settings.specs.declared.Settings.{Settings}
 use Rattle.record.specs.declared.Refusal.{Refusal}
 use Rattle.record.specs.declared.Refusal.TheVariants.{Full, Word, Block, Length}
 use Rattle.record.specs.Record.{first_bad, records_in}
-use Rattle.log.specs.declared.Copied.{Copied}
-use Rattle.log.specs.declared.Copied.TheVariants.{Refused, Count}
+use Rattle.log_list.specs.declared.Copied.{Copied}
+use Rattle.log_list.specs.declared.Copied.TheVariants.{Refused, Count}
 use Rattle.log_block.specs.Block.{block_count, blocks_in, first_bad_block, list_of}
-use Rattle.log.specs.Log.{blocks_fit, encode_answer, decode_answer}
+use Rattle.log_list.specs.Log.{blocks_fit, encode_answer, decode_answer}
 
 -- an accepted call passed each test on its way
 pick-count : (t : Bool) (x : Copied) (r : Refusal) (n : ℕ) → cond t x (Refused r) ≡ Count n → (t ≡ true) × (x ≡ Count n)

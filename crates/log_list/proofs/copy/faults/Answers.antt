@@ -12,9 +12,9 @@ use Rattle.record.specs.Record.{first_bad}
 use Rattle.log_block.specs.Block.{blocks_in, block_at, first_bad_block, list_up_to}
 use Rattle.log_block.proofs.BlockLaws.{right_at}
 use Rattle.log_block.proofs.OneBlock.{right_of}
-use Rattle.log.proofs.BadLaws.{bad-next}
+use Rattle.log_list.proofs.BadLaws.{bad-next}
 use borrow.Author.Rules.{rules}
-use Rattle.log.proofs.copy.faults.Goals as goal
+use Rattle.log_list.proofs.copy.faults.Goals as goal
 
 pub loop-k-init : goal.loop-k-init
 unfolding first_bad first_false list_up_to
