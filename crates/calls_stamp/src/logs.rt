@@ -14,7 +14,9 @@ pub fn encode_by(settings: &[u8], list: &[u8], log: &mut [u8]) -> CopyAnswer
 {
     match settings::read::read_settings(settings) {
         SettingsRead::Refused => copy_answer(Copied::Refused(Refusal::Settings)),
-        SettingsRead::Accepted(s) => copy_answer(log_list::copy::encode(s, 14, settings, list, log)),
+        SettingsRead::Accepted(s) => copy_answer(log_list::copy::encode(
+            s, 14, settings, list, log,
+        )),
     }
 }
 

@@ -6,4 +6,3 @@ use Rattle.listing_text.proofs.put_records.Goals as goal
 pub returns : goal.returns
 unfolding codes records_line
 returns c = c.put_count.ensures
-

@@ -43,4 +43,3 @@ unfolding col_line codes
 returns-in-Rd c =
     rw c.in-Rd.is
     (rw (c.letters-n-in-Rd.ensures.0, named _ _ _ _) at c.put_line-in-Rd.ensures)
-

@@ -14,4 +14,3 @@ returns c =
     let k = c.args.k in
     let e : 512 * k + 32 * used (block_at log k) - 512 * k ≡ 32 * used (block_at log k) = omega arith in
     rw (c.used_of.ensures, e, used-part log k (used-few c.args.per c.requires.le_per log c.requires.k_bound.1 k c.requires.k_bound.0)) at c.put_bytes.ensures
-

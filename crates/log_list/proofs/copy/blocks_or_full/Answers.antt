@@ -8,4 +8,3 @@ returns-then-both c = rw (sym c.both.ensures ∙ c.if-both.true)
 
 pub returns : goal.returns
 returns c = rw (sym c.both.ensures ∙ c.if-both.false)
-

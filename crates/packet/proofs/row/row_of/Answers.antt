@@ -19,4 +19,3 @@ returns-then-rop-3 c = simp (ne_eqb _ _ c.if-rop.false, ne_eqb _ _ c.if-rop-2.fa
 pub returns : goal.returns
 unfolding row_of
 returns c = simp (ne_eqb _ _ c.if-rop.false, ne_eqb _ _ c.if-rop-2.false, ne_eqb _ _ c.if-rop-3.false)
-
