@@ -22,6 +22,7 @@ use Rattle.check_walk.proofs.ImpliedLaws.{implied-fits}
 use Rattle.check_walk.proofs.ShortLaws.{Before, read-turn, data-turn}
 use borrow.Author.Rules.{rules}
 use Rattle.check_walk.proofs.walk.Goals as goal
+use Rattle.check_walk.proofs.walk.Goals.{then-not-passes+else-rule-ne0, else-not-passes, then-v, else-v+then-v-2, else-v+else-v-2+then-v-3, else-v+else-v-2+else-v-3+then-v-4, else-v+else-v-2+else-v-3+else-v-4}
 
 opened-by : {a b : Latest} → a ≡ b → a.opened ≡ b.opened
 opened-by e = ap (λ (k : Latest). k.opened) e
@@ -287,23 +288,30 @@ loop-i-preserved c =
     let tracks = c.tracks_of-k.ensures in
     let test = c.passes.ensures in
     let zero : judged (context_of a.s) ch r ≡ 0 =
-    ⊎_elim (λ o. sym (o.2.ensures ∙ ap (λ (n : Channel). judged (context_of a.s) n r) o.1.ensures) ∙ o.3.left) (λ o. quick-here t _ _ tracks test (not-false _ o.0.left)) c.if-not-passes.branch
+    elim c.if-not-passes.branch [
+      then-not-passes+else-rule-ne0 o ↦ sym (o.judge-rule.ensures ∙ ap (λ (n : Channel). judged (context_of a.s) n r) o.channel_of.ensures) ∙ o.if-rule-ne0.false
+      | else-not-passes o ↦ quick-here t _ _ tracks test o.if-not-passes.false
+    ]
     in
     let m = c.if-not-passes.banks in
     let p = c.if-not-passes.l in
     let implied : Implied t m p =
-    ⊎_elim (λ o. slow-here t m p (o.6 ∙ o.4.ensures) (o.7 ∙ o.5.ensures)) (λ o. plain_here t m p (quick-plain t _ _ tracks test (not-false _ o.0.left)) o.1 o.2) c.if-not-passes.branch
+    elim c.if-not-passes.branch [
+      then-not-passes+else-rule-ne0 o ↦ slow-here t m p (o.banks-is ∙ o.banks_implied-banks.ensures) (o.l-is ∙ o.lasts_implied-l.ensures)
+      | else-not-passes o ↦ plain_here t m p (quick-plain t _ _ tracks test o.if-not-passes.false) o.banks-is o.l-is
+    ]
     in
     let n = c.if-v.banks in
     let q = c.if-v.buffer in
     let newest = c.if-v.latest.opened in
     let stored : Stored t m p implied n q newest =
-    ⊎_elim (λ o. open-here t m p implied n q newest _ o.0.taken o.2.ensures o.4 o.5 (opened-by o.6 ∙ o.3.ensures))
-    (⊎_elim (λ o. close-here t m p implied n q newest _ _ _ o.0.left o.1.taken o.3.ensures o.5.ensures o.7.ensures o.8 o.9 (opened-by o.10))
-    (⊎_elim (λ o. read_here t m p implied n q newest o.0.left o.1.left o.2.taken o.4 o.5 (opened-by o.6))
-    (⊎_elim (λ o. left_here t m p implied n q newest _ _ _ o.0.left o.1.left o.2.left o.3.taken o.4.ensures o.5.ensures o.7.ensures o.8 o.9 (opened-by o.10))
-    (λ o. none_here t m p implied n q newest o.0.left o.1.left o.2.left o.3.left o.4 o.5 (opened-by o.6)))))
-    c.if-v.branch
+    elim c.if-v.branch [
+      then-v o ↦ open-here t m p implied n q newest _ o.if-v.true o.opened_track.ensures o.banks-is o.buffer-is (opened-by o.latest-is ∙ o.larger.ensures)
+      | else-v+then-v-2 o ↦ close-here t m p implied n q newest _ _ _ o.if-v.false o.if-v-2.true o.closed_track.ensures o.side_track.ensures o.side_track-then-v-2.ensures o.banks-is o.buffer-is (opened-by o.latest-is)
+      | else-v+else-v-2+then-v-3 o ↦ read_here t m p implied n q newest o.if-v.false o.if-v-2.false o.if-v-3.true o.banks-is o.buffer-is (opened-by o.latest-is)
+      | else-v+else-v-2+else-v-3+then-v-4 o ↦ left_here t m p implied n q newest _ _ _ o.if-v.false o.if-v-2.false o.if-v-3.false o.if-v-4.true o.leaving.ensures o.pick.ensures o.buffer_next-buffer.ensures o.banks-is o.buffer-is (opened-by o.latest-is)
+      | else-v+else-v-2+else-v-3+else-v-4 o ↦ none_here t m p implied n q newest o.if-v.false o.if-v-2.false o.if-v-3.false o.if-v-4.false o.banks-is o.buffer-is (opened-by o.latest-is)
+    ]
     in
     let banks = banks-here t m p implied n stored.0 in (
       omega arith,

@@ -18,10 +18,9 @@ loop-x-init c = (omega arith, refl)
 pub instant_at-requires : goal.instant_at-requires
 instant_at-requires c =
     let l = c.loop-x.x in
-    let all = omega (arith, bank-in-range c.args.b.now c.requires.in_range l (omega arith)) in
     record {
-      at_in_bounds = all.0;
-      at_bound = all.1;
+      at_in_bounds = omega (arith, bank-in-range c.args.b.now c.requires.in_range l (omega arith));
+      at_bound = omega (arith, bank-in-range c.args.b.now c.requires.in_range l (omega arith));
     }
 
 pub loop-x-preserved : goal.loop-x-preserved

@@ -19,14 +19,10 @@ use Rattle.model_step.proofs.CallLaws.{wrong-store, wrong-length, wrong_word, ke
 use borrow.Author.Rules.{rules}
 use Rattle.model_step.proofs.step.Goals as goal
 
--- the answer that the definitions give
-abbrev said_of : tie.Start → Stepped
-said_of z = let a = z.args in step_answer (context_of a.s) (model_in a.model.now) (length a.store.now) a.given.now (length a.room.now)
-
 pub returns-then-store-store_length : goal.returns-then-store-store_length
 unfolding is_taken
 returns-then-store-store_length c =
-    let left : (answer : Stepped) → is_taken answer ≡ false → answer ≡ said_of (PLACE c After-store_length) → (let a = c.args in (answer ≡ said_of (PLACE c After-store_length)) × ((a.model.now ≡ model_bytes (step_model (context_of a.s) (model_in a.model.now) (length a.store.now) a.given.now (length a.room.now))) × ((a.store.now ≡ step_store (context_of a.s) (model_in a.model.now) a.store.now a.given.now (length a.room.now)) × (a.room.now ≡ step_room (context_of a.s) (model_in a.model.now) a.store.now a.given.now a.room.now)))) = λ answer f e. let a = c.args in
+    let left : (answer : Stepped) → is_taken answer ≡ false → answer ≡ (let a = c.args in step_answer (context_of a.s) (model_in a.model.now) (length a.store.now) a.given.now (length a.room.now)) → (let a = c.args in (answer ≡ (let a = c.args in step_answer (context_of a.s) (model_in a.model.now) (length a.store.now) a.given.now (length a.room.now))) × ((a.model.now ≡ model_bytes (step_model (context_of a.s) (model_in a.model.now) (length a.store.now) a.given.now (length a.room.now))) × ((a.store.now ≡ step_store (context_of a.s) (model_in a.model.now) a.store.now a.given.now (length a.room.now)) × (a.room.now ≡ step_room (context_of a.s) (model_in a.model.now) a.store.now a.given.now a.room.now)))) = λ answer f e. let a = c.args in
     let cx = context_of a.s in
     let m = model_in a.model.now in
     let w : Bytes a.model.now = λ i l. omega (arith, c.slice_known-1.given i) in
@@ -50,7 +46,7 @@ returns-then-store-store_length c =
 pub returns-then-given-ne32 : goal.returns-then-given-ne32
 unfolding is_taken
 returns-then-given-ne32 c =
-    let left : (answer : Stepped) → is_taken answer ≡ false → answer ≡ said_of (PLACE c Else1) → (let a = c.args in (answer ≡ said_of (PLACE c Else1)) × ((a.model.now ≡ model_bytes (step_model (context_of a.s) (model_in a.model.now) (length a.store.now) a.given.now (length a.room.now))) × ((a.store.now ≡ step_store (context_of a.s) (model_in a.model.now) a.store.now a.given.now (length a.room.now)) × (a.room.now ≡ step_room (context_of a.s) (model_in a.model.now) a.store.now a.given.now a.room.now)))) = λ answer f e. let a = c.args in
+    let left : (answer : Stepped) → is_taken answer ≡ false → answer ≡ (let a = c.args in step_answer (context_of a.s) (model_in a.model.now) (length a.store.now) a.given.now (length a.room.now)) → (let a = c.args in (answer ≡ (let a = c.args in step_answer (context_of a.s) (model_in a.model.now) (length a.store.now) a.given.now (length a.room.now))) × ((a.model.now ≡ model_bytes (step_model (context_of a.s) (model_in a.model.now) (length a.store.now) a.given.now (length a.room.now))) × ((a.store.now ≡ step_store (context_of a.s) (model_in a.model.now) a.store.now a.given.now (length a.room.now)) × (a.room.now ≡ step_room (context_of a.s) (model_in a.model.now) a.store.now a.given.now a.room.now)))) = λ answer f e. let a = c.args in
     let cx = context_of a.s in
     let m = model_in a.model.now in
     let w : Bytes a.model.now = λ i l. omega (arith, c.slice_known-1.given i) in
@@ -87,11 +83,9 @@ take_in-requires c =
     }
 
 pub returns-in-NoRecord : goal.returns-in-NoRecord
-unfolding is_taken
-
-unfolding context_of
+unfolding is_taken context_of
 returns-in-NoRecord c =
-    let left : (answer : Stepped) → is_taken answer ≡ false → answer ≡ said_of (PLACE c At-match-keys1) → (let a = c.args in (answer ≡ said_of (PLACE c At-match-keys1)) × ((a.model.now ≡ model_bytes (step_model (context_of a.s) (model_in a.model.now) (length a.store.now) a.given.now (length a.room.now))) × ((a.store.now ≡ step_store (context_of a.s) (model_in a.model.now) a.store.now a.given.now (length a.room.now)) × (a.room.now ≡ step_room (context_of a.s) (model_in a.model.now) a.store.now a.given.now a.room.now)))) = λ answer f e. let a = c.args in
+    let left : (answer : Stepped) → is_taken answer ≡ false → answer ≡ (let a = c.args in step_answer (context_of a.s) (model_in a.model.now) (length a.store.now) a.given.now (length a.room.now)) → (let a = c.args in (answer ≡ (let a = c.args in step_answer (context_of a.s) (model_in a.model.now) (length a.store.now) a.given.now (length a.room.now))) × ((a.model.now ≡ model_bytes (step_model (context_of a.s) (model_in a.model.now) (length a.store.now) a.given.now (length a.room.now))) × ((a.store.now ≡ step_store (context_of a.s) (model_in a.model.now) a.store.now a.given.now (length a.room.now)) × (a.room.now ≡ step_room (context_of a.s) (model_in a.model.now) a.store.now a.given.now a.room.now)))) = λ answer f e. let a = c.args in
     let cx = context_of a.s in
     let m = model_in a.model.now in
     let w : Bytes a.model.now = λ i l. omega (arith, c.slice_known-1.given i) in

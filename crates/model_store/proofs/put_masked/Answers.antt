@@ -1,6 +1,5 @@
 -- `model_store::put_masked` meets its contract: after i turns the first i bytes are written where their bits are 1.
 use Prim.Native.Nat.{◌≤◌, ◌-◌, ◌*◌, ◌/◌, ◌^◌}
-use mathlib.Core.Logic.{⊎_elim}
 use mathlib.Core.Path.{◌≡◌, refl, sym, ap, ◌∙◌}
 use native.Mathlib.Nat.{div-one}
 use native.Mathlib.Omega.{arith}
@@ -9,6 +8,7 @@ use Rattle.model_store.specs.Form.Touch.{masked_up_to}
 use Rattle.model_store.proofs.MaskLaws.{length-up-to, bit-set, bit-clear, bits-next, up-to-masked}
 use borrow.Author.Rules.{rules}
 use Rattle.model_store.proofs.put_masked.Goals as goal
+use Rattle.model_store.proofs.put_masked.Goals.{then-bits-eq1, else-bits-eq1}
 
 pub loop-left-init : goal.loop-left-init
 unfolding masked_up_to
@@ -27,10 +27,10 @@ loop-left-preserved c =
     let k = c.loop-left in (
       search rules,
       bits-next a.mask (16 - k.left) _ k.bits (omega arith) k.invariant.1,
-      ⊎_elim
-          (λ w. w.2 ∙ bit-set a.store.now (16 * a.k) a.mask a.new.now (16 - k.left) _ k.bits (omega arith) k.invariant.1 w.0.taken k.invariant.2)
-          (λ w. w.1 ∙ bit-clear a.store.now (16 * a.k) a.mask a.new.now (16 - k.left) _ k.bits (omega arith) k.invariant.1 w.0.left k.invariant.2)
-          c.if-bits-eq1.branch,
+      elim c.if-bits-eq1.branch [
+        then-bits-eq1 w ↦ w.store-is ∙ bit-set a.store.now (16 * a.k) a.mask a.new.now (16 - k.left) _ k.bits (omega arith) k.invariant.1 w.if-bits-eq1.true k.invariant.2
+        | else-bits-eq1 w ↦ w.store-is ∙ bit-clear a.store.now (16 * a.k) a.mask a.new.now (16 - k.left) _ k.bits (omega arith) k.invariant.1 w.if-bits-eq1.false k.invariant.2
+      ],
     )
 
 pub shape_of-store : goal.shape_of-store

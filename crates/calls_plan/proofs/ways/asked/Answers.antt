@@ -33,12 +33,11 @@ read_on_lent-requires c =
 pub returns-then-quick-room : goal.returns-then-quick-room
 returns-then-quick-room c =
     let w = both_true {a = c.args.quick && leb 1024 (length c.args.room.now)} c.if-quick-room.true in
-    let all = rw (by-request c.args.s c.args.planner.now c.args.request.now c.args.room.now c.requires.planner_value, (c.plain_read.ensures w.1).2)
-    (rw c.place_of.ensures at (c.read_on_lent.ensures.value, (c.read_on_lent.ensures.planner_after, c.read_on_lent.ensures.room_after))) in
+    let by = by-request c.args.s c.args.planner.now c.args.request.now c.args.room.now c.requires.planner_value in
     record {
-      value = all.0;
-      planner_after = all.1.0;
-      room_after = all.1.1;
+      value = rw (by, (c.plain_read.ensures w.1).2) (rw c.place_of.ensures at c.read_on_lent.ensures.value);
+      planner_after = rw (by, (c.plain_read.ensures w.1).2) (rw c.place_of.ensures at c.read_on_lent.ensures.planner_after);
+      room_after = rw (by, (c.plain_read.ensures w.1).2) (rw c.place_of.ensures at c.read_on_lent.ensures.room_after);
     }
 
 pub granted-requires : goal.granted-requires

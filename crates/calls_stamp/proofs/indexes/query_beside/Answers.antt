@@ -14,4 +14,4 @@ pub returns : goal.returns
 returns c =
     let g = c.greater-n.ensures in
     let e = rw g at c.first_wrong-wrong.ensures in
-    rw (eq-eqb _ _ (sym e ∙ c.if-wrong-n.false ∙ g)) (rw c.found.ensures at c.fits2.ensures)
+    rw (eq-eqb _ _ (sym e ∙ c.if-wrong-n.false ∙ g)) (rw c.found.ensures at c.fits.ensures)

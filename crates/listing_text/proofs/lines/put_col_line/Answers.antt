@@ -15,12 +15,11 @@ named : (x y z : ℕ) (close : Bool) → take (cond close 3 2) (x ∷ y ∷ z �
 named x y z true = refl
 named x y z false = refl
 
--- UNMAPPED
-slice-aggregate-put-line-3 : tie.Need-slice-aggregate-put-line-3
-slice-aggregate-put-line-3 c = sym (length-take-le c.before.before.letters2.result _ c.before.before.letters2.ensures.1)
+pub slice_bounds-put_line-end-in-Wr : goal.slice_bounds-put_line-end-in-Wr
+slice_bounds-put_line-end-in-Wr c = sym (length-take-le c.letters-n.result _ c.letters-n.ensures.1)
 
 pub slice_bounds-put_line-end-in-Rd : goal.slice_bounds-put_line-end-in-Rd
-slice_bounds-put_line-end-in-Rd c = sym (length-take-le c.letters-n.result _ c.letters-n.ensures.1)
+slice_bounds-put_line-end-in-Rd c = sym (length-take-le c.letters-n-in-Rd.result _ c.letters-n-in-Rd.ensures.1)
 
 pub put_line-requires-in-Wr : goal.put_line-requires-in-Wr
 put_line-requires-in-Wr c = (search rules, rw (length-take-le c.letters-n.result _ c.letters-n.ensures.1) (omega arith))

@@ -40,4 +40,4 @@ returns-in-Count c =
     let a = c.args in
     let b = (beside-passed a.s a.log.now a.index.now (Count (index_words a.index.now)) _ (sym c.beside.ensures ∙ c.in-Count.is)).0 in
     rw (eq-eqb _ 0 c.if-log-ne0.false, eq-eqb _ 0 c.if-index-ne0.false, lt-ltb _ _ c.if-bank-ge32.false)
-    (rw c.found.ensures at c.fits2.ensures ∙ sym (beside-next a.s a.log.now a.index.now _ b))
+    (rw c.found.ensures at c.fits.ensures ∙ sym (beside-next a.s a.log.now a.index.now _ b))

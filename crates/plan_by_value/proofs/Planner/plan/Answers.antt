@@ -16,11 +16,11 @@ answered-requires c =
 pub returns-then-allowed : goal.returns-then-allowed
 unfolding planning plan_outcome plan_next plan_records plan_room context_of
 returns-then-allowed c =
-    let all = rw (sym c.allowed.ensures ∙ c.if-allowed.true) (rw c.read_request.ensures at (c.answered.ensures.outcome_value, (c.answered.ensures.state_value, c.answered.ensures.room_after))) in
+    let yes = sym c.allowed.ensures ∙ c.if-allowed.true in
     record {
-      outcome_value = all.0;
-      state_value = all.1.0;
-      room_after = all.1.1;
+      outcome_value = rw yes (rw c.read_request.ensures at c.answered.ensures.outcome_value);
+      state_value = rw yes (rw c.read_request.ensures at c.answered.ensures.state_value);
+      room_after = rw yes (rw c.read_request.ensures at c.answered.ensures.room_after);
     }
 
 pub returns : goal.returns

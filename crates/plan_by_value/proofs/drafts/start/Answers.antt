@@ -4,4 +4,4 @@ use Rattle.plan_by_value.proofs.DrawLaws.{draws-start}
 use Rattle.plan_by_value.proofs.drafts.start.Goals as goal
 
 pub returns : goal.returns
-returns c = draws-start s c.args.p _ refl refl refl h
+returns c s h = draws-start s c.args.p _ refl refl refl h

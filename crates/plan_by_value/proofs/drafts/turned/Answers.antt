@@ -4,4 +4,4 @@ use borrow.Author.Rules.{rules}
 use Rattle.plan_by_value.proofs.drafts.turned.Goals as goal
 
 pub returns : goal.returns
-returns c = rw c.moved.ensures (draws-turned s p c.args.d e k)
+returns c s p e k = rw c.moved.ensures (draws-turned s p c.args.d e k)

@@ -4,6 +4,6 @@ use borrow.Author.Rules.{rules}
 use Rattle.plan_by_value.proofs.drafts.waited.Goals as goal
 
 pub returns : goal.returns
-returns c =
+returns c s p e k =
     rw (c.moved.ensures, c.is_late.ensures, c.clipped.ensures, c.wide32.ensures.0, c.wide32-slot.ensures.0)
     (draws-waited s p c.args.d e c.args.cycles k)

@@ -11,7 +11,7 @@ use Rattle.plan_by_value.proofs.ranges.channel_valid.Goals as goal
 pub returns : goal.returns
 unfolding channel_valid bank_count
 returns c =
-    let long : length c.args.ch.banks ≡ 32 = search (length-of-map, c.good.1.0) in
+    let long : length c.args.ch.banks ≡ 32 = search (length-of-map, c.well_formed.1.0) in
     rw (
       eq-eqb (length c.args.ch.banks) 32 (long),
       c.writes_open.ensures,

@@ -7,7 +7,7 @@ use Rattle.plan_by_value.proofs.ranges.low_apart.Goals as goal
 
 pub returns : goal.returns
 returns c =
-    let long : length c.args.ch.banks ≡ 32 = search (length-of-map, c.good.1.0) in
+    let long : length c.args.ch.banks ≡ 32 = search (length-of-map, c.well_formed.1.0) in
     rw (
       c.is_closed-2.ensures,
       c.is_closed.ensures,

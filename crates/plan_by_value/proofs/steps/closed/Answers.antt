@@ -5,4 +5,4 @@ use Rattle.plan_by_value.proofs.steps.closed.Goals as goal
 
 pub returns : goal.returns
 unfolding closed
-returns c = c.sent.ensures p _ (c.flushed_while-z.ensures p e k)
+returns c p e k = c.sent.ensures p _ (c.flushed_while-z.ensures p e k)

@@ -5,4 +5,4 @@ use Rattle.plan_by_value.proofs.steps.flushed.Goals as goal
 
 pub returns : goal.returns
 unfolding flushed
-returns c = c.sent.ensures p e k
+returns c p e k = c.sent.ensures p e k

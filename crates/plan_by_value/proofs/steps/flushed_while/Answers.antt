@@ -5,4 +5,4 @@ use Rattle.plan_by_value.proofs.steps.flushed_while.Goals as goal
 
 pub returns : goal.returns
 unfolding flushed_while
-returns c = c.flushed_if-2.ensures p _ (c.flushed_if.ensures p e k)
+returns c p e k = c.flushed_if-2.ensures p _ (c.flushed_if.ensures p e k)

@@ -9,14 +9,14 @@ use borrow.Author.Rules.{rules}
 use Rattle.plan_by_value.proofs.steps.loaded.Goals as goal
 
 pub returns-in_default : goal.returns-in_default
-returns-in_default c = rw c.moved.ensures (draws-unloaded c.args.s p c.args.d e c.args.mask c.args.bytes k (sym c.write_arrival.ensures.value ∙ c.in_default.is))
+returns-in_default c p e k = rw c.moved.ensures (draws-unloaded c.args.s p c.args.d e c.args.mask c.args.bytes k (sym c.write_arrival.ensures.value ∙ c.in_default.is))
 
 pub after-requires : goal.after-requires
 unfolding instant
 after-requires c = omega (arith, arrival-in c.args.d.planner.now c.args.s.cwd _ (sym c.write_arrival.ensures.value ∙ c.in-At.is), c.requires)
 
 pub returns : goal.returns
-returns c =
+returns c p e k =
     let long : length c.args.d.list ≡ 32 = search (length-of-map, c.well_formed.1.1.1.0) in
     rw (c.added.ensures, c.pick-2.ensures, c.pick.ensures, c.after.ensures, c.two_wait-beside.ensures)
     (draws-loaded c.args.s p c.args.d e c.args.mask c.args.bytes _ (long) k (sym c.write_arrival.ensures.value ∙ c.in-At.is))

@@ -5,4 +5,4 @@ use Rattle.plan_by_value.proofs.steps.planned_close.Goals as goal
 
 pub returns : goal.returns
 unfolding planned_close
-returns c = c.closed_up_to.ensures p e k
+returns c p e k = c.closed_up_to.ensures p e k

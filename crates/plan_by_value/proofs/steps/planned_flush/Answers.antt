@@ -5,4 +5,4 @@ use Rattle.plan_by_value.proofs.steps.planned_flush.Goals as goal
 
 pub returns : goal.returns
 unfolding planned_flush
-returns c = c.flushed_while.ensures p e k
+returns c p e k = c.flushed_while.ensures p e k

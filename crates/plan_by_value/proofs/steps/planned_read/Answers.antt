@@ -8,7 +8,7 @@ use Rattle.plan_by_value.proofs.steps.planned_read.Goals as goal
 
 pub returns : goal.returns
 unfolding planned_read
-returns c =
+returns c p e k =
     c.sent.ensures p _
     (rw (while-ext c.args.s p _ _ (reads-hold c.args.s c.args.close c.args.at) (reached (context_of c.args.s) c.args.at.bank c.args.at.row e)) at
     (c.flushed_while-z.ensures p _ (c.reached-y.ensures p e k)))

@@ -8,6 +8,6 @@ use Rattle.plan_by_value.proofs.steps.planned_refresh.Goals as goal
 
 pub returns : goal.returns
 unfolding planned_refresh
-returns c =
+returns c p e k =
     let y = c.turned.ensures c.args.s p _ (c.sent.ensures p _ (c.sent-z.ensures p _ (c.closed_up_to-y.ensures p e k))) in
     draws_by c.args.s p c.args.d _ e (λ (p : PlannerState). p.refresh) (refreshed c.args.s p e) (refreshed-grows c.args.s p e) k y

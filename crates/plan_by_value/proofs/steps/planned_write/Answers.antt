@@ -5,4 +5,4 @@ use Rattle.plan_by_value.proofs.steps.planned_write.Goals as goal
 
 pub returns : goal.returns
 unfolding planned_write
-returns c = c.flushed_while.ensures p _ (c.written-z.ensures p _ (c.reached.ensures p e k))
+returns c p e k = c.flushed_while.ensures p _ (c.written-z.ensures p _ (c.reached.ensures p e k))

@@ -14,7 +14,7 @@ after-next-requires c = rw (c.placed_in-q.ensures, c.clipped-at.ensures) (omega 
 
 pub returns : goal.returns
 unfolding slot
-returns c =
+returns c p e k =
     let long : length c.args.d.list ≡ 32 = search (length-of-map, c.well_formed.1.1.0) in
     rw (
       c.added.ensures,

@@ -5,4 +5,4 @@ use Rattle.plan_by_value.proofs.steps.written.Goals as goal
 
 pub returns : goal.returns
 unfolding written
-returns c = c.loaded.ensures p _ (c.sent.ensures p e k)
+returns c p e k = c.loaded.ensures p _ (c.sent.ensures p e k)

@@ -70,66 +70,66 @@ walk-requires c = close-few _ _ _ _ _ _ _ (c.close.ensures.drawn, c.close.ensure
 
 pub returns-in-Read : goal.returns-in-Read
 returns-in-Read c =
-    let all = rw c.in-Read.is (called-read _ _ _ _ _ _ _ _ _ c.no_walk.ensures _ _ c.read.ensures) in
+    let all = called-read _ _ _ _ _ _ _ _ _ c.no_walk.ensures _ _ c.read.ensures in
     record {
-      planner_after = all.0;
-      room_after = all.1.0;
-      records_value = all.1.1.0;
-      banks_value = all.1.1.1.0;
-      due_value = all.1.1.1.1;
+      planner_after = rw c.in-Read.is all.0;
+      room_after = rw c.in-Read.is all.1.0;
+      records_value = rw c.in-Read.is all.1.1.0;
+      banks_value = rw c.in-Read.is all.1.1.1.0;
+      due_value = rw c.in-Read.is all.1.1.1.1;
     }
 
 pub returns-in-Write : goal.returns-in-Write
 returns-in-Write c =
-    let all = rw c.in-Write.is (called-write _ _ _ _ _ _ _ _ _ _ _ _ _ _ c.loaded.ensures c.write.ensures.due_value c.write.ensures.drawn) in
+    let all = called-write _ _ _ _ _ _ _ _ _ _ _ _ _ _ c.loaded.ensures c.write.ensures.due_value c.write.ensures.drawn in
     record {
-      planner_after = all.0;
-      room_after = all.1.0;
-      records_value = all.1.1.0;
-      banks_value = all.1.1.1.0;
-      due_value = all.1.1.1.1;
+      planner_after = rw c.in-Write.is all.0;
+      room_after = rw c.in-Write.is all.1.0;
+      records_value = rw c.in-Write.is all.1.1.0;
+      banks_value = rw c.in-Write.is all.1.1.1.0;
+      due_value = rw c.in-Write.is all.1.1.1.1;
     }
 
 pub returns-in-Refresh : goal.returns-in-Refresh
 returns-in-Refresh c =
-    let all = rw c.in-Refresh.is (called-refresh _ _ _ _ _ _ _ _ _ c.no_walk-in-Refresh.ensures c.refresh.ensures) in
+    let all = called-refresh _ _ _ _ _ _ _ _ _ c.no_walk-in-Refresh.ensures c.refresh.ensures in
     record {
-      planner_after = all.0;
-      room_after = all.1.0;
-      records_value = all.1.1.0;
-      banks_value = all.1.1.1.0;
-      due_value = all.1.1.1.1;
+      planner_after = rw c.in-Refresh.is all.0;
+      room_after = rw c.in-Refresh.is all.1.0;
+      records_value = rw c.in-Refresh.is all.1.1.0;
+      banks_value = rw c.in-Refresh.is all.1.1.1.0;
+      due_value = rw c.in-Refresh.is all.1.1.1.1;
     }
 
 pub returns-in-Wait : goal.returns-in-Wait
 returns-in-Wait c =
-    let all = rw c.in-Wait.is (called-wait _ _ _ _ _ 0 _ _ _ c.no_walk-in-Wait.ensures _ c.wait.ensures refl refl) in
+    let all = called-wait _ _ _ _ _ 0 _ _ _ c.no_walk-in-Wait.ensures _ c.wait.ensures refl refl in
     record {
-      planner_after = all.0;
-      room_after = all.1.0;
-      records_value = all.1.1.0;
-      banks_value = all.1.1.1.0;
-      due_value = all.1.1.1.1;
+      planner_after = rw c.in-Wait.is all.0;
+      room_after = rw c.in-Wait.is all.1.0;
+      records_value = rw c.in-Wait.is all.1.1.0;
+      banks_value = rw c.in-Wait.is all.1.1.1.0;
+      due_value = rw c.in-Wait.is all.1.1.1.1;
     }
 
 pub returns-in-Flush : goal.returns-in-Flush
 returns-in-Flush c =
-    let all = rw c.in-Flush.is (called-flush _ _ _ _ _ _ _ _ _ c.no_walk-in-Flush.ensures c.flush.ensures) in
+    let all = called-flush _ _ _ _ _ _ _ _ _ c.no_walk-in-Flush.ensures c.flush.ensures in
     record {
-      planner_after = all.0;
-      room_after = all.1.0;
-      records_value = all.1.1.0;
-      banks_value = all.1.1.1.0;
-      due_value = all.1.1.1.1;
+      planner_after = rw c.in-Flush.is all.0;
+      room_after = rw c.in-Flush.is all.1.0;
+      records_value = rw c.in-Flush.is all.1.1.0;
+      banks_value = rw c.in-Flush.is all.1.1.1.0;
+      due_value = rw c.in-Flush.is all.1.1.1.1;
     }
 
 pub returns-in-Close : goal.returns-in-Close
 returns-in-Close c =
-    let all = rw c.in-Close.is (called-close _ _ _ _ _ _ _ (c.close.ensures.drawn, c.close.ensures.banks_value) _ _ _ c.walk.ensures) in
+    let all = called-close _ _ _ _ _ _ _ (c.close.ensures.drawn, c.close.ensures.banks_value) _ _ _ c.walk.ensures in
     record {
-      planner_after = all.0;
-      room_after = all.1.0;
-      records_value = all.1.1.0;
-      banks_value = all.1.1.1.0;
-      due_value = all.1.1.1.1;
+      planner_after = rw c.in-Close.is all.0;
+      room_after = rw c.in-Close.is all.1.0;
+      records_value = rw c.in-Close.is all.1.1.0;
+      banks_value = rw c.in-Close.is all.1.1.1.0;
+      due_value = rw c.in-Close.is all.1.1.1.1;
     }

@@ -1,13 +1,12 @@
 -- `plan_in_place::requests::read` meets its contract.
 use mathlib.Core.Bool.{true, false}
-use mathlib.Core.Logic.{⊎_elim}
-use borrow.Author.Tests.{not-true, not-false}
 use Rattle.spec_rules.specs.Neighbour.{context_of}
 use Rattle.spec_plan.specs.Plan.{reached}
 use Rattle.plan_bytes.specs.Form.Drawn.{drafted, Drawn}
 use Rattle.plan_in_place.proofs.Planned.{reach_here, reach-fits, reach-opened, row_in, reached-after, read_first, flush-fits, read-after, read-open, read-room, read-drawn, read-lengths}
 use borrow.Author.Rules.{rules}
 use Rattle.plan_in_place.proofs.requests.read.Goals as goal
+use Rattle.plan_in_place.proofs.requests.read.Goals.{then-not-on_row, else-not-on_row}
 
 pub on_row-requires : goal.on_row-requires
 on_row-requires c =
@@ -34,10 +33,10 @@ pub flush_closing-next-requires : goal.flush_closing-next-requires
 flush_closing-next-requires c =
     let joined : Drawn c.args.s (reached (context_of c.args.s) c.args.at.bank c.args.at.row (drafted c.args.b.now)) c.args.room.now 0 c.if-not-on_row.b c.if-not-on_row.room c.if-not-on_row.to = let a = c.args in
     let e = c.on_row.ensures in
-    ⊎_elim
-    (λ w. rw (w.8, w.9, w.10) (reach-opened _ _ c.requires.rested a.room.now c.requires.in_bounds a.at c.requires.in_place _ e (not-true _ w.0.taken) _ _ _ w.3.ensures))
-    (λ w. rw (w.1, w.2, w.3) (reach_here _ _ c.requires.rested a.room.now c.requires.in_bounds a.at c.requires.in_place _ e (not-false _ w.0.left)))
-    c.if-not-on_row.branch in
+    elim c.if-not-on_row.branch [
+      then-not-on_row w ↦ rw (w.b-is, w.room-is, w.to-is) (reach-opened _ _ c.requires.rested a.room.now c.requires.in_bounds a.at c.requires.in_place _ e w.if-not-on_row.true _ _ _ w.open_row-to.ensures)
+      | else-not-on_row w ↦ rw (w.b-is, w.room-is, w.to-is) (reach_here _ _ c.requires.rested a.room.now c.requires.in_bounds a.at c.requires.in_place _ e w.if-not-on_row.false)
+    ] in
     let a = c.args in
     let i = c.requires.in_place in
     let w = joined in
@@ -52,10 +51,10 @@ pub rda-requires : goal.rda-requires
 rda-requires c =
     let joined : Drawn c.args.s (reached (context_of c.args.s) c.args.at.bank c.args.at.row (drafted c.args.b.now)) c.args.room.now 0 c.if-not-on_row.b c.if-not-on_row.room c.if-not-on_row.to = let a = c.args in
     let e = c.on_row.ensures in
-    ⊎_elim
-    (λ w. rw (w.8, w.9, w.10) (reach-opened _ _ c.requires.rested a.room.now c.requires.in_bounds a.at c.requires.in_place _ e (not-true _ w.0.taken) _ _ _ w.3.ensures))
-    (λ w. rw (w.1, w.2, w.3) (reach_here _ _ c.requires.rested a.room.now c.requires.in_bounds a.at c.requires.in_place _ e (not-false _ w.0.left)))
-    c.if-not-on_row.branch in
+    elim c.if-not-on_row.branch [
+      then-not-on_row w ↦ rw (w.b-is, w.room-is, w.to-is) (reach-opened _ _ c.requires.rested a.room.now c.requires.in_bounds a.at c.requires.in_place _ e w.if-not-on_row.true _ _ _ w.open_row-to.ensures)
+      | else-not-on_row w ↦ rw (w.b-is, w.room-is, w.to-is) (reach_here _ _ c.requires.rested a.room.now c.requires.in_bounds a.at c.requires.in_place _ e w.if-not-on_row.false)
+    ] in
     let a = c.args in
     let i = c.requires.in_place in
     let w = joined in
@@ -73,10 +72,10 @@ pub returns-then-close : goal.returns-then-close
 returns-then-close c =
     let joined : Drawn c.args.s (reached (context_of c.args.s) c.args.at.bank c.args.at.row (drafted c.args.b.now)) c.args.room.now 0 c.if-not-on_row.b c.if-not-on_row.room c.if-not-on_row.to = let a = c.args in
     let e = c.on_row.ensures in
-    ⊎_elim
-    (λ w. rw (w.8, w.9, w.10) (reach-opened _ _ c.requires.rested a.room.now c.requires.in_bounds a.at c.requires.in_place _ e (not-true _ w.0.taken) _ _ _ w.3.ensures))
-    (λ w. rw (w.1, w.2, w.3) (reach_here _ _ c.requires.rested a.room.now c.requires.in_bounds a.at c.requires.in_place _ e (not-false _ w.0.left)))
-    c.if-not-on_row.branch in
+    elim c.if-not-on_row.branch [
+      then-not-on_row w ↦ rw (w.b-is, w.room-is, w.to-is) (reach-opened _ _ c.requires.rested a.room.now c.requires.in_bounds a.at c.requires.in_place _ e w.if-not-on_row.true _ _ _ w.open_row-to.ensures)
+      | else-not-on_row w ↦ rw (w.b-is, w.room-is, w.to-is) (reach_here _ _ c.requires.rested a.room.now c.requires.in_bounds a.at c.requires.in_place _ e w.if-not-on_row.false)
+    ] in
     let a = c.args in
     rw c.if-close.true (read-drawn _ _ c.requires.rested _ c.requires.in_bounds a.at c.requires.in_place true _ _ _ (joined) _ _ _ c.flush_closing-next.ensures _ _ _ c.rda.ensures)
 
@@ -84,10 +83,10 @@ pub flush_delaying-next-requires : goal.flush_delaying-next-requires
 flush_delaying-next-requires c =
     let joined : Drawn c.args.s (reached (context_of c.args.s) c.args.at.bank c.args.at.row (drafted c.args.b.now)) c.args.room.now 0 c.if-not-on_row.b c.if-not-on_row.room c.if-not-on_row.to = let a = c.args in
     let e = c.on_row.ensures in
-    ⊎_elim
-    (λ w. rw (w.8, w.9, w.10) (reach-opened _ _ c.requires.rested a.room.now c.requires.in_bounds a.at c.requires.in_place _ e (not-true _ w.0.taken) _ _ _ w.3.ensures))
-    (λ w. rw (w.1, w.2, w.3) (reach_here _ _ c.requires.rested a.room.now c.requires.in_bounds a.at c.requires.in_place _ e (not-false _ w.0.left)))
-    c.if-not-on_row.branch in
+    elim c.if-not-on_row.branch [
+      then-not-on_row w ↦ rw (w.b-is, w.room-is, w.to-is) (reach-opened _ _ c.requires.rested a.room.now c.requires.in_bounds a.at c.requires.in_place _ e w.if-not-on_row.true _ _ _ w.open_row-to.ensures)
+      | else-not-on_row w ↦ rw (w.b-is, w.room-is, w.to-is) (reach_here _ _ c.requires.rested a.room.now c.requires.in_bounds a.at c.requires.in_place _ e w.if-not-on_row.false)
+    ] in
     let a = c.args in
     let i = c.requires.in_place in
     let w = joined in
@@ -102,10 +101,10 @@ pub rd-requires : goal.rd-requires
 rd-requires c =
     let joined : Drawn c.args.s (reached (context_of c.args.s) c.args.at.bank c.args.at.row (drafted c.args.b.now)) c.args.room.now 0 c.if-not-on_row.b c.if-not-on_row.room c.if-not-on_row.to = let a = c.args in
     let e = c.on_row.ensures in
-    ⊎_elim
-    (λ w. rw (w.8, w.9, w.10) (reach-opened _ _ c.requires.rested a.room.now c.requires.in_bounds a.at c.requires.in_place _ e (not-true _ w.0.taken) _ _ _ w.3.ensures))
-    (λ w. rw (w.1, w.2, w.3) (reach_here _ _ c.requires.rested a.room.now c.requires.in_bounds a.at c.requires.in_place _ e (not-false _ w.0.left)))
-    c.if-not-on_row.branch in
+    elim c.if-not-on_row.branch [
+      then-not-on_row w ↦ rw (w.b-is, w.room-is, w.to-is) (reach-opened _ _ c.requires.rested a.room.now c.requires.in_bounds a.at c.requires.in_place _ e w.if-not-on_row.true _ _ _ w.open_row-to.ensures)
+      | else-not-on_row w ↦ rw (w.b-is, w.room-is, w.to-is) (reach_here _ _ c.requires.rested a.room.now c.requires.in_bounds a.at c.requires.in_place _ e w.if-not-on_row.false)
+    ] in
     let a = c.args in
     let i = c.requires.in_place in
     let w = joined in
@@ -122,10 +121,10 @@ pub returns : goal.returns
 returns c =
     let joined : Drawn c.args.s (reached (context_of c.args.s) c.args.at.bank c.args.at.row (drafted c.args.b.now)) c.args.room.now 0 c.if-not-on_row.b c.if-not-on_row.room c.if-not-on_row.to = let a = c.args in
     let e = c.on_row.ensures in
-    ⊎_elim
-    (λ w. rw (w.8, w.9, w.10) (reach-opened _ _ c.requires.rested a.room.now c.requires.in_bounds a.at c.requires.in_place _ e (not-true _ w.0.taken) _ _ _ w.3.ensures))
-    (λ w. rw (w.1, w.2, w.3) (reach_here _ _ c.requires.rested a.room.now c.requires.in_bounds a.at c.requires.in_place _ e (not-false _ w.0.left)))
-    c.if-not-on_row.branch in
+    elim c.if-not-on_row.branch [
+      then-not-on_row w ↦ rw (w.b-is, w.room-is, w.to-is) (reach-opened _ _ c.requires.rested a.room.now c.requires.in_bounds a.at c.requires.in_place _ e w.if-not-on_row.true _ _ _ w.open_row-to.ensures)
+      | else-not-on_row w ↦ rw (w.b-is, w.room-is, w.to-is) (reach_here _ _ c.requires.rested a.room.now c.requires.in_bounds a.at c.requires.in_place _ e w.if-not-on_row.false)
+    ] in
     let a = c.args in
     rw c.if-close.false (read-drawn _ _ c.requires.rested _ c.requires.in_bounds a.at c.requires.in_place false _ _ _ (joined) _ _ _ c.flush_delaying-next.ensures _ _ _ c.rd.ensures)
 

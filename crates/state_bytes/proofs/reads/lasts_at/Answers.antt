@@ -6,50 +6,44 @@ use Rattle.state_bytes.proofs.reads.lasts_at.Goals as goal
 
 pub instant_at-requires : goal.instant_at-requires
 instant_at-requires c =
-    let all = omega (arith, lasts-in-range c.args.b.now c.requires.in_range) in
     record {
-      at_in_bounds = all.0;
-      at_bound = all.1;
+      at_in_bounds = omega (arith, lasts-in-range c.args.b.now c.requires.in_range);
+      at_bound = omega (arith, lasts-in-range c.args.b.now c.requires.in_range);
     }
 
 pub instant_at-requires-2 : goal.instant_at-requires-2
 instant_at-requires-2 c =
-    let all = omega (arith, lasts-in-range c.args.b.now c.requires.in_range) in
     record {
-      at_in_bounds = all.0;
-      at_bound = all.1;
+      at_in_bounds = omega (arith, lasts-in-range c.args.b.now c.requires.in_range);
+      at_bound = omega (arith, lasts-in-range c.args.b.now c.requires.in_range);
     }
 
 pub instant_at-requires-3 : goal.instant_at-requires-3
 instant_at-requires-3 c =
-    let all = omega (arith, lasts-in-range c.args.b.now c.requires.in_range) in
     record {
-      at_in_bounds = all.0;
-      at_bound = all.1;
+      at_in_bounds = omega (arith, lasts-in-range c.args.b.now c.requires.in_range);
+      at_bound = omega (arith, lasts-in-range c.args.b.now c.requires.in_range);
     }
 
 pub instant_at-requires-4 : goal.instant_at-requires-4
 instant_at-requires-4 c =
-    let all = omega (arith, lasts-in-range c.args.b.now c.requires.in_range) in
     record {
-      at_in_bounds = all.0;
-      at_bound = all.1;
+      at_in_bounds = omega (arith, lasts-in-range c.args.b.now c.requires.in_range);
+      at_bound = omega (arith, lasts-in-range c.args.b.now c.requires.in_range);
     }
 
 pub instant_at-requires-5 : goal.instant_at-requires-5
 instant_at-requires-5 c =
-    let all = omega (arith, lasts-in-range c.args.b.now c.requires.in_range) in
     record {
-      at_in_bounds = all.0;
-      at_bound = all.1;
+      at_in_bounds = omega (arith, lasts-in-range c.args.b.now c.requires.in_range);
+      at_bound = omega (arith, lasts-in-range c.args.b.now c.requires.in_range);
     }
 
 pub instant_at-requires-6 : goal.instant_at-requires-6
 instant_at-requires-6 c =
-    let all = omega (arith, lasts-in-range c.args.b.now c.requires.in_range) in
     record {
-      at_in_bounds = all.0;
-      at_bound = all.1;
+      at_in_bounds = omega (arith, lasts-in-range c.args.b.now c.requires.in_range);
+      at_bound = omega (arith, lasts-in-range c.args.b.now c.requires.in_range);
     }
 
 pub returns : goal.returns

@@ -7,42 +7,37 @@ use Rattle.state_bytes.proofs.reads.track_at.Goals as goal
 
 pub instant_at-requires : goal.instant_at-requires
 instant_at-requires c =
-    let all = omega (arith, bank-in-range c.args.b.now c.requires.in_range c.args.x c.requires.x_bound) in
     record {
-      at_in_bounds = all.0;
-      at_bound = all.1;
+      at_in_bounds = omega (arith, bank-in-range c.args.b.now c.requires.in_range c.args.x c.requires.x_bound);
+      at_bound = omega (arith, bank-in-range c.args.b.now c.requires.in_range c.args.x c.requires.x_bound);
     }
 
 pub instant_at-requires-2 : goal.instant_at-requires-2
 instant_at-requires-2 c =
-    let all = omega (arith, bank-in-range c.args.b.now c.requires.in_range c.args.x c.requires.x_bound) in
     record {
-      at_in_bounds = all.0;
-      at_bound = all.1;
+      at_in_bounds = omega (arith, bank-in-range c.args.b.now c.requires.in_range c.args.x c.requires.x_bound);
+      at_bound = omega (arith, bank-in-range c.args.b.now c.requires.in_range c.args.x c.requires.x_bound);
     }
 
 pub instant_at-requires-3 : goal.instant_at-requires-3
 instant_at-requires-3 c =
-    let all = omega (arith, bank-in-range c.args.b.now c.requires.in_range c.args.x c.requires.x_bound) in
     record {
-      at_in_bounds = all.0;
-      at_bound = all.1;
+      at_in_bounds = omega (arith, bank-in-range c.args.b.now c.requires.in_range c.args.x c.requires.x_bound);
+      at_bound = omega (arith, bank-in-range c.args.b.now c.requires.in_range c.args.x c.requires.x_bound);
     }
 
 pub instant_at-requires-4 : goal.instant_at-requires-4
 instant_at-requires-4 c =
-    let all = omega (arith, bank-in-range c.args.b.now c.requires.in_range c.args.x c.requires.x_bound) in
     record {
-      at_in_bounds = all.0;
-      at_bound = all.1;
+      at_in_bounds = omega (arith, bank-in-range c.args.b.now c.requires.in_range c.args.x c.requires.x_bound);
+      at_bound = omega (arith, bank-in-range c.args.b.now c.requires.in_range c.args.x c.requires.x_bound);
     }
 
 pub instant_at-requires-5 : goal.instant_at-requires-5
 instant_at-requires-5 c =
-    let all = omega (arith, bank-in-range c.args.b.now c.requires.in_range c.args.x c.requires.x_bound) in
     record {
-      at_in_bounds = all.0;
-      at_bound = all.1;
+      at_in_bounds = omega (arith, bank-in-range c.args.b.now c.requires.in_range c.args.x c.requires.x_bound);
+      at_bound = omega (arith, bank-in-range c.args.b.now c.requires.in_range c.args.x c.requires.x_bound);
     }
 
 pub returns : goal.returns

@@ -4,7 +4,6 @@ use Prim.Native.Nat.{ℕ, ◌<◌, ◌≤◌}
 use mathlib.Core.Path.{◌≡◌, refl, sym, ap, ◌∙◌}
 use mathlib.Core.Bool.{Bool, true, false}
 use mathlib.Core.List.{List}
-use mathlib.Core.Logic.{⊎_elim}
 use lib.ListN.{length}
 use native.Mathlib.Omega.{arith}
 use Rattle.record.specs.declared.Record.{Record}
@@ -18,6 +17,7 @@ use Rattle.check_list.proofs.shortest.RunLaws.{length-records}
 use Rattle.check_list.proofs.shortest.StartLaws.{last-here, Searched, turn-tried, turn-skipped}
 use borrow.Author.Rules.{rules}
 use Rattle.check_list.proofs.shortest.starts.latest_start.Goals as goal
+use Rattle.check_list.proofs.shortest.starts.latest_start.Goals.{then-to_try, else-to_try}
 
 pub loop-i-init : goal.loop-i-init
 unfolding shortest_start
@@ -48,10 +48,10 @@ loop-i-preserved c =
     let m : ℕ = shortest_start cx rs a.rule a.j in
     let in_list : a.j < length rs = rw (length-records a.s a.list.now) c.requires.j_bound in (
       omega arith,
-      ⊎_elim
-          (λ w. rw w.3 (turn-tried cx rs a.rule a.j m k.i k.early w.1.result c.loop-i-test.true k.invariant.1 w.1.ensures w.2.left))
-          (λ w. rw w.1 (turn-skipped cx rs a.rule a.j m k.i k.early c.loop-i-test.true in_list k.invariant.1 (sym c.to_try.ensures ∙ w.0.left)))
-          c.if-to_try.branch,
+      elim c.if-to_try.branch [
+        then-to_try w ↦ rw w.early-is (turn-tried cx rs a.rule a.j m k.i k.early w.try_from-t.result c.loop-i-test.true k.invariant.1 w.try_from-t.ensures w.if-t.false)
+        | else-to_try w ↦ rw w.early-is (turn-skipped cx rs a.rule a.j m k.i k.early c.loop-i-test.true in_list k.invariant.1 (sym c.to_try.ensures ∙ w.if-to_try.false))
+      ],
     )
 
 pub returns : goal.returns
