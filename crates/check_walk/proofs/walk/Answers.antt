@@ -283,7 +283,7 @@ loop-i-preserved c =
       low = c.first_near-y.ensures.0;
       high = c.last_near-z.ensures.0;
       waiting = c.slot_of-w.ensures.0;
-      second = o.ensures.0;
+      second = o.ensures.value;
     } in
     let tracks = c.tracks_of-k.ensures in
     let test = c.passes.ensures in

@@ -14,5 +14,5 @@ slice_bounds-put_listing-end c = sym (length-take-le c.args.n c.args.input.now c
 pub print-requires : goal.print-requires
 print-requires c =
     let a = c.args in
-    let e = put-fits a.out.now (listing (take a.n a.input.now)) c.put_listing-end.ensures c.put_listing-end.auto.1.0 in
-    omega (arith, e, c.put_listing-end.auto.1.0)
+    let e = put-fits a.out.now (listing (take a.n a.input.now)) c.put_listing-end.ensures c.put_listing-end.auto.out in
+    omega (arith, e, c.put_listing-end.auto.out)

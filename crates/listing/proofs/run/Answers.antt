@@ -8,8 +8,8 @@ use Rattle.listing.proofs.run.Goals as goal
 pub returns : goal.returns
 returns c =
     let a = c.args in
-    let b = c.read_full-read.new.1.0 in
+    let b = c.read_full-read.new.buf in
     record {
       read_in_bounds = c.read_full-read.ensures.0;
-      by_index = λ given e. listed-first a.out.now (take c.read_full-read.result b) given (length b) (omega (arith, c.read_full-read.auto.1.0)) e c.print_listing-printed.ensures;
+      by_index = λ given e. listed-first a.out.now (take c.read_full-read.result b) given (length b) (omega (arith, c.read_full-read.auto.buf)) e c.print_listing-printed.ensures;
     }

@@ -11,20 +11,20 @@ use Rattle.listing_text.proofs.put_count.Goals as goal
 pub put_decimal-end-requires : goal.put_decimal-end-requires
 put_decimal-end-requires c =
     let n = decimal-length c.args.n (omega arith) in
-    omega (arith, n, c.put_bytes.auto.0)
+    omega (arith, n, c.put_bytes.auto.out)
 
 pub bounds-out-end : goal.bounds-out-end
 bounds-out-end c =
     let n = decimal-length c.args.n (omega arith) in
-    omega (arith, n, c.put_bytes.auto.0, c.put_decimal-end.ensures.0, c.put_decimal-end.auto.0)
+    omega (arith, n, c.put_bytes.auto.out, c.put_decimal-end.ensures.0, c.put_decimal-end.auto.out)
 
 pub overflow_add-result : goal.overflow_add-result
 overflow_add-result c =
     let n = decimal-length c.args.n (omega arith) in
-    omega (arith, n, c.put_bytes.auto.0, c.put_decimal-end.ensures.0)
+    omega (arith, n, c.put_bytes.auto.out, c.put_decimal-end.ensures.0)
 
 pub shape_of-out : goal.shape_of-out
-shape_of-out c = length-set c.put_decimal-end.new.0 c.put_decimal-end.result 10 ∙ c.put_decimal-end.auto.0 ∙ c.put_bytes.auto.0
+shape_of-out c = length-set c.put_decimal-end.new.out c.put_decimal-end.result 10 ∙ c.put_decimal-end.auto.out ∙ c.put_bytes.auto.out
 
 pub returns : goal.returns
 returns c =

@@ -6,13 +6,13 @@ use borrow.Author.Rules.{rules}
 use Rattle.listing_text.proofs.put_line.Goals as goal
 
 pub put_number-c-requires : goal.put_number-c-requires
-put_number-c-requires c = omega (arith, length-word c.args.name.now, c.put_number-a.ensures.1, c.put_number-a.auto.0, c.put_name-b.ensures.0, c.put_name-b.auto.0)
+put_number-c-requires c = omega (arith, length-word c.args.name.now, c.put_number-a.ensures.1, c.put_number-a.auto.out, c.put_name-b.ensures.0, c.put_name-b.auto.out)
 
 pub put_number-d-requires : goal.put_number-d-requires
-put_number-d-requires c = omega (arith, length-word c.args.name.now, c.put_number-a.ensures.1, c.put_number-a.auto.0, c.put_name-b.ensures.0, c.put_name-b.auto.0, c.put_number-c.ensures.1, c.put_number-c.auto.0)
+put_number-d-requires c = omega (arith, length-word c.args.name.now, c.put_number-a.ensures.1, c.put_number-a.auto.out, c.put_name-b.ensures.0, c.put_name-b.auto.out, c.put_number-c.ensures.1, c.put_number-c.auto.out)
 
 pub put_mask-requires : goal.put_mask-requires
-put_mask-requires c = omega (arith, length-word c.args.name.now, c.put_number-a.ensures.1, c.put_number-a.auto.0, c.put_name-b.ensures.0, c.put_name-b.auto.0, c.put_number-c.ensures.1, c.put_number-c.auto.0, c.put_number-d.ensures.1, c.put_number-d.auto.0)
+put_mask-requires c = omega (arith, length-word c.args.name.now, c.put_number-a.ensures.1, c.put_number-a.auto.out, c.put_name-b.ensures.0, c.put_name-b.auto.out, c.put_number-c.ensures.1, c.put_number-c.auto.out, c.put_number-d.ensures.1, c.put_number-d.auto.out)
 
 pub returns : goal.returns
 returns c =

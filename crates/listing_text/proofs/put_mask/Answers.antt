@@ -21,7 +21,7 @@ returns-then-mask-eq-FULL c =
 pub bounds-out-end : goal.bounds-out-end
 bounds-out-end c =
     let n = length-hex c.args.mask in
-    omega (arith, n, c.put_hex-end.ensures.0, c.put_hex-end.auto.0)
+    omega (arith, n, c.put_hex-end.ensures.0, c.put_hex-end.auto.out)
 
 pub overflow_add-result-2 : goal.overflow_add-result-2
 overflow_add-result-2 c =

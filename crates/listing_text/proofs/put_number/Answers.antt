@@ -13,7 +13,7 @@ pub bounds-out-end : goal.bounds-out-end
 bounds-out-end c =
     let w = c.wide32 in
     let h = decimal-of-32 w.result w.ensures.1 in
-    omega (arith, h, c.put_decimal-end.ensures.0, c.put_decimal-end.auto.0)
+    omega (arith, h, c.put_decimal-end.ensures.0, c.put_decimal-end.auto.out)
 
 pub overflow_add-result : goal.overflow_add-result
 overflow_add-result c =

@@ -20,6 +20,10 @@ use Rattle.log_stamp.specs.Stamp.{stamp_at, same_stamp}
 use borrow.Author.Rules.{rules}
 use Rattle.log_stamp.proofs.found_in.Given as goal
 
+-- whether block k has the stamp of block 0
+abbrev same_at : List ℕ → ℕ → Bool
+same_at log k = same_stamp (stamp_at log k) (stamp_at log 0)
+
 abbrev pub invariant-loop-k : goal.invariant-loop-k
 invariant-loop-k l = (l.k ≤ l.n) × ((i : ℕ) → i < l.k → right_at 14 l.log i ≡ true) × (l.bad ≡ first_bad l.s (list_up_to l.log l.k)) × (l.same ≡ true → (i : ℕ) → i < l.k → same_at l.log i ≡ true)
 

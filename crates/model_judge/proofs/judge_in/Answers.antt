@@ -28,14 +28,18 @@ returns-in-Data c =
 
 pub held_at-h-requires : goal.held_at-h-requires
 held_at-h-requires c =
-    let legible : (752 ≤ length c.args.b.now) × InRange c.args.b.now = let cx = context_of c.args.s in
+    let cx = context_of c.args.s in
     let b = c.args.b.now in
-    (omega (arith, right-length cx b c.requires), model-in-range cx b c.requires) in
-    legible
+    record {
+      in_bounds = omega (arith, right-length cx b c.requires);
+      in_range = model-in-range cx b c.requires;
+    }
 
 pub packet_in-requires : goal.packet_in-requires
 packet_in-requires c =
-    let legible : (752 ≤ length c.args.b.now) × InRange c.args.b.now = let cx = context_of c.args.s in
+    let cx = context_of c.args.s in
     let b = c.args.b.now in
-    (omega (arith, right-length cx b c.requires), model-in-range cx b c.requires) in
-    legible
+    record {
+      in_bounds = omega (arith, right-length cx b c.requires);
+      in_range = model-in-range cx b c.requires;
+    }

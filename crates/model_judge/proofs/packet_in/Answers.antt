@@ -48,24 +48,3 @@ returns c =
     )
     (state-enough c.args.s c.args.v c.args.h (channel_in b).banks _ (channel_in b).lasts
     ∙ rule-unopened c.args.s c.args.v c.args.h (channel_in b).banks (banks-count b) (channel_in b).lasts c.if-v.false)
-
-pub track_for-own-requires : goal.track_for-own-requires
-track_for-own-requires c = (c.requires.in_bounds, c.requires.in_range)
-
-pub track_for-low-requires : goal.track_for-low-requires
-track_for-low-requires c = (c.requires.in_bounds, c.requires.in_range)
-
-pub track_for-high-requires : goal.track_for-high-requires
-track_for-high-requires c = (c.requires.in_bounds, c.requires.in_range)
-
-pub track_for-held-requires : goal.track_for-held-requires
-track_for-held-requires c = (c.requires.in_bounds, c.requires.in_range)
-
-pub track_for-requires : goal.track_for-requires
-track_for-requires c = (c.requires.in_bounds, c.requires.in_range)
-
-pub lasts_at-l-requires : goal.lasts_at-l-requires
-lasts_at-l-requires c = (c.requires.in_bounds, c.requires.in_range)
-
-pub act_in-requires : goal.act_in-requires
-act_in-requires c = (c.requires.in_bounds, c.requires.in_range)

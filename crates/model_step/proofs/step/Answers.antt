@@ -74,12 +74,11 @@ take_in-requires c =
     let read : (let a = c.args in c.read_record.result ≡ record_read (context_of a.s).settings a.given.now) = let a = c.args in
     let l : length a.given.now ≡ 32 = c.if-given-ne32.false in
     c.read_record.ensures ∙ rw (part-all a.given.now 32 (omega arith)) in
-    let r = c.r-1.given in
     record {
       s_value = c.requires.s_value;
       model_value = c.requires.model_value;
       store_len = long;
-      r_value = record-read-fits c.args.s c.args.given.now r.0.0 (sym (read) ∙ r.1);
+      r_value = record-read-fits c.args.s c.args.given.now c.in-Known.r (sym (read) ∙ c.in-Known.is);
     }
 
 pub returns-in-NoRecord : goal.returns-in-NoRecord
@@ -120,14 +119,12 @@ returns-in-Known c =
     let a = c.args in
     let cx = context_of a.s in
     let m = model_in a.model.now in
-    let r = c.r-1.given in
-    let k = sym (read) ∙ r.1 in
+    let k = sym (read) ∙ c.in-Known.is in
     let l = c.if-given-ne32.false in
     let e = long in
-    let t = (c.take_in.ensures.value, (c.take_in.ensures.model_after, (c.take_in.ensures.store_after, c.take_in.ensures.room_after))) in
     record {
-      value = t.0 ∙ known-answer cx m a.given.now r.0.0 l k (length a.store.now) (length a.room.now) e;
-      model_after = t.1.0 ∙ ap model_bytes (known-model cx m a.given.now r.0.0 l k (length a.store.now) (length a.room.now) e);
-      store_after = t.1.1.0 ∙ known_store cx m a.given.now r.0.0 l k a.store.now (length a.room.now) e;
-      room_after = t.1.1.1 ∙ known-room cx m a.given.now r.0.0 l k a.store.now a.room.now e;
+      value = c.take_in.ensures.value ∙ known-answer cx m a.given.now c.in-Known.r l k (length a.store.now) (length a.room.now) e;
+      model_after = c.take_in.ensures.model_after ∙ ap model_bytes (known-model cx m a.given.now c.in-Known.r l k (length a.store.now) (length a.room.now) e);
+      store_after = c.take_in.ensures.store_after ∙ known_store cx m a.given.now c.in-Known.r l k a.store.now (length a.room.now) e;
+      room_after = c.take_in.ensures.room_after ∙ known-room cx m a.given.now c.in-Known.r l k a.store.now a.room.now e;
     }

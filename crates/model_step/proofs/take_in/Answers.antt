@@ -116,8 +116,10 @@ judge_in-rule-requires c = c.requires.model_value
 pub touch_in-requires : goal.touch_in-requires
 touch_in-requires c =
     let long : length c.args.model.now ≡ 792 = right-length (context_of c.args.s) c.args.model.now c.requires.model_value in
-    let legible : (752 ≤ length c.args.model.now) × InRange c.args.model.now = (omega (arith, long), model-in-range (context_of c.args.s) c.args.model.now c.requires.model_value) in
-    legible
+    record {
+      in_bounds = omega (arith, long);
+      in_range = model-in-range (context_of c.args.s) c.args.model.now c.requires.model_value;
+    }
 
 pub data_at-requires : goal.data_at-requires
 data_at-requires c =

@@ -22,15 +22,3 @@ returns-in-Packet c =
 
 pub returns-in-Data : goal.returns-in-Data
 returns-in-Data c = touch-data c.args.s (channel_in c.args.b.now) c.args.r _ (sym c.seen_of-seen.ensures ∙ c.in-Data.is)
-
-pub held_at-h-requires : goal.held_at-h-requires
-held_at-h-requires c = (c.requires.in_bounds, c.requires.in_range)
-
-pub track_for-own-requires : goal.track_for-own-requires
-track_for-own-requires c = (c.requires.in_bounds, c.requires.in_range)
-
-pub track_for-held-requires : goal.track_for-held-requires
-track_for-held-requires c = (c.requires.in_bounds, c.requires.in_range)
-
-pub buffer_at-requires : goal.buffer_at-requires
-buffer_at-requires c = (c.requires.in_bounds, c.requires.in_range)

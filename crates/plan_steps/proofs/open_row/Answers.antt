@@ -33,7 +33,7 @@ act-requires c =
       ready = ready-more _ 1000011000 1000012000 _ (omega arith) (ready _ _ _ a.ready);
       b_len = a.size;
       bank_bound = c.requires.bank_bound;
-      to_in_bounds = omega (arith, f, one-sent cx r (planner_in c.close_near-to.new.1.0));
+      to_in_bounds = omega (arith, f, one-sent cx r (planner_in c.close_near-to.new.b));
     }
 
 pub returns : goal.returns

@@ -21,7 +21,7 @@ use Rattle.listing_text.proofs.lines.put_lines.Goals as goal
 -- the records read so far, and the next one
 next : (s : Settings) → s ≡ set_h → (room : List ℕ) (i : ℕ) (r : Record) → r ≡ known (record_read s (part room (32 * i) 32)) → records_up_to set_h room (i + 1) ≡ records_up_to set_h room i ++ (r ∷ [])
 unfolding records_up_to
-next s es room i r e = rw (add-one, ← es, ← e)
+next s es room i r e = rw (add-one, e, es)
 
 pub loop-i-init : goal.loop-i-init
 unfolding records_up_to record_lines write_bank_after write_column_after
@@ -40,7 +40,7 @@ loop-i-preserved c =
       h.1 ∙ ap (write_column c.record_at-r.result) k.invariant.2 ∙ sym (column-next a.before.column old c.record_at-r.result),
       line-next a.out.now a.at a.before.bank a.before.column old c.record_at-r.result k.latest.bank k.latest.column (omega (arith, k.invariant.4)) k.invariant.1 k.invariant.2 k.invariant.3 c.put_record_line-end.ensures.0,
       omega (arith, k.invariant.4, c.put_record_line-end.ensures.1),
-      c.put_record_line-end.auto.0 ∙ k.invariant.5,
+      c.put_record_line-end.auto.out ∙ k.invariant.5,
     )
 
 pub shape_of-out : goal.shape_of-out

@@ -25,7 +25,7 @@ unfolding stamped_decode_answer
 returns-in-Refused c =
     let log = c.args.log.now in
     let room = c.args.room in
-    rw (eq-eqb _ 0 c.if-log-ne0.false, c.known_told-1.given.1)
+    rw (eq-eqb _ 0 c.if-log-ne0.false)
     (sym (right-refused Refused log _ (λ s. records_or_full (list_of log) room) (sym c.tested.ensures ∙ c.in-Refused.is)))
 
 pub returns-in-Right : goal.returns-in-Right

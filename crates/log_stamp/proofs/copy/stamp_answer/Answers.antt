@@ -33,7 +33,7 @@ pub returns-in-Refused : goal.returns-in-Refused
 unfolding stamp_answer
 returns-in-Refused c =
     let a = c.args in
-    rw (eq-eqb _ 0 c.if-log-ne0.false, c.known_told-1.given.1)
+    rw (eq-eqb _ 0 c.if-log-ne0.false)
     (sym (old-refused a.s a.log.now (blocks_in a.log.now) _ _ (sym c.right.ensures ∙ c.in-Refused.is)))
 
 pub returns-in-Count : goal.returns-in-Count

@@ -20,7 +20,7 @@ waiting s b t h = not-passes (not (eqb (get_or b 728 0) 0)) (eqb (get_or b 728 0
 pub returns-then-not-leaves_at : goal.returns-then-not-leaves_at
 unfolding left_next left_count
 returns-then-not-leaves_at c =
-    let h = sym c.leaves_at.ensures ∙ not-passes (not c.leaves_at.result) c.leaves_at.result refl c.if-not-leaves_at.true in
+    let h = sym c.leaves_at.ensures ∙ c.if-not-leaves_at.true in
     record {
       value = rw (h, c.wide32-count.ensures.0, c.wide.ensures.0);
       b_after = rw h;
@@ -28,7 +28,7 @@ returns-then-not-leaves_at c =
 
 pub put_out-requires : goal.put_out-requires
 put_out-requires c =
-    let h = waiting c.args.s c.args.b.now c.args.t (sym c.leaves_at.ensures ∙ not-fails (not c.leaves_at.result) c.leaves_at.result refl c.if-not-leaves_at.false) in
+    let h = waiting c.args.s c.args.b.now c.args.t (sym c.leaves_at.ensures ∙ c.if-not-leaves_at.false) in
     let n = c.wide32-count.ensures.0 ∙ c.wide.ensures.0 in
     record {
       b_len = c.requires.b_len;
@@ -40,13 +40,13 @@ put_out-requires c =
 
 pub overflow_sub-result : goal.overflow_sub-result
 overflow_sub-result c =
-    let h = waiting c.args.s c.args.b.now c.args.t (sym c.leaves_at.ensures ∙ not-fails (not c.leaves_at.result) c.leaves_at.result refl c.if-not-leaves_at.false) in
+    let h = waiting c.args.s c.args.b.now c.args.t (sym c.leaves_at.ensures ∙ c.if-not-leaves_at.false) in
     omega (arith, c.wide32-count.ensures.0 ∙ c.wide.ensures.0, eqb-false (get_or c.args.b.now 728 0) 0 h)
 
 pub returns : goal.returns
 unfolding left_next left_count
 returns c =
-    let h = sym c.leaves_at.ensures ∙ not-fails (not c.leaves_at.result) c.leaves_at.result refl c.if-not-leaves_at.false in
+    let h = sym c.leaves_at.ensures ∙ c.if-not-leaves_at.false in
     record {
       value = rw (h, c.wide32-count.ensures.0, c.wide.ensures.0);
       b_after = rw (h, c.put_out.ensures);

@@ -131,19 +131,19 @@ returns c =
 pub shape_of-b-then-close : goal.shape_of-b-then-close
 shape_of-b-then-close c =
     let a = c.args in
-    (read-lengths _ _ c.requires.rested a.room.now c.requires.in_bounds a.at c.requires.in_place a.close _ _ _ (returns c)).0
+    (read-lengths _ _ c.requires.rested a.room.now c.requires.in_bounds a.at c.requires.in_place a.close _ _ _ (returns-then-close c)).0
 
 pub shape_of-room-then-close : goal.shape_of-room-then-close
 shape_of-room-then-close c =
     let a = c.args in
-    (read-lengths _ _ c.requires.rested a.room.now c.requires.in_bounds a.at c.requires.in_place a.close _ _ _ (returns c)).1
+    (read-lengths _ _ c.requires.rested a.room.now c.requires.in_bounds a.at c.requires.in_place a.close _ _ _ (returns-then-close c)).1
 
 pub shape_of-b : goal.shape_of-b
 shape_of-b c =
     let a = c.args in
-    (read-lengths _ _ c.requires.rested a.room.now c.requires.in_bounds a.at c.requires.in_place a.close _ _ _ (returns-2 c)).0
+    (read-lengths _ _ c.requires.rested a.room.now c.requires.in_bounds a.at c.requires.in_place a.close _ _ _ (returns c)).0
 
 pub shape_of-room : goal.shape_of-room
 shape_of-room c =
     let a = c.args in
-    (read-lengths _ _ c.requires.rested a.room.now c.requires.in_bounds a.at c.requires.in_place a.close _ _ _ (returns-2 c)).1
+    (read-lengths _ _ c.requires.rested a.room.now c.requires.in_bounds a.at c.requires.in_place a.close _ _ _ (returns c)).1

@@ -17,7 +17,7 @@ use Rattle.check_list.proofs.shortest.RunLaws.{length-records}
 use Rattle.check_list.proofs.shortest.StartLaws.{last-here, Searched, turn-tried, turn-skipped}
 use borrow.Author.Rules.{rules}
 use Rattle.check_list.proofs.shortest.starts.latest_start.Goals as goal
-use Rattle.check_list.proofs.shortest.starts.latest_start.Goals.{then-to_try, else-to_try}
+use Rattle.check_list.proofs.shortest.starts.latest_start.Goals.{then-to_try+else-t, else-to_try}
 
 pub loop-i-init : goal.loop-i-init
 unfolding shortest_start
@@ -49,7 +49,7 @@ loop-i-preserved c =
     let in_list : a.j < length rs = rw (length-records a.s a.list.now) c.requires.j_bound in (
       omega arith,
       elim c.if-to_try.branch [
-        then-to_try w ↦ rw w.early-is (turn-tried cx rs a.rule a.j m k.i k.early w.try_from-t.result c.loop-i-test.true k.invariant.1 w.try_from-t.ensures w.if-t.false)
+        then-to_try+else-t w ↦ rw w.early-is (turn-tried cx rs a.rule a.j m k.i k.early w.try_from-t.result c.loop-i-test.true k.invariant.1 w.try_from-t.ensures w.if-t.false)
         | else-to_try w ↦ rw w.early-is (turn-skipped cx rs a.rule a.j m k.i k.early c.loop-i-test.true in_list k.invariant.1 (sym c.to_try.ensures ∙ w.if-to_try.false))
       ],
     )
