@@ -27,8 +27,7 @@ step-requires c =
 pub returns : goal.returns
 returns c =
     let a = c.args in
-    let k = (c.step.ensures.value, (c.step.ensures.model_after, (c.step.ensures.store_after, c.step.ensures.room_after))) in
-    let all = stepped a.s a.model.now a.store.now a.given.now a.room.now (λ i l. omega (arith, c.slice_known-1.given i)) (sym c.model_right.ensures ∙ c.if-not-model_right.false) _ k.0 _ k.1.0 _ k.1.1.0 _ k.1.1.1 _ c.answer-2.ensures in
+    let all = stepped a.s a.model.now a.store.now a.given.now a.room.now (λ i l. omega (arith, c.slice_known-1.given i)) (sym c.model_right.ensures ∙ c.if-not-model_right.false) _ c.step.ensures.value _ c.step.ensures.model_after _ c.step.ensures.store_after _ c.step.ensures.room_after _ c.answer-2.ensures in
     record {
       value = all.0;
       model_after = all.1.0;

@@ -65,9 +65,8 @@ returns-then-made-ne0 c =
       planner-bytes = λ i h. (c.slice_known-1.given i).fits;
       request-bytes = λ i h. (c.shared_slice_known-1.given i).fits;
     } in
-    let e = (c.plan_at-made.ensures.value, (c.plan_at-made.ensures.planner_after, c.plan_at-made.ensures.room_after)) in
     let refused : c.plan_at-made.result.number ≢ 0 = λ z. omega (arith, c.if-made-ne0.true) in
-    let all = last_one (given) c.loop-place.invariant.0 c.loop-place-test.true _ e.0 _ _ e.1.0 e.1.1 refused c.planned_to.result c.planned_to.ensures in
+    let all = last_one (given) c.loop-place.invariant.0 c.loop-place-test.true _ c.plan_at-made.ensures.value _ _ c.plan_at-made.ensures.planner_after c.plan_at-made.ensures.room_after refused c.planned_to.result c.planned_to.ensures in
     record {
       value = all.0;
       planner_after = all.1.0;
@@ -82,12 +81,11 @@ risen-top-requires c =
       planner-bytes = λ i h. (c.slice_known-1.given i).fits;
       request-bytes = λ i h. (c.shared_slice_known-1.given i).fits;
     } in
-    let e = (c.plan_at-made.ensures.value, (c.plan_at-made.ensures.planner_after, c.plan_at-made.ensures.room_after)) in
     let accepted : c.plan_at-made.result.number ≡ 0 = omega (arith, c.if-made-ne0.false) in
-    let more = one_more_lem (given) c.loop-place.invariant.0 c.loop-place-test.true _ e.0 _ _ e.1.0 e.1.1 accepted in
+    let more = one_more_lem (given) c.loop-place.invariant.0 c.loop-place-test.true _ c.plan_at-made.ensures.value _ _ c.plan_at-made.ensures.planner_after c.plan_at-made.ensures.room_after accepted in
     record {
       planner_len = right-length (context_of c.args.s) _ (right-now (given) more);
-      below = λ h. more-rises (given) c.loop-place.invariant.0 c.loop-place-test.true _ e.0 _ _ e.1.0 e.1.1 accepted c.loop-place.top c.loop-place.invariant.1 h;
+      below = λ h. more-rises (given) c.loop-place.invariant.0 c.loop-place-test.true _ c.plan_at-made.ensures.value _ _ c.plan_at-made.ensures.planner_after c.plan_at-made.ensures.room_after accepted c.loop-place.top c.loop-place.invariant.1 h;
     }
 
 pub overflow_add-records : goal.overflow_add-records
@@ -98,9 +96,8 @@ overflow_add-records c =
       planner-bytes = λ i h. (c.slice_known-1.given i).fits;
       request-bytes = λ i h. (c.shared_slice_known-1.given i).fits;
     } in
-    let e = (c.plan_at-made.ensures.value, (c.plan_at-made.ensures.planner_after, c.plan_at-made.ensures.room_after)) in
     let accepted : c.plan_at-made.result.number ≡ 0 = omega (arith, c.if-made-ne0.false) in
-    let next = one_more_lem (given) c.loop-place.invariant.0 c.loop-place-test.true _ e.0 _ _ e.1.0 e.1.1 accepted in
+    let next = one_more_lem (given) c.loop-place.invariant.0 c.loop-place-test.true _ c.plan_at-made.ensures.value _ _ c.plan_at-made.ensures.planner_after c.plan_at-made.ensures.room_after accepted in
     let lent = c.well_formed in
     omega (arith, records-fit (given) next, room-kept (given) next)
 
@@ -112,9 +109,8 @@ loop-place-preserved c =
       planner-bytes = λ i h. (c.slice_known-1.given i).fits;
       request-bytes = λ i h. (c.shared_slice_known-1.given i).fits;
     } in
-    let e = (c.plan_at-made.ensures.value, (c.plan_at-made.ensures.planner_after, c.plan_at-made.ensures.room_after)) in
     let accepted : c.plan_at-made.result.number ≡ 0 = omega (arith, c.if-made-ne0.false) in
-    (one_more_lem (given) c.loop-place.invariant.0 c.loop-place-test.true _ e.0 _ _ e.1.0 e.1.1 accepted, c.risen-top.ensures)
+    (one_more_lem (given) c.loop-place.invariant.0 c.loop-place-test.true _ c.plan_at-made.ensures.value _ _ c.plan_at-made.ensures.planner_after c.plan_at-made.ensures.room_after accepted, c.risen-top.ensures)
 
 pub shape_of-planner : goal.shape_of-planner
 shape_of-planner c =

@@ -16,8 +16,7 @@ plan-made-requires c =
 
 pub returns-then-in_time : goal.returns-then-in_time
 returns-then-in_time c =
-    let k = (c.plan-made.ensures.planner_after, (c.plan-made.ensures.room_after, (c.plan-made.ensures.records_value, (c.plan-made.ensures.banks_value, c.plan-made.ensures.due_value)))) in
-    let all = in-time c.args.s c.args.planner.now c.args.q c.args.room.now c.requires.planner_value c.requires.granted.1 (enough c.args.s c.args.planner.now c.args.q c.args.room.now c.requires.planner_value c.requires.granted.1 c.args.room.now c.requires.in_bounds) (sym c.in_time.ensures ∙ c.if-in_time.true) _ k.1.1.0 _ k.1.1.1.0 _ c.answer.ensures _ _ k.0 k.1.0 in
+    let all = in-time c.args.s c.args.planner.now c.args.q c.args.room.now c.requires.planner_value c.requires.granted.1 (enough c.args.s c.args.planner.now c.args.q c.args.room.now c.requires.planner_value c.requires.granted.1 c.args.room.now c.requires.in_bounds) (sym c.in_time.ensures ∙ c.if-in_time.true) _ c.plan-made.ensures.records_value _ c.plan-made.ensures.banks_value _ c.answer.ensures _ _ c.plan-made.ensures.planner_after c.plan-made.ensures.room_after in
     record {
       value = all.0;
       planner_after = all.1.0;

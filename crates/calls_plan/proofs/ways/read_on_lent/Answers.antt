@@ -23,11 +23,10 @@ plan_read-made-requires c =
 pub returns : goal.returns
 unfolding unretired
 returns c =
-    let k = (c.plan_read-made.ensures.planner_after, (c.plan_read-made.ensures.room_after, (c.plan_read-made.ensures.records_value, (c.plan_read-made.ensures.banks_value, c.plan_read-made.ensures.due_value)))) in
     let q : Request = Read c.args.at false in
     let u : unretired q (planner_in c.args.planner.now) ≡ false = refl in
     let low = rested-low _ _ c.requires.s_value (λ i l. omega (arith, c.slice_known-1.given i)) c.requires.planner_value 999990000 c.requires.below in
-    let all = in-time c.args.s c.args.planner.now q c.args.room.now c.requires.planner_value u (enough c.args.s c.args.planner.now q c.args.room.now c.requires.planner_value u c.args.room.now c.requires.in_bounds) (calm-timely _ _ low q tt) _ k.1.1.0 _ k.1.1.1.0 _ c.answer.ensures _ _ k.0 k.1.0 in
+    let all = in-time c.args.s c.args.planner.now q c.args.room.now c.requires.planner_value u (enough c.args.s c.args.planner.now q c.args.room.now c.requires.planner_value u c.args.room.now c.requires.in_bounds) (calm-timely _ _ low q tt) _ c.plan_read-made.ensures.records_value _ c.plan_read-made.ensures.banks_value _ c.answer.ensures _ _ c.plan_read-made.ensures.planner_after c.plan_read-made.ensures.room_after in
     record {
       value = all.0;
       planner_after = all.1.0;
