@@ -14,7 +14,7 @@ pub slice_bounds-draw-end : goal.slice_bounds-draw-end
 slice_bounds-draw-end c =
     let accepts : Accepts c.args.s c.args.list.now c.args.start (length c.args.room.now) = let a = c.args in
     page-accepts a.s a.list.now a.start (length a.room.now) (sym c.page_answer-answer.ensures ∙ c.in-Passed.is) in
-    (accepts).ranges
+    (accepts).fits
 
 pub slice_bounds-draw-end-in-Passed : goal.slice_bounds-draw-end-in-Passed
 slice_bounds-draw-end-in-Passed c =
