@@ -59,7 +59,7 @@ put_refused-end-requires c =
     let t = turn (given) c.loop-i.invariant.0 c.loop-i-test.true c.loop-i.room c.plan_all_under-arg-in-loop-i-2-1.given.0.1 c.set_h.result c.set_h.ensures (c.plan_all_under-planned.ensures.value, (c.plan_all_under-planned.ensures.planner_after, c.plan_all_under-planned.ensures.room_after)) in
     let p = c.put_lines-lines in
     let stopped : c.plan_all_under-planned.result.number ≢ 0 = λ z. omega (arith, c.if-planned-ne0.true) in
-    stop-room t p.ensures.0 p.auto.out p.ensures.1 stopped
+    stop-room t p.ensures.put p.auto.out p.ensures.bank_value stopped
 
 pub overflow_add-i-then-planned-ne0 : goal.overflow_add-i-then-planned-ne0
 overflow_add-i-then-planned-ne0 c =
@@ -72,7 +72,7 @@ overflow_add-i-then-planned-ne0 c =
     let t = turn (given) c.loop-i.invariant.0 c.loop-i-test.true c.loop-i.room c.plan_all_under-arg-in-loop-i-2-1.given.0.1 c.set_h.result c.set_h.ensures (c.plan_all_under-planned.ensures.value, (c.plan_all_under-planned.ensures.planner_after, c.plan_all_under-planned.ensures.room_after)) in
     let p = c.put_lines-lines in
     let stopped : c.plan_all_under-planned.result.number ≢ 0 = λ z. omega (arith, c.if-planned-ne0.true) in
-    omega (arith, stop-within t p.ensures.0 p.auto.out p.ensures.1 stopped, (given).short)
+    omega (arith, stop-within t p.ensures.put p.auto.out p.ensures.bank_value stopped, (given).short)
 
 pub loop-i-smaller-then-planned-ne0 : goal.loop-i-smaller-then-planned-ne0
 loop-i-smaller-then-planned-ne0 c =
@@ -97,7 +97,7 @@ loop-i-preserved-then-planned-ne0 c =
     let p = c.put_lines-lines in
     let f = c.put_refused-end in
     let stopped : c.plan_all_under-planned.result.number ≢ 0 = λ z. omega (arith, c.if-planned-ne0.true) in
-    (stop-listed t p.ensures.0 p.auto.out p.ensures.1 stopped f.ensures f.auto.out, c.plan_all_under-planned.auto.planner ∙ c.loop-i.invariant.1)
+    (stop-listed t p.ensures.put p.auto.out p.ensures.bank_value stopped f.ensures f.auto.out, c.plan_all_under-planned.auto.planner ∙ c.loop-i.invariant.1)
 
 pub loop-i-smaller : goal.loop-i-smaller
 loop-i-smaller c =
@@ -110,7 +110,7 @@ loop-i-smaller c =
     let t = turn (given) c.loop-i.invariant.0 c.loop-i-test.true c.loop-i.room c.plan_all_under-arg-in-loop-i-2-1.given.0.1 c.set_h.result c.set_h.ensures (c.plan_all_under-planned.ensures.value, (c.plan_all_under-planned.ensures.planner_after, c.plan_all_under-planned.ensures.room_after)) in
     let p = c.put_lines-lines in
     let passed : c.plan_all_under-planned.result.number ≡ 0 = omega (arith, c.if-planned-ne0.false) in
-    omega (arith, t.left, all_listed t p.ensures.0 p.auto.out p.ensures.1 passed)
+    omega (arith, t.left, all_listed t p.ensures.put p.auto.out p.ensures.bank_value passed)
 
 pub loop-i-preserved : goal.loop-i-preserved
 loop-i-preserved c =
@@ -122,7 +122,7 @@ loop-i-preserved c =
     } in
     let t = turn (given) c.loop-i.invariant.0 c.loop-i-test.true c.loop-i.room c.plan_all_under-arg-in-loop-i-2-1.given.0.1 c.set_h.result c.set_h.ensures (c.plan_all_under-planned.ensures.value, (c.plan_all_under-planned.ensures.planner_after, c.plan_all_under-planned.ensures.room_after)) in
     let p = c.put_lines-lines in
-    (now-listed t p.ensures.0 p.auto.out p.ensures.1, c.plan_all_under-planned.auto.planner ∙ c.loop-i.invariant.1)
+    (now-listed t p.ensures.put p.auto.out p.ensures.bank_value, c.plan_all_under-planned.auto.planner ∙ c.loop-i.invariant.1)
 
 pub shape_of-planner : goal.shape_of-planner
 shape_of-planner c = c.loop-i.invariant.1
