@@ -2,7 +2,6 @@
 use mathlib.Core.Path.{◌∙◌, sym}
 use Rattle.spec_calls.specs.Settings.{under_settings}
 use Rattle.calls_index.specs.Results.{index_check_call}
-use borrow.Author.Rules.{rules}
 use Rattle.calls_index.proofs.check_by.Goals as goal
 
 pub returns-in-Refused : goal.returns-in-Refused

@@ -7,7 +7,6 @@ use Rattle.spec_index.specs.Answers.{beside_answer}
 use Rattle.log_index.proofs.query.QueryLaws.{beside-refused, beside-differs, beside-passed, beside-next}
 use Rattle.calls_index.specs.Results.{checked_answer}
 use Rattle.calls_index.proofs.CheckLaws.{rules-after}
-use borrow.Author.Rules.{rules}
 use Rattle.calls_index.proofs.checked.Goals as goal
 
 pub returns-then-log-ne0 : goal.returns-then-log-ne0

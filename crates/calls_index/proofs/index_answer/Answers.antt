@@ -1,6 +1,5 @@
 -- `index_answer` meets its contract: each arm is a case of the definition.
 use Rattle.calls_index.specs.Results.{index_answer}
-use borrow.Author.Rules.{rules}
 use Rattle.calls_index.proofs.index_answer.Goals as goal
 
 pub returns-in-Refused : goal.returns-in-Refused

@@ -1,6 +1,5 @@
 -- `judged` meets its contract: each arm is a case of the definition.
 use Rattle.calls_index.specs.Results.{judged_as}
-use borrow.Author.Rules.{rules}
 use Rattle.calls_index.proofs.judged.Goals as goal
 
 pub returns-in-Passed : goal.returns-in-Passed

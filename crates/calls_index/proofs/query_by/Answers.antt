@@ -3,7 +3,6 @@ use mathlib.Core.Path.{◌∙◌, sym}
 use Rattle.spec_index.specs.Answers.{lent_after}
 use Rattle.spec_calls.specs.Settings.{under_settings}
 use Rattle.calls_index.specs.Results.{index_query_call}
-use borrow.Author.Rules.{rules}
 use Rattle.calls_index.proofs.query_by.Goals as goal
 
 pub returns-in-Refused : goal.returns-in-Refused

@@ -1,6 +1,5 @@
 -- `calls_model::answer` meets its contract: each arm is a case of the definition.
 use Rattle.spec_calls.specs.Models.{stepped_answer}
-use borrow.Author.Rules.{rules}
 use Rattle.calls_model.proofs.answer.Goals as goal
 
 pub returns-in-Refused : goal.returns-in-Refused

@@ -4,7 +4,6 @@ use borrow.Author.Tests.{eq-eqb, ne_eqb}
 use Rattle.record.specs.Refusal.{answer_of}
 use Rattle.spec_model.specs.ModelBytes.{model_length}
 use Rattle.spec_calls.specs.Models.{model_fresh}
-use borrow.Author.Rules.{rules}
 use Rattle.calls_model.proofs.model_fresh.Goals as goal
 
 pub returns-then-model-ne-MODEL_BYTES : goal.returns-then-model-ne-MODEL_BYTES

@@ -3,7 +3,6 @@ use mathlib.Core.Path.{refl, sym, ◌∙◌}
 use Rattle.settings.proofs.SettingsLaws.{accepted-valid}
 use Rattle.spec_calls.specs.Settings.{under_settings}
 use Rattle.spec_calls.specs.Models.{step_call}
-use borrow.Author.Rules.{rules}
 use Rattle.calls_model.proofs.step_call.Goals as goal
 
 pub step_under-requires : goal.step_under-requires

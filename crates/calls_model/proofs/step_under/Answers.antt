@@ -1,9 +1,7 @@
 -- `calls_model::step_under` meets its contract: refusal 1, or the step on the model's bytes.
 use mathlib.Core.Path.{sym, ◌∙◌}
 use native.Mathlib.Omega.{arith}
-use borrow.Author.Tests.{not-true, not-false}
 use Rattle.calls_model.proofs.CallLaws.{turned-back, stepped}
-use borrow.Author.Rules.{rules}
 use Rattle.calls_model.proofs.step_under.Goals as goal
 
 pub returns-then-not-model_right : goal.returns-then-not-model_right

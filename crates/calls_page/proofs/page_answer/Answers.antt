@@ -7,7 +7,6 @@ use Rattle.spec_rules.specs.Neighbour.{context_of}
 use Rattle.spec_page.specs.Page.{page_bytes}
 use Rattle.calls_page.specs.Results.{room_for, page_answer}
 use Rattle.calls_page.proofs.AnswerLaws.{whole-list}
-use borrow.Author.Rules.{rules}
 use Rattle.calls_page.proofs.page_answer.Goals as goal
 
 pub returns-then-list-ne0 : goal.returns-then-list-ne0

@@ -2,7 +2,6 @@
 use mathlib.Core.Path.{◌∙◌, sym}
 use Rattle.spec_calls.specs.Settings.{under_settings}
 use Rattle.calls_page.specs.Results.{page_lent, page_call}
-use borrow.Author.Rules.{rules}
 use Rattle.calls_page.proofs.page_by.Goals as goal
 
 pub returns-in-Refused : goal.returns-in-Refused

@@ -7,7 +7,6 @@ use Rattle.spec_page.specs.Page.{page}
 use Rattle.spec_page.proofs.PageLaws.{length-page}
 use Rattle.calls_page.specs.Results.{page_lent}
 use Rattle.calls_page.proofs.AnswerLaws.{Accepts, page-accepts, at-start}
-use borrow.Author.Rules.{rules}
 use Rattle.calls_page.proofs.put_page.Goals as goal
 
 pub slice_bounds-draw-end : goal.slice_bounds-draw-end

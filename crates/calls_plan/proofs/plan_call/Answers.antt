@@ -3,7 +3,6 @@ use mathlib.Core.Path.{refl, sym, ◌∙◌}
 use Rattle.settings.proofs.SettingsLaws.{accepted-valid}
 use Rattle.spec_calls.specs.Settings.{under_settings}
 use Rattle.spec_calls.specs.Plans.{plan_call}
-use borrow.Author.Rules.{rules}
 use Rattle.calls_plan.proofs.plan_call.Goals as goal
 
 pub plan_under-requires : goal.plan_under-requires

@@ -1,10 +1,8 @@
 -- `calls_plan::plan_under` meets its contract: refusal 1, or what the request says.
 use mathlib.Core.Path.{sym, ◌∙◌}
-use borrow.Author.Tests.{not-true, not-false}
 use Rattle.state_bytes.proofs.RightLaws.{planner-length-wrong}
 use Rattle.plan_bytes.proofs.calm.CalmLaws.{calm-below}
 use Rattle.calls_plan.proofs.CallLaws.{turned-back}
-use borrow.Author.Rules.{rules}
 use Rattle.calls_plan.proofs.plan_under.Goals as goal
 
 pub returns-then-planner-ne-PLANNER_BYTES : goal.returns-then-planner-ne-PLANNER_BYTES

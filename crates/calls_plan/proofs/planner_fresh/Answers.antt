@@ -4,7 +4,6 @@ use borrow.Author.Tests.{eq-eqb, ne_eqb}
 use Rattle.record.specs.Refusal.{answer_of}
 use Rattle.spec_plan.specs.PlannerBytes.{planner_length}
 use Rattle.spec_calls.specs.Plans.{planner_fresh}
-use borrow.Author.Rules.{rules}
 use Rattle.calls_plan.proofs.planner_fresh.Goals as goal
 
 pub returns-then-planner-ne-PLANNER_BYTES : goal.returns-then-planner-ne-PLANNER_BYTES

@@ -1,7 +1,6 @@
 -- `calls_plan::right` meets its contract: of a calm state the range of the instants is known.
 use mathlib.Core.Path.{sym, ◌∙◌}
 use Rattle.calls_plan.proofs.CallLaws.{calm-stored}
-use borrow.Author.Rules.{rules}
 use Rattle.calls_plan.proofs.right.Goals as goal
 
 pub planner_rest_right-requires : goal.planner_rest_right-requires

@@ -1,6 +1,5 @@
 -- `in_numbers` meets its contract: the verdict in numbers is the checker's.
 use Rattle.calls_shortest.specs.Results.{in_numbers}
-use borrow.Author.Rules.{rules}
 use Rattle.calls_shortest.proofs.in_numbers.Goals as goal
 
 pub returns : goal.returns

@@ -1,6 +1,5 @@
 -- `access_command` meets its contract: the test on the closing flag picks the number.
 use native.Mathlib.Omega.{arith}
-use borrow.Author.Rules.{rules}
 use Rattle.calls_word.proofs.access_command.Goals as goal
 
 pub returns-then-close : goal.returns-then-close

@@ -1,6 +1,5 @@
 -- `col_answer` meets its contract: each arm is a case of the definition.
 use Rattle.calls_word.specs.Words.{col_answer}
-use borrow.Author.Rules.{rules}
 use Rattle.calls_word.proofs.col_answer.Goals as goal
 
 pub returns-in-NoCol : goal.returns-in-NoCol

@@ -1,6 +1,5 @@
 -- `col_numbers` meets its contract: each arm is a case of the definition.
 use Rattle.calls_word.specs.Words.{col_numbers}
-use borrow.Author.Rules.{rules}
 use Rattle.calls_word.proofs.col_numbers.Goals as goal
 
 pub returns-in-Nocop : goal.returns-in-Nocop

@@ -2,7 +2,6 @@
 use mathlib.Core.Path.{◌∙◌, sym}
 use borrow.Author.Tests.{le-leb, lt-leb}
 use Rattle.calls_word.specs.Words.{command_coded}
-use borrow.Author.Rules.{rules}
 use Rattle.calls_word.proofs.command_coded.Goals as goal
 
 pub returns-then-command-le3 : goal.returns-then-command-le3

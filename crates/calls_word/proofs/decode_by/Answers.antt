@@ -2,7 +2,6 @@
 use mathlib.Core.Path.{◌∙◌, sym}
 use Rattle.spec_calls.specs.Settings.{under_settings}
 use Rattle.calls_word.specs.Words.{word_decode_call}
-use borrow.Author.Rules.{rules}
 use Rattle.calls_word.proofs.decode_by.Goals as goal
 
 pub returns-in-Refused : goal.returns-in-Refused

@@ -4,7 +4,6 @@ use native.Mathlib.Omega.{arith}
 use Rattle.settings.proofs.SettingsLaws.{bounds, accepted-valid}
 use Rattle.spec_calls.specs.Settings.{under_settings}
 use Rattle.calls_word.specs.Words.{word_encode_call}
-use borrow.Author.Rules.{rules}
 use Rattle.calls_word.proofs.encode_by.Goals as goal
 
 pub command_coded-requires : goal.command_coded-requires

@@ -1,7 +1,6 @@
 -- `fields_right` meets its contract: the tests are the definition's, in their order.
 use borrow.Author.Tests.{eq-eqb, ne_eqb, le-leb, lt-leb}
 use Rattle.calls_word.specs.Words.{fields_right}
-use borrow.Author.Rules.{rules}
 use Rattle.calls_word.proofs.fields_right.Goals as goal
 
 pub returns-then-command-eq0 : goal.returns-then-command-eq0

@@ -1,6 +1,5 @@
 -- `no_packet` meets its contract: the number is the refusal's.
 use Rattle.calls_word.specs.Words.{no_packet}
-use borrow.Author.Rules.{rules}
 use Rattle.calls_word.proofs.no_packet.Goals as goal
 
 pub returns : goal.returns

@@ -1,6 +1,5 @@
 -- `no_word` meets its contract: the number is the refusal's.
 use Rattle.calls_word.specs.Words.{no_word_answer}
-use borrow.Author.Rules.{rules}
 use Rattle.calls_word.proofs.no_word.Goals as goal
 
 pub returns : goal.returns

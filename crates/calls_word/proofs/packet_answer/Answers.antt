@@ -1,7 +1,6 @@
 -- `packet_answer` meets its contract: the tests are the definition's, in their order.
 use borrow.Author.Tests.{eq-eqb, ne_eqb}
 use Rattle.calls_word.specs.Words.{packet_answer}
-use borrow.Author.Rules.{rules}
 use Rattle.calls_word.proofs.packet_answer.Goals as goal
 
 pub returns-then-kind-eq0 : goal.returns-then-kind-eq0

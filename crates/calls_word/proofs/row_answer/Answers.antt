@@ -1,6 +1,5 @@
 -- `row_answer` meets its contract: each arm is a case of the definition.
 use Rattle.calls_word.specs.Words.{row_answer}
-use borrow.Author.Rules.{rules}
 use Rattle.calls_word.proofs.row_answer.Goals as goal
 
 pub returns-in-NoRow : goal.returns-in-NoRow

@@ -1,6 +1,5 @@
 -- `row_numbers` meets its contract: each arm is a case of the definition.
 use Rattle.calls_word.specs.Words.{row_numbers}
-use borrow.Author.Rules.{rules}
 use Rattle.calls_word.proofs.row_numbers.Goals as goal
 
 pub returns-in-Act : goal.returns-in-Act

@@ -2,7 +2,6 @@
 use mathlib.Core.Path.{◌∙◌, sym}
 use borrow.Author.Tests.{le-leb, lt-leb}
 use Rattle.calls_word.specs.Words.{why_no_word}
-use borrow.Author.Rules.{rules}
 use Rattle.calls_word.proofs.why_no_word.Goals as goal
 
 pub returns-then-bank-gt31 : goal.returns-then-bank-gt31

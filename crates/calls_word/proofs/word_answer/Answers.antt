@@ -1,6 +1,5 @@
 -- `word_answer` meets its contract: each arm is a case of the definition.
 use Rattle.calls_word.specs.Words.{word_answer}
-use borrow.Author.Rules.{rules}
 use Rattle.calls_word.proofs.word_answer.Goals as goal
 
 pub returns-in-NoWord : goal.returns-in-NoWord

@@ -1,6 +1,5 @@
 -- `chan_judge::buffer_rules` meets its contract: each rule's test, from the last to the first.
 use Rattle.chan_judge.specs.Form.Tests.{lowest_or, buffer_tests}
-use borrow.Author.Rules.{rules}
 use Rattle.chan_judge.proofs.buffer_rules.Goals as goal
 
 pub returns : goal.returns

@@ -1,6 +1,5 @@
 -- `chan_judge::data_rule` meets its contract: late data come at no instant in range.
 use Rattle.chan_judge.proofs.ArrivalLaws.{data-rule-is}
-use borrow.Author.Rules.{rules}
 use Rattle.chan_judge.proofs.data_rule.Goals as goal
 
 pub returns : goal.returns

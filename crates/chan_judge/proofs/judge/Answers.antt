@@ -3,7 +3,6 @@ use mathlib.Core.Path.{◌≡◌, ◌∙◌, sym}
 use lib.ListN.{length}
 use Rattle.chan_view.proofs.PlaceLaws.{length-of-map}
 use Rattle.chan_judge.proofs.JudgeLaws.{judged-packet, judged-data}
-use borrow.Author.Rules.{rules}
 use Rattle.chan_judge.proofs.judge.Goals as goal
 
 pub returns-in-Packet : goal.returns-in-Packet

@@ -3,7 +3,6 @@ use mathlib.Core.Path.{◌≡◌}
 use lib.ListN.{length}
 use Rattle.chan_view.proofs.PlaceLaws.{length-of-map}
 use Rattle.chan_judge.proofs.JudgeLaws.{rule-read, rule-unopened}
-use borrow.Author.Rules.{rules}
 use Rattle.chan_judge.proofs.packet_in.Goals as goal
 
 pub returns-then-v : goal.returns-then-v

@@ -1,7 +1,6 @@
 -- `chan_judge::packet_rule` meets its contract: the four runs, from the last to the first.
 use Rattle.spec_rules.specs.Broken.{lowest}
 use Rattle.chan_judge.specs.Form.Tests.{lowest_or, pin_tests, row_tests, col_tests, buffer_tests, packet_rule}
-use borrow.Author.Rules.{rules}
 use Rattle.chan_judge.proofs.packet_rule.Goals as goal
 
 pub returns : goal.returns

@@ -1,6 +1,5 @@
 -- `chan_judge::pin_rules` meets its contract: each rule's test, from the last to the first.
 use Rattle.chan_judge.specs.Form.Tests.{lowest_or, pin_tests}
-use borrow.Author.Rules.{rules}
 use Rattle.chan_judge.proofs.pin_rules.Goals as goal
 
 pub returns : goal.returns

@@ -1,6 +1,5 @@
 -- `chan_judge::row_rules` meets its contract: each rule's test, from the last to the first.
 use Rattle.chan_judge.specs.Form.Tests.{lowest_or, row_tests}
-use borrow.Author.Rules.{rules}
 use Rattle.chan_judge.proofs.row_rules.Goals as goal
 
 pub returns : goal.returns

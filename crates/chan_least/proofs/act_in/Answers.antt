@@ -1,5 +1,4 @@
 -- `chan_least::act_in` meets its contract: each way out decides the test.
-use borrow.Author.Rules.{rules}
 use Rattle.chan_least.proofs.act_in.Goals as goal
 
 pub returns-then-opens : goal.returns-then-opens

@@ -1,5 +1,4 @@
 -- `chan_least::centre_by` meets its contract: each way out decides the test.
-use borrow.Author.Rules.{rules}
 use Rattle.chan_least.proofs.centre_by.Goals as goal
 
 pub returns-then-v-h : goal.returns-then-v-h

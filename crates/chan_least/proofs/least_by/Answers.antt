@@ -1,7 +1,6 @@
 -- `chan_least::least_by` meets its contract: with what leaves, and where nothing does.
 use mathlib.Core.Path.{sym, ◌∙◌}
 use Rattle.chan_least.specs.Form.Least.{least_by}
-use borrow.Author.Rules.{rules}
 use Rattle.chan_least.proofs.least_by.Goals as goal
 
 pub returns-then-leaves_from : goal.returns-then-leaves_from

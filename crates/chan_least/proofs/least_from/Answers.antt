@@ -3,7 +3,6 @@ use mathlib.Core.Path.{◌≡◌, sym, ◌∙◌}
 use lib.ListN.{length}
 use Rattle.chan_view.proofs.PlaceLaws.{length-of-map}
 use Rattle.chan_least.proofs.LeastLaws.{least-packet, least-data}
-use borrow.Author.Rules.{rules}
 use Rattle.chan_least.proofs.least_from.Goals as goal
 
 pub returns-in_default : goal.returns-in_default

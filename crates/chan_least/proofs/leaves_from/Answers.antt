@@ -1,5 +1,4 @@
 -- `chan_least::leaves_from` meets its contract: the sum in 64 bits, and rules 12 and 17.
-use borrow.Author.Rules.{rules}
 use Rattle.chan_least.proofs.leaves_from.Goals as goal
 
 pub returns : goal.returns

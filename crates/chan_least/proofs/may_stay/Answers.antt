@@ -1,5 +1,4 @@
 -- `chan_least::may_stay` meets its contract: the two rules.
-use borrow.Author.Rules.{rules}
 use Rattle.chan_least.proofs.may_stay.Goals as goal
 
 pub returns : goal.returns

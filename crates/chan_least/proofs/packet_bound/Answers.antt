@@ -1,6 +1,5 @@
 -- `chan_least::packet_bound` meets its contract: each way out decides the command.
 use Rattle.chan_least.specs.Form.Least.{packet_bound}
-use borrow.Author.Rules.{rules}
 use Rattle.chan_least.proofs.packet_bound.Goals as goal
 
 pub returns-then-v : goal.returns-then-v

@@ -1,6 +1,5 @@
 -- `chan_least::retire_least` meets its contract: the two bounds.
 use Rattle.chan_least.specs.Form.Least.{retire_least}
-use borrow.Author.Rules.{rules}
 use Rattle.chan_least.proofs.retire_least.Goals as goal
 
 pub returns : goal.returns

@@ -2,7 +2,6 @@
 use mathlib.Core.Path.{◌≡◌}
 use lib.ListN.{length}
 use Rattle.chan_view.proofs.PlaceLaws.{length-of-map, around-is}
-use borrow.Author.Rules.{rules}
 use Rattle.chan_least.proofs.tracks_in.Goals as goal
 
 pub returns : goal.returns

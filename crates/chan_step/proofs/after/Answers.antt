@@ -12,7 +12,6 @@ use Rattle.chan_view.specs.Form.View.{centre_of}
 use Rattle.chan_view.proofs.PlaceLaws.{length-of-map}
 use Rattle.chan_view.proofs.ViewLaws.{seen-shows}
 use Rattle.chan_step.proofs.AfterLaws.{channel_of, packet-after, data-after}
-use borrow.Author.Rules.{rules}
 use Rattle.chan_step.proofs.after.Goals as goal
 
 pub returns-in_default : goal.returns-in_default

@@ -3,7 +3,6 @@ use mathlib.Core.Path.{◌≡◌, sym}
 use lib.ListN.{length}
 use Rattle.chan_view.proofs.PlaceLaws.{length-of-map}
 use Rattle.chan_step.proofs.AfterLaws.{implied-after}
-use borrow.Author.Rules.{rules}
 use Rattle.chan_step.proofs.after_implied.Goals as goal
 
 pub returns : goal.returns

@@ -2,7 +2,6 @@
 use mathlib.Core.Path.{◌≡◌}
 use lib.ListN.{length}
 use Rattle.chan_view.proofs.PlaceLaws.{length-of-map, slot_read}
-use borrow.Author.Rules.{rules}
 use Rattle.chan_step.proofs.bank_at.Goals as goal
 
 pub returns : goal.returns

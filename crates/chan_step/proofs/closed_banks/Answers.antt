@@ -4,7 +4,6 @@ use mathlib.Core.List.{List}
 use Rattle.spec_rules.specs.declared.BankTrack.{BankTrack}
 use Rattle.chan_view.specs.Form.Beside.{low_of, high_of}
 use Rattle.chan_step.specs.Form.Banks.{prer_track, side_track, changed}
-use borrow.Author.Rules.{rules}
 use Rattle.chan_step.proofs.closed_banks.Goals as goal
 
 pub returns : goal.returns

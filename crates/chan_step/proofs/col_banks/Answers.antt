@@ -1,6 +1,5 @@
 -- `chan_step::col_banks` meets its contract: by the command.
 use Rattle.chan_step.specs.Form.Banks.{changed, col_banks}
-use borrow.Author.Rules.{rules}
 use Rattle.chan_step.proofs.col_banks.Goals as goal
 
 pub returns-in-Nocop : goal.returns-in-Nocop

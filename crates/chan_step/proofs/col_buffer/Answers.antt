@@ -1,6 +1,5 @@
 -- `chan_step::col_buffer` meets its contract: by the command.
 use Rattle.chan_step.specs.Form.Lasts.{col_buffer}
-use borrow.Author.Rules.{rules}
 use Rattle.chan_step.proofs.col_buffer.Goals as goal
 
 pub returns-in-Nocop : goal.returns-in-Nocop

@@ -1,6 +1,5 @@
 -- `chan_step::col_lasts` meets its contract: by the command.
 use Rattle.spec_rules.specs.Packets.{col_traits}
-use borrow.Author.Rules.{rules}
 use Rattle.chan_step.proofs.col_lasts.Goals as goal
 
 pub returns-in-Nocop : goal.returns-in-Nocop

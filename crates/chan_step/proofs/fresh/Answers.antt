@@ -1,7 +1,6 @@
 -- `chan_step::fresh` meets its contract: every bank is idle.
 use Rattle.spec_rules.specs.Neighbour.{bank_count}
 use Rattle.spec_rules.specs.Channel.{fresh}
-use borrow.Author.Rules.{rules}
 use Rattle.chan_step.proofs.fresh.Goals as goal
 
 pub returns : goal.returns

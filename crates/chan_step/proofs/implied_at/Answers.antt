@@ -1,6 +1,5 @@
 -- `chan_step::implied_at` meets its contract: the sum.
 use mathlib.Core.Path.{refl}
-use borrow.Author.Rules.{rules}
 use Rattle.chan_step.proofs.implied_at.Goals as goal
 
 pub returns : goal.returns

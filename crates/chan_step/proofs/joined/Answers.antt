@@ -1,7 +1,6 @@
 -- `chan_step::joined` meets its contract: by the writes that wait.
 use Rattle.spec_rules.specs.Channel.{waiting_of, buffer_of}
 use Rattle.chan_step.specs.Form.Lasts.{joined_buffer}
-use borrow.Author.Rules.{rules}
 use Rattle.chan_step.proofs.joined.Goals as goal
 
 pub returns-in-Empty : goal.returns-in-Empty

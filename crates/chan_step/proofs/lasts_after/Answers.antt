@@ -1,6 +1,5 @@
 -- `chan_step::lasts_after` meets its contract: by the kind of the record.
 use Rattle.chan_step.specs.Form.Lasts.{lasts_next}
-use borrow.Author.Rules.{rules}
 use Rattle.chan_step.proofs.lasts_after.Goals as goal
 
 pub returns-in-RowAt : goal.returns-in-RowAt

@@ -3,7 +3,6 @@ use mathlib.Core.Path.{sym}
 use Rattle.spec_rules.specs.Channel.{waiting_of, buffer_of}
 use Rattle.chan_step.specs.Form.Lasts.{left_buffer}
 use Rattle.chan_step.proofs.AfterLaws.{buffer-same}
-use borrow.Author.Rules.{rules}
 use Rattle.chan_step.proofs.left.Goals as goal
 
 pub returns-in-Empty : goal.returns-in-Empty

@@ -5,7 +5,6 @@ use borrow.Author.Tests.{lt-ltb}
 use lib.ListN.{length}
 use lib.Seq.{set_out}
 use Rattle.chan_view.proofs.PlaceLaws.{length-of-map}
-use borrow.Author.Rules.{rules}
 use Rattle.chan_step.proofs.put_bank.Goals as goal
 
 pub returns-then-b-ge32 : goal.returns-then-b-ge32

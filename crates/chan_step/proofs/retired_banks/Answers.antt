@@ -1,6 +1,5 @@
 -- `chan_step::retired_banks` meets its contract: each way out decides the test.
 use Rattle.chan_step.specs.Form.Banks.{changed}
-use borrow.Author.Rules.{rules}
 use Rattle.chan_step.proofs.retired_banks.Goals as goal
 
 pub returns-then-leaves : goal.returns-then-leaves

@@ -1,6 +1,5 @@
 -- `chan_step::retires` meets its contract: by what the record is seen as.
 use Rattle.chan_step.specs.Form.Lasts.{retires_by}
-use borrow.Author.Rules.{rules}
 use Rattle.chan_step.proofs.retires.Goals as goal
 
 pub returns-in-Packet : goal.returns-in-Packet

@@ -1,6 +1,5 @@
 -- `chan_step::row_banks` meets its contract: by the command.
 use Rattle.chan_step.specs.Form.Banks.{changed, row_banks}
-use borrow.Author.Rules.{rules}
 use Rattle.chan_step.proofs.row_banks.Goals as goal
 
 pub returns-in-Act : goal.returns-in-Act

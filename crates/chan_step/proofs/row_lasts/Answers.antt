@@ -1,6 +1,5 @@
 -- `chan_step::row_lasts` meets its contract: by the command.
 use Rattle.spec_rules.specs.Packets.{row_traits}
-use borrow.Author.Rules.{rules}
 use Rattle.chan_step.proofs.row_lasts.Goals as goal
 
 pub returns-in-Act : goal.returns-in-Act

@@ -1,6 +1,5 @@
 -- `chan_step::side_banks` meets its contract: one bank changed.
 use Rattle.chan_step.specs.Form.Banks.{changed}
-use borrow.Author.Rules.{rules}
 use Rattle.chan_step.proofs.side_banks.Goals as goal
 
 pub returns : goal.returns

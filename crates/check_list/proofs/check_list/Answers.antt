@@ -13,7 +13,6 @@ use Rattle.spec_check.specs.Check.{list_answer, records_answer, rule_answer}
 use Rattle.check_walk.specs.Form.Walk.{stop_of}
 use Rattle.check_list.proofs.WalkLaws.{list-via, list-within, list-formed}
 use Rattle.check_list.proofs.StopLaws.{stop-passed, stop-refused, list-bad, list-good}
-use borrow.Author.Rules.{rules}
 use Rattle.check_list.proofs.check_list.Goals as goal
 
 pub returns-then-list-ne0 : goal.returns-then-list-ne0

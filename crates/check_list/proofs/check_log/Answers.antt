@@ -7,7 +7,6 @@ use Rattle.log_block.proofs.CountLaws.{Records}
 use Rattle.log_list.proofs.BadLaws.{bad-of-all}
 use Rattle.spec_check.specs.Check.{log_answer, records_answer, rule_answer}
 use Rattle.check_list.proofs.WalkLaws.{log-via, log-within, log-formed, log-few}
-use borrow.Author.Rules.{rules}
 use Rattle.check_list.proofs.check_log.Goals as goal
 
 -- document 01's form

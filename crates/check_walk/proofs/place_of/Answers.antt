@@ -2,7 +2,6 @@
 use native.Mathlib.Omega.{arith}
 use mathlib.Core.Path.{◌≡◌}
 use Rattle.check_walk.specs.Form.Walk.{place_in}
-use borrow.Author.Rules.{rules}
 use Rattle.check_walk.proofs.place_of.Goals as goal
 
 pub returns-then-per-eq0 : goal.returns-then-per-eq0

@@ -1,11 +1,8 @@
 -- `walk` meets its contract: the state is that after the records passed, each of which is one and breaks no rule.
-use Prim.Native.Nat.{ℕ, ◌-◌, ◌<◌, ◌≤◌}
+use Prim.Native.Nat.{◌-◌}
 use mathlib.Core.Path.{◌≡◌, refl, sym, ◌∙◌, ap}
-use mathlib.Core.Bool.{true}
-use mathlib.Core.Logic.{⊎_elim}
 use native.Mathlib.Omega.{arith}
 use borrow.Author.Count.{below_more}
-use borrow.Author.Tests.{not-false}
 use lib.ListN.{length, replicate}
 use Rattle.spec_rules.specs.declared.Channel.{Channel}
 use Rattle.spec_rules.specs.Neighbour.{bank_count, context_of}
@@ -14,13 +11,11 @@ use Rattle.spec_rules.specs.Checks.{judged, channel_after}
 use Rattle.check_walk.specs.declared.Fields.{Fields}
 use Rattle.check_walk.specs.declared.Latest.{Latest}
 use Rattle.check_walk.specs.Form.Turn.{channel_of}
-use Rattle.check_walk.specs.Form.Walk.{records_via}
-use Rattle.check_walk.proofs.StopLaws.{holds, stop-end, stop-bad, stop-broken}
-use Rattle.check_walk.proofs.StoreLaws.{Within, Opened, within_none, opened-fresh, opened-same}
+use Rattle.check_walk.proofs.StopLaws.{stop-end, stop-bad, stop-broken}
+use Rattle.check_walk.proofs.StoreLaws.{within_none, opened-fresh, opened-same}
 use Rattle.check_walk.proofs.TurnLaws.{Turn, Implied, Stored, formed-here, bank-here, found_here, after-here, holds-here, unformed, quick-here, quick-plain, slow-here, plain_here, open-here, close-here, read_here, left_here, none_here, banks-here, length-here, opened-here, within-here, state-here}
 use Rattle.check_walk.proofs.ImpliedLaws.{implied-fits}
 use Rattle.check_walk.proofs.ShortLaws.{Before, read-turn, data-turn}
-use borrow.Author.Rules.{rules}
 use Rattle.check_walk.proofs.walk.Goals as goal
 use Rattle.check_walk.proofs.walk.Goals.{then-not-passes+else-rule-ne0, else-not-passes, then-v, else-v+then-v-2, else-v+else-v-2+then-v-3, else-v+else-v-2+else-v-3+then-v-4, else-v+else-v-2+else-v-3+else-v-4}
 
@@ -289,7 +284,7 @@ loop-i-preserved c =
     let test = c.passes.ensures in
     let zero : judged (context_of a.s) ch r ≡ 0 =
     elim c.if-not-passes.branch [
-      then-not-passes+else-rule-ne0 o ↦ sym (o.judge-rule.ensures ∙ ap (λ (n : Channel). judged (context_of a.s) n r) o.channel_of.ensures) ∙ o.if-rule-ne0.false
+      | then-not-passes+else-rule-ne0 o ↦ sym (o.judge-rule.ensures ∙ ap (λ (n : Channel). judged (context_of a.s) n r) o.channel_of.ensures) ∙ o.if-rule-ne0.false
       | else-not-passes o ↦ quick-here t _ _ tracks test o.if-not-passes.false
     ]
     in
@@ -297,7 +292,7 @@ loop-i-preserved c =
     let p = c.if-not-passes.l in
     let implied : Implied t m p =
     elim c.if-not-passes.branch [
-      then-not-passes+else-rule-ne0 o ↦ slow-here t m p (o.banks-is ∙ o.banks_implied-banks.ensures) (o.l-is ∙ o.lasts_implied-l.ensures)
+      | then-not-passes+else-rule-ne0 o ↦ slow-here t m p (o.banks-is ∙ o.banks_implied-banks.ensures) (o.l-is ∙ o.lasts_implied-l.ensures)
       | else-not-passes o ↦ plain_here t m p (quick-plain t _ _ tracks test o.if-not-passes.false) o.banks-is o.l-is
     ]
     in
@@ -306,7 +301,7 @@ loop-i-preserved c =
     let newest = c.if-v.latest.opened in
     let stored : Stored t m p implied n q newest =
     elim c.if-v.branch [
-      then-v o ↦ open-here t m p implied n q newest _ o.if-v.true o.opened_track.ensures o.banks-is o.buffer-is (opened-by o.latest-is ∙ o.larger.ensures)
+      | then-v o ↦ open-here t m p implied n q newest _ o.if-v.true o.opened_track.ensures o.banks-is o.buffer-is (opened-by o.latest-is ∙ o.larger.ensures)
       | else-v+then-v-2 o ↦ close-here t m p implied n q newest _ _ _ o.if-v.false o.if-v-2.true o.closed_track.ensures o.side_track.ensures o.side_track-then-v-2.ensures o.banks-is o.buffer-is (opened-by o.latest-is)
       | else-v+else-v-2+then-v-3 o ↦ read_here t m p implied n q newest o.if-v.false o.if-v-2.false o.if-v-3.true o.banks-is o.buffer-is (opened-by o.latest-is)
       | else-v+else-v-2+else-v-3+then-v-4 o ↦ left_here t m p implied n q newest _ _ _ o.if-v.false o.if-v-2.false o.if-v-3.false o.if-v-4.true o.leaving.ensures o.pick.ensures o.buffer_next-buffer.ensures o.banks-is o.buffer-is (opened-by o.latest-is)

@@ -1,26 +1,14 @@
 -- `walk` meets its contract: the state is that after the records passed, each of which is one and breaks no rule.
 use Prim.Native.Nat.{ℕ, ◌-◌, ◌<◌, ◌≤◌}
-use mathlib.Core.Path.{◌≡◌, refl, sym, ◌∙◌, ap}
+use mathlib.Core.Path.{◌≡◌}
 use mathlib.Core.Bool.{true}
-use mathlib.Core.Logic.{⊎_elim}
-use native.Mathlib.Omega.{arith}
-use borrow.Author.Count.{below_more}
-use borrow.Author.Tests.{not-false}
-use lib.ListN.{length, replicate}
-use Rattle.spec_rules.specs.declared.Channel.{Channel}
-use Rattle.spec_rules.specs.Neighbour.{bank_count, context_of}
-use Rattle.spec_rules.specs.Channel.{idle, fresh}
-use Rattle.spec_rules.specs.Checks.{judged, channel_after}
-use Rattle.check_walk.specs.declared.Fields.{Fields}
-use Rattle.check_walk.specs.declared.Latest.{Latest}
+use lib.ListN.{length}
+use Rattle.spec_rules.specs.Neighbour.{context_of}
+use Rattle.spec_rules.specs.Checks.{channel_after}
 use Rattle.check_walk.specs.Form.Turn.{channel_of}
 use Rattle.check_walk.specs.Form.Walk.{records_via}
-use Rattle.check_walk.proofs.StopLaws.{holds, stop-end, stop-bad, stop-broken}
-use Rattle.check_walk.proofs.StoreLaws.{Within, Opened, within_none, opened-fresh, opened-same}
-use Rattle.check_walk.proofs.TurnLaws.{Turn, Implied, Stored, formed-here, bank-here, found_here, after-here, holds-here, unformed, quick-here, quick-plain, slow-here, plain_here, open-here, close-here, read_here, left_here, none_here, banks-here, length-here, opened-here, within-here, state-here}
-use Rattle.check_walk.proofs.ImpliedLaws.{implied-fits}
-use Rattle.check_walk.proofs.ShortLaws.{Before, read-turn, data-turn}
-use borrow.Author.Rules.{rules}
+use Rattle.check_walk.proofs.StopLaws.{holds}
+use Rattle.check_walk.proofs.StoreLaws.{Within, Opened}
 use Rattle.check_walk.proofs.walk.Given as goal
 
 abbrev pub invariant-loop-i : goal.invariant-loop-i

@@ -5,7 +5,6 @@ use lib.ListN.{take}
 use lib.Seq.{length-take-le}
 use Rattle.listing.specs.Listing.{listing}
 use Rattle.listing_text.proofs.TextLaws.{put-fits}
-use borrow.Author.Rules.{rules}
 use Rattle.listing.proofs.print_listing.Goals as goal
 
 pub slice_bounds-put_listing-end : goal.slice_bounds-put_listing-end

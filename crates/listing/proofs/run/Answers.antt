@@ -2,7 +2,6 @@
 use native.Mathlib.Omega.{arith}
 use lib.ListN.{length, take}
 use Rattle.listing.proofs.ListingLaws.{listed-first}
-use borrow.Author.Rules.{rules}
 use Rattle.listing.proofs.run.Goals as goal
 
 pub returns : goal.returns

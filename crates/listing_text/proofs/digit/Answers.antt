@@ -3,7 +3,6 @@ use Prim.Native.Nat.{◌≤◌}
 use borrow.Author.Tests.{lt-ltb, le-ltb}
 use native.Mathlib.Omega.{arith}
 use Rattle.listing_text.specs.Text.{digit}
-use borrow.Author.Rules.{rules}
 use Rattle.listing_text.proofs.digit.Goals as goal
 
 pub returns-then-d-lt10 : goal.returns-then-d-lt10

@@ -5,7 +5,6 @@ use native.Mathlib.Omega.{arith}
 use lib.ListN.{length-append, length-set}
 use Rattle.listing_text.specs.Text.{decimal, line_end}
 use Rattle.listing_text.proofs.TextLaws.{put_then, put-more, decimal-length}
-use borrow.Author.Rules.{rules}
 use Rattle.listing_text.proofs.put_count.Goals as goal
 
 pub put_decimal-end-requires : goal.put_decimal-end-requires

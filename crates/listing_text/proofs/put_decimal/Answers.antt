@@ -6,7 +6,6 @@ use lib.ListN.{length}
 use Rattle.num.specs.Bytes.{splice}
 use Rattle.listing_text.specs.Text.{decimal}
 use Rattle.listing_text.proofs.TextLaws.{spelt}
-use borrow.Author.Rules.{rules}
 use Rattle.listing_text.proofs.put_decimal.Goals as goal
 
 pub put_bytes-requires : goal.put_bytes-requires

@@ -5,7 +5,6 @@ use native.Mathlib.Omega.{arith}
 use lib.ListN.{length-set}
 use Rattle.listing_text.specs.Text.{digit, hex_four}
 use Rattle.listing_text.proofs.TextLaws.{four_bytes}
-use borrow.Author.Rules.{rules}
 use Rattle.listing_text.proofs.put_hex.Goals as goal
 
 pub bounds-out-at-2 : goal.bounds-out-at-2

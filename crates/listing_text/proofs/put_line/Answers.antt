@@ -2,7 +2,6 @@
 use native.Mathlib.Omega.{arith}
 use Rattle.listing_text.specs.Text.{mask_text}
 use Rattle.listing_text.proofs.TextLaws.{length-word, line-put}
-use borrow.Author.Rules.{rules}
 use Rattle.listing_text.proofs.put_line.Goals as goal
 
 pub put_number-c-requires : goal.put_number-c-requires

@@ -6,7 +6,6 @@ use lib.ListN.{length-set}
 use Rattle.num.proofs.SpliceLaws.{splice-two}
 use Rattle.listing_text.specs.Text.{codes, dash, hex_four, mask_text, line_end}
 use Rattle.listing_text.proofs.TextLaws.{put-more, length-hex}
-use borrow.Author.Rules.{rules}
 use Rattle.listing_text.proofs.put_mask.Goals as goal
 
 pub bounds-out-at-then-mask-eq-FULL : goal.bounds-out-at-then-mask-eq-FULL

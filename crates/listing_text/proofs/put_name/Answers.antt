@@ -3,7 +3,6 @@ use native.Mathlib.Omega.{arith}
 use mathlib.Core.Path.{refl}
 use Rattle.listing_text.specs.Text.{space}
 use Rattle.listing_text.proofs.TextLaws.{put-more}
-use borrow.Author.Rules.{rules}
 use Rattle.listing_text.proofs.put_name.Goals as goal
 
 pub returns : goal.returns

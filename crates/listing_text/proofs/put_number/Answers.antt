@@ -2,7 +2,6 @@
 use native.Mathlib.Omega.{arith}
 use Rattle.listing_text.specs.Text.{decimal, space}
 use Rattle.listing_text.proofs.TextLaws.{decimal-of-32, put-more}
-use borrow.Author.Rules.{rules}
 use Rattle.listing_text.proofs.put_number.Goals as goal
 
 pub put_decimal-end-requires : goal.put_decimal-end-requires

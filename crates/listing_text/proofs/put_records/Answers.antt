@@ -1,6 +1,5 @@
 -- `put_records` meets its contract: a word with its count.
 use Rattle.listing_text.specs.Text.{codes, records_line}
-use borrow.Author.Rules.{rules}
 use Rattle.listing_text.proofs.put_records.Goals as goal
 
 pub returns : goal.returns

@@ -1,6 +1,5 @@
 -- `put_refused` meets its contract: a word with its count.
 use Rattle.listing_text.specs.Text.{codes, refused_line}
-use borrow.Author.Rules.{rules}
 use Rattle.listing_text.proofs.put_refused.Goals as goal
 
 pub returns : goal.returns

@@ -1,8 +1,7 @@
 -- `log_block::all_zero` meets its contract: the bytes before index i are zero in every turn.
-use Rattle.std.proofs.Common.{◌≡◌, ℕ, ◌+◌, ◌-◌, ◌≤◌, Bool, true, eqb, List, get_or, sym, refl, arith, rules, eq-eqb, ne_eqb}
+use Rattle.std.proofs.Common.{◌≡◌, ℕ, ◌+◌, ◌-◌, Bool, eqb, List, get_or, sym, refl, arith, rules, eq-eqb, ne_eqb}
 use Rattle.num.specs.Search.{all_up_to}
 use Rattle.num.proofs.SearchLaws.{all-turn, all-false}
-use Rattle.log_block.specs.Block.{all_zero}
 use Rattle.log_block.proofs.all_zero.Goals as goal
 
 -- the test at an index

@@ -1,5 +1,5 @@
 -- `log_block::block_right` meets its contract: each way out decides one of the four tests.
-use Rattle.std.proofs.Common.{◌≡◌, true, sym, ◌∙◌, rules}
+use Rattle.std.proofs.Common.{sym, ◌∙◌, rules}
 use Rattle.log_block.specs.Block.{block_right}
 use Rattle.log_block.proofs.OneBlock.{count-says}
 use Rattle.log_block.proofs.block_right.Goals as goal

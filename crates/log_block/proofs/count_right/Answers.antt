@@ -1,5 +1,5 @@
 -- `log_block::count_right` meets its contract: each way out decides one of the tests of the count.
-use Rattle.std.proofs.Common.{arith, rules, le-leb}
+use Rattle.std.proofs.Common.{arith, le-leb}
 use borrow.Author.Tests.{lt-leb}
 use Rattle.log_block.specs.Block.{used}
 use Rattle.log_block.proofs.count_right.Goals as goal

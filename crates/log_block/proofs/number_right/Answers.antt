@@ -1,5 +1,4 @@
 -- `log_block::number_right` meets its contract: one comparison.
-use Rattle.std.proofs.Common.{rules}
 use Rattle.log_block.proofs.number_right.Goals as goal
 
 pub returns : goal.returns

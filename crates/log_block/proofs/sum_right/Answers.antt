@@ -1,5 +1,4 @@
 -- `log_block::sum_right` meets its contract: one comparison.
-use Rattle.std.proofs.Common.{rules}
 use Rattle.log_block.proofs.sum_right.Goals as goal
 
 pub returns : goal.returns

@@ -1,5 +1,5 @@
 -- `log_block::zeros_right` meets its contract: the unused records are tested where the zeros are right.
-use Rattle.std.proofs.Common.{◌≡◌, true, false, sym, ◌∙◌, rules}
+use Rattle.std.proofs.Common.{◌≡◌, true, false, sym, ◌∙◌}
 use Rattle.log_block.specs.Block.{all_zero}
 use Rattle.log_block.proofs.zeros_right.Goals as goal
 

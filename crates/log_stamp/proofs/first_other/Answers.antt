@@ -1,11 +1,10 @@
 -- `first_other` meets its contract: the stamps of the blocks before block k are that of block 0 in every turn.
 use mathlib.Core.List.{List}
-use mathlib.Core.Path.{◌≡◌, refl, sym, ◌∙◌}
-use mathlib.Core.Bool.{Bool, true}
-use Prim.Native.Nat.{ℕ, ◌-◌, ◌<◌, ◌≤◌}
+use mathlib.Core.Path.{◌≡◌, sym, ◌∙◌}
+use mathlib.Core.Bool.{Bool}
+use Prim.Native.Nat.{ℕ, ◌-◌}
 use native.Mathlib.Omega.{arith}
 use borrow.Author.Count.{below_more}
-use borrow.Author.Tests.{not-true, not-false}
 use Rattle.num.proofs.SearchLaws.{first-at, first-none}
 use Rattle.log_block.specs.Block.{blocks_in}
 use Rattle.log_stamp.specs.Stamp.{stamp_at, same_stamp}

@@ -6,7 +6,6 @@ use Prim.Native.Nat.{ℕ}
 use Rattle.num.proofs.SearchLaws.{first-none}
 use Rattle.log_block.specs.Block.{blocks_in}
 use Rattle.log_stamp.specs.Stamp.{stamp_at, same_stamp}
-use borrow.Author.Rules.{rules}
 use Rattle.log_stamp.proofs.first_unlike.Goals as goal
 
 abbrev same_at : List ℕ → ℕ → Bool

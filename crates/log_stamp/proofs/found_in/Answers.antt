@@ -1,13 +1,12 @@
 -- `found_in` meets its contract: the blocks before block k are right in every turn, the first bad record of theirs is known, and where
 -- their stamps were the same so far they are.
-use Prim.Native.Nat.{ℕ, ◌+◌, ◌-◌, ◌<◌, ◌≤◌}
+use Prim.Native.Nat.{ℕ, ◌+◌, ◌-◌, ◌≤◌}
 use mathlib.Core.List.{List}
 use mathlib.Core.Path.{◌≡◌, refl, sym, ◌∙◌}
-use mathlib.Core.Bool.{Bool, true}
+use mathlib.Core.Bool.{Bool}
 use native.Mathlib.Omega.{arith}
 use lib.Dec.{eqb}
 use borrow.Author.Count.{below_more}
-use borrow.Author.Tests.{not-true, not-false}
 use Rattle.num.specs.Search.{first_false}
 use Rattle.num.proofs.SearchLaws.{first-at, first-none}
 use Rattle.settings.proofs.SettingsLaws.{both_true}

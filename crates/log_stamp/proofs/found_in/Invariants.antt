@@ -1,23 +1,13 @@
 -- `found_in` meets its contract: the blocks before block k are right in every turn, the first bad record of theirs is known, and where
 -- their stamps were the same so far they are.
-use Prim.Native.Nat.{ℕ, ◌+◌, ◌-◌, ◌<◌, ◌≤◌}
+use Prim.Native.Nat.{ℕ, ◌-◌, ◌<◌, ◌≤◌}
 use mathlib.Core.List.{List}
-use mathlib.Core.Path.{◌≡◌, refl, sym, ◌∙◌}
+use mathlib.Core.Path.{◌≡◌}
 use mathlib.Core.Bool.{Bool, true}
-use native.Mathlib.Omega.{arith}
-use lib.Dec.{eqb}
-use borrow.Author.Count.{below_more}
-use borrow.Author.Tests.{not-true, not-false}
-use Rattle.num.specs.Search.{first_false}
-use Rattle.num.proofs.SearchLaws.{first-at, first-none}
-use Rattle.settings.proofs.SettingsLaws.{both_true}
 use Rattle.record.specs.Record.{first_bad}
-use Rattle.log_block.specs.Block.{blocks_in, block_at, first_bad_block, list_up_to}
+use Rattle.log_block.specs.Block.{list_up_to}
 use Rattle.log_block.proofs.BlockLaws.{right_at}
-use Rattle.log_block.proofs.OneBlock.{right_of}
-use Rattle.log_list.proofs.BadLaws.{bad-next}
 use Rattle.log_stamp.specs.Stamp.{stamp_at, same_stamp}
-use borrow.Author.Rules.{rules}
 use Rattle.log_stamp.proofs.found_in.Given as goal
 
 -- whether block k has the stamp of block 0

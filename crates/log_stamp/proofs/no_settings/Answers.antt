@@ -1,7 +1,6 @@
 -- `no_settings` meets its contract: sixteen numbers that are not there are 0.
 use mathlib.Core.Path.{refl}
 use Rattle.num.specs.Bytes.{number}
-use borrow.Author.Rules.{rules}
 use Rattle.log_stamp.proofs.no_settings.Goals as goal
 
 pub returns : goal.returns

@@ -3,7 +3,6 @@ use Prim.Native.Nat.{◌+◌, ◌-◌, ◌*◌}
 use mathlib.Core.Path.{◌≡◌}
 use native.Mathlib.Omega.{arith}
 use Rattle.log_stamp.proofs.StampLaws.{stamp-bytes}
-use borrow.Author.Rules.{rules}
 use Rattle.log_stamp.proofs.same_at.Goals as goal
 
 pub returns : goal.returns

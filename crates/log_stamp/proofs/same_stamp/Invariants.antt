@@ -1,12 +1,9 @@
 -- `same_stamp` meets its contract: the bytes before index i are compared in every turn.
 use mathlib.Core.Path.{◌≡◌}
 use Prim.Native.Nat.{◌-◌, ◌≤◌}
-use native.Mathlib.Omega.{arith}
 use lib.Dec.{eqb}
 use lib.ListN.{get_or}
 use Rattle.num.specs.Search.{all_up_to}
-use Rattle.num.proofs.SearchLaws.{all-next}
-use borrow.Author.Rules.{rules}
 use Rattle.log_stamp.proofs.same_stamp.Given as goal
 
 abbrev pub invariant-loop-i : goal.invariant-loop-i

@@ -1,11 +1,9 @@
 -- `settings_of` meets its contract: the part of the log that is lent is the stamp of block 0.
-use mathlib.Core.Path.{◌≡◌, ◌∙◌, sym, ap}
+use mathlib.Core.Path.{◌∙◌, sym, ap}
 use borrow.Author.Tests.{eq-eqb, ne_eqb}
 use Rattle.settings.specs.declared.SettingsRead.TheVariants.{Accepted}
 use Rattle.settings.specs.Settings.{settings_read}
-use Rattle.log_block.specs.Block.{blocks_in}
 use Rattle.log_stamp.proofs.StampLaws.{none-there, stamp-bytes}
-use borrow.Author.Rules.{rules}
 use Rattle.log_stamp.proofs.settings_of.Goals as goal
 
 pub returns-then-log-eq0 : goal.returns-then-log-eq0

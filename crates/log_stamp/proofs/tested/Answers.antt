@@ -1,7 +1,6 @@
 -- `tested` meets its contract: block 0 says no settings, and 12 or 17 is answered, or the log is tested under them.
-use mathlib.Core.Path.{◌≡◌, ◌∙◌, sym}
+use mathlib.Core.Path.{◌∙◌, sym}
 use Rattle.log_stamp.proofs.StampLaws.{said-range, said-is, none-answer}
-use borrow.Author.Rules.{rules}
 use Rattle.log_stamp.proofs.tested.Goals as goal
 
 pub tested_under-requires : goal.tested_under-requires

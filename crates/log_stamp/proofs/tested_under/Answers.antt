@@ -1,15 +1,13 @@
 -- `tested_under` meets its contract: the tests are the definition's, in their order.
-use mathlib.Core.Path.{◌≡◌, ◌∙◌, sym, ap}
+use mathlib.Core.Path.{◌∙◌, sym, ap}
 use native.Mathlib.Omega.{arith}
 use borrow.Author.Tests.{eq-eqb, ne_eqb}
 use Rattle.settings.specs.declared.Settings.{Settings}
 use Rattle.record.specs.Record.{first_bad}
 use Rattle.log_block.specs.Block.{list_of}
-use Rattle.log_block.proofs.CountLaws.{Records}
 use Rattle.log_list.proofs.BadLaws.{bad-of-all}
 use Rattle.log_stamp.specs.declared.Judgement.TheVariants.{Right}
 use Rattle.log_stamp.proofs.StampLaws.{fourteen, others-are}
-use borrow.Author.Rules.{rules}
 use Rattle.log_stamp.proofs.tested_under.Goals as goal
 
 pub returns-then-found-n : goal.returns-then-found-n

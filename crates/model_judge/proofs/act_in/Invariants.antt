@@ -1,14 +1,9 @@
 -- `model_judge::act_in` meets its contract: asked is what the banks below x ask, in every turn.
 use Prim.Native.Nat.{◌-◌, ◌≤◌}
-use mathlib.Core.Path.{◌≡◌, refl, ◌∙◌}
-use native.Mathlib.Omega.{arith}
+use mathlib.Core.Path.{◌≡◌}
 use Rattle.spec_rules.specs.Checks.{max_up_to}
 use Rattle.spec_state.specs.ChannelBytes.{channel_in}
-use Rattle.state_bytes.proofs.RangeLaws.{bank-in-range}
-use Rattle.chan_judge.specs.Form.Tests.{act_term, act_over}
-use Rattle.chan_judge.proofs.ActLaws.{acts-next}
-use Rattle.model_judge.proofs.ReadLaws.{opened-read}
-use borrow.Author.Rules.{rules}
+use Rattle.chan_judge.specs.Form.Tests.{act_term}
 use Rattle.model_judge.proofs.act_in.Given as goal
 
 abbrev pub invariant-loop-x : goal.invariant-loop-x

@@ -1,6 +1,5 @@
 -- `model_judge::held_at` meets its contract: the buffer and whether data are due are those of the state.
 use Rattle.spec_state.specs.ChannelBytes.{channel_in}
-use borrow.Author.Rules.{rules}
 use Rattle.model_judge.proofs.held_at.Goals as goal
 
 pub returns : goal.returns

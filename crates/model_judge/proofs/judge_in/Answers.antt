@@ -1,16 +1,12 @@
 -- `model_judge::judge_in` meets its contract: by what the record is seen as.
-use Prim.Native.Nat.{◌≤◌}
 use mathlib.Core.Path.{sym, ◌∙◌}
 use native.Mathlib.Omega.{arith}
-use lib.ListN.{length}
 use Rattle.spec_rules.specs.Neighbour.{context_of}
 use Rattle.spec_state.specs.ChannelBytes.{channel_in}
 use Rattle.spec_model.specs.ModelBytes.{model_in}
-use Rattle.state_bytes.specs.Form.Stored.{InRange}
 use Rattle.state_bytes.proofs.RangeLaws.{model-in-range}
 use Rattle.chan_judge.proofs.JudgeLaws.{judged-packet, judged-data}
 use Rattle.model_judge.proofs.ReadLaws.{banks-count, right-length}
-use borrow.Author.Rules.{rules}
 use Rattle.model_judge.proofs.judge_in.Goals as goal
 
 pub returns-in-Packet : goal.returns-in-Packet

@@ -3,7 +3,6 @@ use mathlib.Core.Path.{◌∙◌}
 use Rattle.spec_state.specs.ChannelBytes.{channel_in}
 use Rattle.chan_judge.proofs.JudgeLaws.{rule-read, rule-unopened}
 use Rattle.model_judge.proofs.ReadLaws.{banks-count, lasts-read, state-enough}
-use borrow.Author.Rules.{rules}
 use Rattle.model_judge.proofs.packet_in.Goals as goal
 
 pub returns-then-v : goal.returns-then-v

@@ -1,5 +1,4 @@
 -- `model_judge::state_alone` meets its contract.
-use borrow.Author.Rules.{rules}
 use Rattle.model_judge.proofs.state_alone.Goals as goal
 
 pub returns : goal.returns

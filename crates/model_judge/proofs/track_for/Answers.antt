@@ -1,7 +1,6 @@
 -- `model_judge::track_for` meets its contract: the track read is that of the state.
 use mathlib.Core.Path.{◌∙◌}
 use Rattle.model_judge.proofs.ReadLaws.{track-read}
-use borrow.Author.Rules.{rules}
 use Rattle.model_judge.proofs.track_for.Goals as goal
 
 pub returns : goal.returns

@@ -8,7 +8,6 @@ use Rattle.model_next.proofs.FitLaws.{fits_more}
 use Rattle.model_next.proofs.TakenLaws.{row-late, col-late}
 use Rattle.model_next.proofs.RightLaws.{right-length, refr-in, bank-in}
 use Rattle.model_next.proofs.ModelLaws.{row_next_lem, col-next, data-next}
-use borrow.Author.Rules.{rules}
 use Rattle.model_next.proofs.put_next.Goals as goal
 
 pub overflow_sub-wide32 : goal.overflow_sub-wide32

@@ -1,6 +1,5 @@
 -- `model_step::is_taken` meets its contract: by the answer.
 use Rattle.spec_model.specs.Step.{is_taken}
-use borrow.Author.Rules.{rules}
 use Rattle.model_step.proofs.is_taken.Goals as goal
 
 pub returns-in-Refused : goal.returns-in-Refused

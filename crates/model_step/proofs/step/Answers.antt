@@ -16,7 +16,6 @@ use Rattle.spec_model.specs.ModelBytes.{model_bytes, model_in}
 use Rattle.spec_model.specs.Step.{step_answer, step_model, step_store, step_room, is_taken}
 use Rattle.spec_model.proofs.ModelRoundTrip.{model-encode-decode}
 use Rattle.model_step.proofs.CallLaws.{wrong-store, wrong-length, wrong_word, kept-model, kept_store, kept-room, known-answer, known-model, known_store, known-room}
-use borrow.Author.Rules.{rules}
 use Rattle.model_step.proofs.step.Goals as goal
 
 pub returns-then-store-store_length : goal.returns-then-store-store_length

@@ -1,5 +1,4 @@
 -- `model_step::take_in` meets its contract: the rule, then what the record asks of the store, then the next state.
-use Prim.Native.Nat.{◌≤◌}
 use mathlib.Core.Bool.{true, false}
 use mathlib.Core.Path.{◌≡◌, refl, sym, ap, ◌∙◌}
 use native.Mathlib.Omega.{arith}
@@ -13,14 +12,12 @@ use Rattle.spec_model.specs.declared.Stepped.TheVariants.{Refused}
 use Rattle.spec_model.specs.ModelBytes.{model_bytes, model_in}
 use Rattle.spec_model.specs.Step.{record_answer, is_taken}
 use Rattle.spec_model.proofs.ModelRoundTrip.{model-encode-decode}
-use Rattle.state_bytes.specs.Form.Stored.{InRange}
 use Rattle.state_bytes.proofs.RangeLaws.{model-in-range}
 use Rattle.model_store.specs.Form.Touch.{touch_store, touch_bytes}
 use Rattle.model_judge.proofs.ReadLaws.{right-length}
 use Rattle.model_step.specs.Form.Take.{take_store, take_room}
 use Rattle.model_step.proofs.TouchLaws.{Asks, asks}
 use Rattle.model_step.proofs.TakeLaws.{broken, passed, left-model, left-store, left-room, taken-model, took-store, took-room}
-use borrow.Author.Rules.{rules}
 use Rattle.model_step.proofs.take_in.Goals as goal
 
 pub returns-then-rule-ne0 : goal.returns-then-rule-ne0

@@ -3,7 +3,6 @@ use mathlib.Core.Path.{sym, ◌∙◌}
 use Rattle.spec_state.specs.ChannelBytes.{channel_in}
 use Rattle.model_judge.proofs.ReadLaws.{buffer-read}
 use Rattle.model_step.proofs.TouchLaws.{touch-packet, touch-data}
-use borrow.Author.Rules.{rules}
 use Rattle.model_step.proofs.touch_in.Goals as goal
 
 pub returns-in-Packet : goal.returns-in-Packet

@@ -7,10 +7,8 @@ use Rattle.num.proofs.SpliceLaws.{splice-none}
 use Rattle.record.specs.declared.Place.{Place}
 use Rattle.spec_rules.specs.Neighbour.{context_of}
 use Rattle.spec_model.specs.Store.{store_length}
-use Rattle.model_store.specs.declared.Touch.TheVariants.{Reads, Retires}
 use Rattle.model_store.specs.Form.Touch.{PlaceIn, TouchIn, place_at, touch_answer, touch_store, touch_bytes}
 use Rattle.model_store.proofs.PlaceLaws.{place_in}
-use borrow.Author.Rules.{rules}
 use Rattle.model_store.proofs.access.Goals as goal
 
 pub number_of-requires : goal.number_of-requires

@@ -7,7 +7,6 @@ use Rattle.spec_rules.specs.Neighbour.{context_of}
 use Rattle.spec_model.specs.Store.{dualoct_at}
 use Rattle.model_store.specs.Form.Touch.{PlaceIn}
 use Rattle.model_store.proofs.PlaceLaws.{store-most, place_in}
-use borrow.Author.Rules.{rules}
 use Rattle.model_store.proofs.number_of.Goals as goal
 
 pub overflow_mul-row : goal.overflow_mul-row

@@ -1,5 +1,5 @@
 -- `model_store::put_masked` meets its contract: after i turns the first i bytes are written where their bits are 1.
-use Prim.Native.Nat.{◌≤◌, ◌-◌, ◌*◌, ◌/◌, ◌^◌}
+use Prim.Native.Nat.{◌-◌, ◌*◌}
 use mathlib.Core.Path.{◌≡◌, refl, sym, ap, ◌∙◌}
 use native.Mathlib.Nat.{div-one}
 use native.Mathlib.Omega.{arith}
@@ -28,7 +28,7 @@ loop-left-preserved c =
       search rules,
       bits-next a.mask (16 - k.left) _ k.bits (omega arith) k.invariant.1,
       elim c.if-bits-eq1.branch [
-        then-bits-eq1 w ↦ w.store-is ∙ bit-set a.store.now (16 * a.k) a.mask a.new.now (16 - k.left) _ k.bits (omega arith) k.invariant.1 w.if-bits-eq1.true k.invariant.2
+        | then-bits-eq1 w ↦ w.store-is ∙ bit-set a.store.now (16 * a.k) a.mask a.new.now (16 - k.left) _ k.bits (omega arith) k.invariant.1 w.if-bits-eq1.true k.invariant.2
         | else-bits-eq1 w ↦ w.store-is ∙ bit-clear a.store.now (16 * a.k) a.mask a.new.now (16 - k.left) _ k.bits (omega arith) k.invariant.1 w.if-bits-eq1.false k.invariant.2
       ],
     )

@@ -1,13 +1,7 @@
 -- `model_store::put_masked` meets its contract: after i turns the first i bytes are written where their bits are 1.
-use Prim.Native.Nat.{◌≤◌, ◌-◌, ◌*◌, ◌/◌, ◌^◌}
-use mathlib.Core.Logic.{⊎_elim}
-use mathlib.Core.Path.{◌≡◌, refl, sym, ap, ◌∙◌}
-use native.Mathlib.Nat.{div-one}
-use native.Mathlib.Omega.{arith}
-use lib.ListN.{length}
+use Prim.Native.Nat.{◌≤◌, ◌-◌, ◌/◌, ◌^◌}
+use mathlib.Core.Path.{◌≡◌}
 use Rattle.model_store.specs.Form.Touch.{masked_up_to}
-use Rattle.model_store.proofs.MaskLaws.{length-up-to, bit-set, bit-clear, bits-next, up-to-masked}
-use borrow.Author.Rules.{rules}
 use Rattle.model_store.proofs.put_masked.Given as goal
 
 abbrev pub invariant-loop-left : goal.invariant-loop-left

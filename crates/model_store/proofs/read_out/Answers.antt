@@ -6,7 +6,6 @@ use borrow.Author.Tests.{le-leb, lt-leb}
 use Rattle.num.proofs.SpliceLaws.{splice-none}
 use Rattle.spec_model.specs.Store.{dualoct}
 use Rattle.model_store.proofs.PlaceLaws.{dualoct-back}
-use borrow.Author.Rules.{rules}
 use Rattle.model_store.proofs.read_out.Goals as goal
 
 pub returns-then-room-lt16 : goal.returns-then-room-lt16

@@ -1,12 +1,9 @@
 -- `model_store::retire_to` meets its contract: whole under a full mask, else the data as 16 bytes, put under the mask.
-use Prim.Native.Nat.{ℕ}
-use mathlib.Core.List.{List}
-use mathlib.Core.Path.{refl, sym, ap, ◌∙◌}
+use mathlib.Core.Path.{sym, ap, ◌∙◌}
 use Rattle.num.proofs.SpliceLaws.{splice-whole}
 use Rattle.spec_model.specs.Store.{dualoct_bytes, masked}
 use Rattle.spec_model.proofs.StoreLaws.{length-dualoct_bytes}
 use Rattle.model_store.proofs.MaskLaws.{full-masked}
-use borrow.Author.Rules.{rules}
 use Rattle.model_store.proofs.retire_to.Goals as goal
 
 pub returns-then-mask-eq-FULL : goal.returns-then-mask-eq-FULL

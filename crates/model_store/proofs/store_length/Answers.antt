@@ -4,7 +4,6 @@ use native.Mathlib.Omega.{arith}
 use Rattle.spec_rules.specs.Neighbour.{context_of}
 use Rattle.spec_model.specs.Store.{store_length}
 use Rattle.model_store.proofs.PlaceLaws.{area}
-use borrow.Author.Rules.{rules}
 use Rattle.model_store.proofs.store_length.Goals as goal
 
 pub overflow_mul-result : goal.overflow_mul-result

@@ -2,7 +2,6 @@
 use Prim.Native.Nat.{◌+◌}
 use native.Mathlib.Omega.{arith}
 use Rattle.num.proofs.ByteLaws.{number-part, number-one}
-use borrow.Author.Rules.{rules}
 use Rattle.num.proofs.half_at.Goals as goal
 
 pub overflow_cast-result : goal.overflow_cast-result

@@ -1,7 +1,6 @@
 -- `num::u32_at` meets its contract: a number of four bytes is its first two and its further two.
 use native.Mathlib.Omega.{arith}
 use Rattle.num.proofs.ByteLaws.{number-part}
-use borrow.Author.Rules.{rules}
 use Rattle.num.proofs.u32_at.Goals as goal
 
 pub returns : goal.returns

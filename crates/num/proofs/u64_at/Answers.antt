@@ -1,7 +1,6 @@
 -- `num::u64_at` meets its contract: a number of eight bytes is its first four and its further four.
 use native.Mathlib.Omega.{arith}
 use Rattle.num.proofs.ByteLaws.{number-part}
-use borrow.Author.Rules.{rules}
 use Rattle.num.proofs.u64_at.Goals as goal
 
 pub returns : goal.returns

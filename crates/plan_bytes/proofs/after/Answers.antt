@@ -1,5 +1,4 @@
 -- `plan_bytes::after` meets its contract.
-use borrow.Author.Rules.{rules}
 use Rattle.plan_bytes.proofs.after.Goals as goal
 
 pub returns : goal.returns

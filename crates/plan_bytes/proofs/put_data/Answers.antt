@@ -1,5 +1,4 @@
 -- `plan_bytes::put_data` meets its contract.
-use borrow.Author.Rules.{rules}
 use Rattle.plan_bytes.proofs.put_data.Goals as goal
 
 pub returns : goal.returns

@@ -1,6 +1,5 @@
 -- `plan_bytes::put_record` meets its contract.
 use Rattle.plan_bytes.proofs.Wholes.{record-put}
-use borrow.Author.Rules.{rules}
 use Rattle.plan_bytes.proofs.put_record.Goals as goal
 
 pub returns : goal.returns

@@ -1,5 +1,4 @@
 -- `plan_bytes::two` meets its contract.
-use borrow.Author.Rules.{rules}
 use Rattle.plan_bytes.proofs.two.Goals as goal
 
 pub returns : goal.returns

@@ -1,5 +1,4 @@
 -- `plan_bytes::waits` meets its contract.
-use borrow.Author.Rules.{rules}
 use Rattle.plan_bytes.proofs.waits.Goals as goal
 
 pub returns : goal.returns

@@ -1,12 +1,9 @@
 -- `plan_steps::open_banks` meets its contract.
 use Prim.Native.Nat.{◌-◌, ◌≤◌}
-use mathlib.Core.Path.{◌≡◌, refl}
-use native.Mathlib.Omega.{arith}
+use mathlib.Core.Path.{◌≡◌}
 use Rattle.spec_plan.specs.Plan.{state_in}
 use Rattle.plan_bytes.specs.Form.Drawn.{drafted}
 use Rattle.plan_steps.specs.Form.Opened.{open_up_to}
-use Rattle.plan_steps.proofs.Walk.{opens-few, opens-step}
-use borrow.Author.Rules.{rules}
 use Rattle.plan_steps.proofs.open_banks.Given as goal
 
 abbrev pub invariant-loop-x : goal.invariant-loop-x

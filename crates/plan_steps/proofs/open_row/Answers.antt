@@ -9,7 +9,6 @@ use Rattle.plan_bytes.proofs.Again.{ready-more}
 use Rattle.plan_bytes.proofs.Compose.{sent-blind}
 use Rattle.plan_bytes.proofs.Compose.{one-sent}
 use Rattle.plan_steps.proofs.Stepwise.{cleared-first, cleared-after, cleared-fits, cleared-drawn}
-use borrow.Author.Rules.{rules}
 use Rattle.plan_steps.proofs.open_row.Goals as goal
 
 pub close_near-to-requires : goal.close_near-to-requires

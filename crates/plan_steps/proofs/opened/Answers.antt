@@ -4,7 +4,6 @@ use mathlib.Core.Path.{sym, ◌∙◌}
 use borrow.Author.Tests.{eq-eqb, ne_eqb}
 use Rattle.plan_bytes.specs.Form.Numbers.{half}
 use Rattle.plan_steps.proofs.Tested.{shut-is}
-use borrow.Author.Rules.{rules}
 use Rattle.plan_steps.proofs.opened.Goals as goal
 
 pub returns-then-tag-eq0 : goal.returns-then-tag-eq0

@@ -1,6 +1,5 @@
 -- `col_record` meets its contract: each arm is a case of the definition.
 use Rattle.record.specs.Record.{col_record}
-use Rattle.std.proofs.Common.{rules}
 use Rattle.record_bytes.proofs.col_record.Goals as goal
 
 pub returns-in-NoCol : goal.returns-in-NoCol

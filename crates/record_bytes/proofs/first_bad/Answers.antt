@@ -1,7 +1,7 @@
 -- `first_bad` meets its contract: every record passed so far is well formed.
-use Rattle.std.proofs.Common.{◌≡◌, ℕ, ◌-◌, ◌<◌, ◌≤◌, true, sym, ◌∙◌, arith, rules, below_more}
+use Rattle.std.proofs.Common.{◌-◌, sym, ◌∙◌, arith, rules, below_more}
 use Rattle.num.proofs.SearchLaws.{first-at, first-none}
-use Rattle.record.specs.Record.{well_formed, first_bad, record_at}
+use Rattle.record.specs.Record.{first_bad}
 use Rattle.record_bytes.proofs.first_bad.Goals as goal
 
 pub loop-i-init : goal.loop-i-init

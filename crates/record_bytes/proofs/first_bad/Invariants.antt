@@ -1,7 +1,6 @@
 -- `first_bad` meets its contract: every record passed so far is well formed.
-use Rattle.std.proofs.Common.{◌≡◌, ℕ, ◌-◌, ◌<◌, ◌≤◌, true, sym, ◌∙◌, arith, rules, below_more}
-use Rattle.num.proofs.SearchLaws.{first-at, first-none}
-use Rattle.record.specs.Record.{well_formed, first_bad, record_at}
+use Rattle.std.proofs.Common.{◌≡◌, ℕ, ◌-◌, ◌<◌, ◌≤◌, true}
+use Rattle.record.specs.Record.{well_formed, record_at}
 use Rattle.record_bytes.proofs.first_bad.Given as goal
 
 abbrev pub invariant-loop-i : goal.invariant-loop-i

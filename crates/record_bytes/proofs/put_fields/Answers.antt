@@ -1,5 +1,5 @@
 -- `put_fields` meets its contract: five numbers put side by side are the fields of a record.
-use Rattle.std.proofs.Common.{arith, rules}
+use Rattle.std.proofs.Common.{arith}
 use Rattle.record.proofs.RecordLaws.{fields-put}
 use Rattle.record_bytes.proofs.put_fields.Goals as goal
 

@@ -1,6 +1,5 @@
 -- `put_record` meets its contract: each arm puts the fields that the definition has for it.
 use Rattle.record.specs.Record.{record_bytes}
-use Rattle.std.proofs.Common.{rules}
 use Rattle.record_bytes.proofs.put_record.Goals as goal
 
 pub returns-in-RowAt : goal.returns-in-RowAt

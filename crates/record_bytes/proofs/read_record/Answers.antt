@@ -1,5 +1,5 @@
 -- `read_record` meets its contract: the fields are those of the 32 bytes from the place on.
-use Rattle.std.proofs.Common.{◌+◌, sym, ◌∙◌, add-zero, arith, rules, eq-eqb, ne_eqb}
+use Rattle.std.proofs.Common.{◌+◌, sym, ◌∙◌, add-zero, arith, eq-eqb, ne_eqb}
 use Rattle.record.specs.Record.{record_read}
 use Rattle.record.proofs.RecordLaws.{field_in, head_in}
 use Rattle.record_bytes.proofs.read_record.Goals as goal

@@ -1,5 +1,5 @@
 -- `record_of` meets its contract: the tests are the definition's, in their order.
-use Rattle.std.proofs.Common.{rules, eq-eqb, ne_eqb}
+use Rattle.std.proofs.Common.{eq-eqb, ne_eqb}
 use Rattle.record.specs.Record.{record_of}
 use Rattle.record_bytes.proofs.record_of.Goals as goal
 

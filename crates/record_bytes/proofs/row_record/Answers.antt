@@ -1,6 +1,5 @@
 -- `row_record` meets its contract: each arm is a case of the definition.
 use Rattle.record.specs.Record.{row_record}
-use Rattle.std.proofs.Common.{rules}
 use Rattle.record_bytes.proofs.row_record.Goals as goal
 
 pub returns-in-NoRow : goal.returns-in-NoRow

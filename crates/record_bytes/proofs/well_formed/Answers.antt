@@ -1,5 +1,5 @@
 -- `well_formed` meets its contract: each arm is a case of the definition.
-use Rattle.std.proofs.Common.{sym, ap, ◌∙◌, rules}
+use Rattle.std.proofs.Common.{sym, ap, ◌∙◌}
 use Rattle.record.specs.Record.{well_formed, is_known}
 use Rattle.record_bytes.proofs.well_formed.Goals as goal
 

@@ -1,6 +1,5 @@
 -- `check_answer` meets its contract: each arm is a case of the definition.
 use Rattle.spec_calls.specs.Checks.{check_answer}
-use borrow.Author.Rules.{rules}
 use Rattle.calls_list.proofs.checks.check_answer.Goals as goal
 
 pub returns-in-Passed : goal.returns-in-Passed

@@ -2,7 +2,6 @@
 use mathlib.Core.Path.{◌∙◌, sym}
 use Rattle.spec_calls.specs.Settings.{under_settings}
 use Rattle.spec_calls.specs.Checks.{check_call}
-use borrow.Author.Rules.{rules}
 use Rattle.calls_list.proofs.checks.check_by.Goals as goal
 
 pub returns-in-Refused : goal.returns-in-Refused

@@ -1,6 +1,5 @@
 -- `copy_answer` meets its contract: each arm is a case of the definition.
 use Rattle.spec_calls.specs.Logs.{copy_answer}
-use borrow.Author.Rules.{rules}
 use Rattle.calls_list.proofs.logs.copy_answer.Goals as goal
 
 pub returns-in-Refused : goal.returns-in-Refused

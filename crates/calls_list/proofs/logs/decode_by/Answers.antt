@@ -3,7 +3,6 @@ use mathlib.Core.Path.{◌∙◌, sym}
 use Rattle.log_list.specs.Log.{copied, decode_log}
 use Rattle.spec_calls.specs.Settings.{under_settings}
 use Rattle.spec_calls.specs.Logs.{copy_call, log_decode_call}
-use borrow.Author.Rules.{rules}
 use Rattle.calls_list.proofs.logs.decode_by.Goals as goal
 
 pub returns-in-Refused : goal.returns-in-Refused

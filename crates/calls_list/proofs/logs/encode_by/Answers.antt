@@ -4,7 +4,6 @@ use native.Mathlib.Omega.{arith}
 use Rattle.log_list.specs.Log.{copied, encode_log}
 use Rattle.spec_calls.specs.Settings.{under_settings}
 use Rattle.spec_calls.specs.Logs.{copy_call, log_encode_call}
-use borrow.Author.Rules.{rules}
 use Rattle.calls_list.proofs.logs.encode_by.Goals as goal
 
 pub encode-requires : goal.encode-requires

@@ -5,7 +5,6 @@ use borrow.Author.Tests.{le-leb, lt-leb, lt-ltb, le-ltb, eq-eqb, ne_eqb}
 use Rattle.spec_page.specs.Page.{scale, filled, name_of}
 use Rattle.spec_page.specs.Form.Bytes.{names, byte_by}
 use Rattle.calls_page.specs.Form.Paint.{blank}
-use borrow.Author.Rules.{rules}
 use Rattle.calls_page.proofs.draw.blank_byte.Goals as goal
 
 pub returns-then-k-lt8 : goal.returns-then-k-lt8

@@ -1,14 +1,10 @@
 -- `draw` meets its contract: with i records left to be drawn the page is that of the records after them.
 use Prim.Native.Nat.{◌-◌, ◌≤◌}
-use mathlib.Core.Path.{◌≡◌, sym, ap, ◌∙◌}
-use native.Mathlib.Omega.{arith}
-use lib.ListN.{length, drop}
+use mathlib.Core.Path.{◌≡◌}
+use lib.ListN.{drop}
 use Rattle.record.specs.Record.{records_in}
 use Rattle.spec_check.specs.Check.{records_of}
 use Rattle.spec_page.specs.Page.{page}
-use Rattle.spec_page.proofs.PageLaws.{length-page}
-use Rattle.calls_page.proofs.draw.ListLaws.{none_left, one_more_lem, is-record}
-use borrow.Author.Rules.{rules}
 use Rattle.calls_page.proofs.draw.draw.Given as goal
 
 abbrev pub invariant-loop-i : goal.invariant-loop-i

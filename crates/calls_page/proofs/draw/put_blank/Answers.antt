@@ -1,13 +1,12 @@
 -- `put_blank` meets its contract: after i turns the first i bytes are those of a page without records.
-use Prim.Native.Nat.{ℕ, ◌-◌, ◌≤◌, ◌<◌}
+use Prim.Native.Nat.{◌-◌}
 use mathlib.Core.Path.{◌≡◌, ◌∙◌, sym}
 use native.Mathlib.Omega.{arith}
-use lib.ListN.{length, get_or, length-set}
+use lib.ListN.{length-set}
 use Rattle.spec_page.specs.Page.{page_bytes}
 use Rattle.spec_page.specs.Form.Bytes.{byte_by}
 use Rattle.calls_page.specs.Form.Paint.{blank}
 use Rattle.calls_page.proofs.draw.BlankLaws.{below_next, blank-page}
-use borrow.Author.Rules.{rules}
 use Rattle.calls_page.proofs.draw.put_blank.Goals as goal
 
 pub loop-i-init : goal.loop-i-init

@@ -1,13 +1,10 @@
 -- `put_blank` meets its contract: after i turns the first i bytes are those of a page without records.
 use Prim.Native.Nat.{ℕ, ◌-◌, ◌≤◌, ◌<◌}
-use mathlib.Core.Path.{◌≡◌, ◌∙◌, sym}
-use native.Mathlib.Omega.{arith}
-use lib.ListN.{length, get_or, length-set}
+use mathlib.Core.Path.{◌≡◌}
+use lib.ListN.{length, get_or}
 use Rattle.spec_page.specs.Page.{page_bytes}
 use Rattle.spec_page.specs.Form.Bytes.{byte_by}
 use Rattle.calls_page.specs.Form.Paint.{blank}
-use Rattle.calls_page.proofs.draw.BlankLaws.{below_next, blank-page}
-use borrow.Author.Rules.{rules}
 use Rattle.calls_page.proofs.draw.put_blank.Given as goal
 
 abbrev pub invariant-loop-i : goal.invariant-loop-i

@@ -1,5 +1,4 @@
 -- `calls_plan::all::none_planned` meets its contract: the refusal's number, and nothing planned.
-use borrow.Author.Rules.{rules}
 use Rattle.calls_plan.proofs.all.none_planned.Goals as goal
 
 pub returns : goal.returns

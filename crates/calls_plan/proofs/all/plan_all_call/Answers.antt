@@ -4,7 +4,6 @@ use Rattle.settings.proofs.SettingsLaws.{accepted-valid}
 use Rattle.spec_calls.specs.Settings.{under_settings}
 use Rattle.spec_calls.specs.PlanAll.{plan_all_call}
 use Rattle.spec_calls.proofs.OneCall.{call-under}
-use borrow.Author.Rules.{rules}
 use Rattle.calls_plan.proofs.all.plan_all_call.Goals as goal
 
 pub plan_all_under-requires : goal.plan_all_under-requires

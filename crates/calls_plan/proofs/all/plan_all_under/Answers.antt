@@ -4,9 +4,8 @@ use mathlib.Core.Path.{◌≡◌, refl, sym, ◌∙◌}
 use mathlib.Core.Logic.{◌≢◌}
 use lib.ListN.{length}
 use native.Mathlib.Omega.{arith}
-use borrow.Author.Tests.{eq-eqb, ne_eqb, not-true, not-false}
+use borrow.Author.Tests.{eq-eqb, ne_eqb}
 use Rattle.spec_calls.specs.PlanAll.{plan_all_under}
-use borrow.Author.Rules.{rules}
 use Rattle.calls_plan.proofs.all.plan_all_under.Goals as goal
 
 pub returns-then-not-right_state : goal.returns-then-not-right_state

@@ -1,7 +1,6 @@
 -- `calls_plan::all::plan_at` meets its contract: a plan call on the rest of the room.
 use Prim.Native.Nat.{◌*◌}
 use Rattle.calls_plan.proofs.AllLaws.{rest-whole, rest_back, request-whole, at_place}
-use borrow.Author.Rules.{rules}
 use Rattle.calls_plan.proofs.all.plan_at.Goals as goal
 
 pub returns : goal.returns

@@ -1,7 +1,6 @@
 -- `calls_plan::all::risen` meets its contract: the bound that a request keeps, or the highest of all.
 use Rattle.plan_bytes.proofs.calm.CalmLaws.{highest-below}
 use native.Mathlib.Omega.{arith}
-use borrow.Author.Rules.{rules}
 use Rattle.calls_plan.proofs.all.risen.Goals as goal
 
 pub returns-then-top-le999990000 : goal.returns-then-top-le999990000

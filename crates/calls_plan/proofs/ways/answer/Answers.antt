@@ -1,6 +1,5 @@
 -- `calls_plan::ways::answer` meets its contract: each arm is a case of the definition.
 use Rattle.spec_calls.specs.Plans.{plan_answer}
-use borrow.Author.Rules.{rules}
 use Rattle.calls_plan.proofs.ways.answer.Goals as goal
 
 pub returns-in-Refused : goal.returns-in-Refused

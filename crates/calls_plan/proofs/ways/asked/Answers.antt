@@ -8,7 +8,6 @@ use lib.ListN.{length}
 use Rattle.settings.proofs.SettingsLaws.{both_true}
 use Rattle.record.proofs.RequestLaws.{accepted-range}
 use Rattle.calls_plan.proofs.CallLaws.{by-request, request-refused}
-use borrow.Author.Rules.{rules}
 use Rattle.calls_plan.proofs.ways.asked.Goals as goal
 
 pub place_of-requires : goal.place_of-requires

@@ -3,7 +3,6 @@ use mathlib.Core.Path.{sym, ◌∙◌}
 use Rattle.spec_rules.specs.Neighbour.{context_of}
 use Rattle.spec_calls.proofs.OneCall.{right-length}
 use Rattle.calls_plan.proofs.CallLaws.{not-retired}
-use borrow.Author.Rules.{rules}
 use Rattle.calls_plan.proofs.ways.granted.Goals as goal
 
 pub unretired-requires : goal.unretired-requires

@@ -1,7 +1,6 @@
 -- `calls_plan::ways::on_lent` meets its contract: refusal 7, or the request's records and the next state.
 use mathlib.Core.Path.{sym, ◌∙◌}
 use Rattle.calls_plan.proofs.CallLaws.{late, enough, in-time}
-use borrow.Author.Rules.{rules}
 use Rattle.calls_plan.proofs.ways.on_lent.Goals as goal
 
 pub plan-made-requires : goal.plan-made-requires

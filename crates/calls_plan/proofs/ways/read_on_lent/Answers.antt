@@ -8,7 +8,6 @@ use Rattle.spec_plan.specs.PlannerBytes.{planner_in}
 use Rattle.spec_plan.specs.Call.{unretired}
 use Rattle.plan_in_place.proofs.Called.{rested-low, calm-timely}
 use Rattle.calls_plan.proofs.CallLaws.{enough, in-time}
-use borrow.Author.Rules.{rules}
 use Rattle.calls_plan.proofs.ways.read_on_lent.Goals as goal
 
 pub plan_read-made-requires : goal.plan_read-made-requires

@@ -1,7 +1,6 @@
 -- `calls_plan::ways::served` meets its contract: one of the two ways.
 use borrow.Author.Tests.{leb-true}
 use Rattle.spec_rules.proofs.Bools.{and_left, and_right}
-use borrow.Author.Rules.{rules}
 use Rattle.calls_plan.proofs.ways.served.Goals as goal
 
 pub on_lent-requires : goal.on_lent-requires

@@ -1,7 +1,6 @@
 -- `calls_plan::ways::tried` meets its contract: refusal 7 or 8, or what the request made is copied.
 use mathlib.Core.Path.{sym, ◌∙◌}
 use native.Mathlib.Omega.{arith}
-use borrow.Author.Tests.{not-true, not-false}
 use Rattle.spec_rules.specs.Neighbour.{context_of}
 use Rattle.spec_calls.proofs.OneCall.{right-length}
 use Rattle.calls_plan.proofs.CallLaws.{late, copy-right, copy-granted, copy-due, next-is, next-room, made-room, tried-full, tried-made}

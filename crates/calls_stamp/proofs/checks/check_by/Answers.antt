@@ -1,6 +1,5 @@
 -- `check_by` meets its contract: the answer in numbers.
 use Rattle.calls_stamp.specs.Results.{stamped_check_call}
-use borrow.Author.Rules.{rules}
 use Rattle.calls_stamp.proofs.checks.check_by.Goals as goal
 
 pub returns : goal.returns

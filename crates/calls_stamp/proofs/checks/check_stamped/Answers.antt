@@ -1,5 +1,5 @@
 -- `check_stamped` meets its contract: the tests are the definition's, in their order.
-use mathlib.Core.Path.{◌≡◌, ◌∙◌, sym, ap}
+use mathlib.Core.Path.{◌∙◌, sym, ap}
 use borrow.Author.Tests.{eq-eqb, ne_eqb}
 use Rattle.settings.specs.declared.Settings.{Settings}
 use Rattle.record.specs.Record.{first_bad}
@@ -9,7 +9,6 @@ use Rattle.spec_check.specs.declared.Judged.TheVariants.{Refused}
 use Rattle.spec_check.specs.Check.{records_of, rule_answer}
 use Rattle.log_stamp.proofs.StampLaws.{right-passed, right-refused, right-next}
 use Rattle.calls_stamp.specs.Results.{stamped_answer}
-use borrow.Author.Rules.{rules}
 use Rattle.calls_stamp.proofs.checks.check_stamped.Goals as goal
 
 pub returns-then-log-ne0 : goal.returns-then-log-ne0

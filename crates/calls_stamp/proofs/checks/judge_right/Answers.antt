@@ -5,7 +5,6 @@ use Rattle.spec_rules.specs.Neighbour.{context_of}
 use Rattle.spec_check.specs.Check.{rule_answer}
 use Rattle.check_list.proofs.WalkLaws.{log-via, log-within, log-formed, log-few}
 use Rattle.log_stamp.proofs.StampLaws.{fourteen}
-use borrow.Author.Rules.{rules}
 use Rattle.calls_stamp.proofs.checks.judge_right.Goals as goal
 
 pub records_in-requires : goal.records_in-requires

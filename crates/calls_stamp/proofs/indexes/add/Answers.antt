@@ -1,5 +1,5 @@
 -- `add` meets its contract: words are written only where the answer is a count, and then every test was passed.
-use mathlib.Core.Path.{◌≡◌, ◌∙◌, sym}
+use mathlib.Core.Path.{◌∙◌, sym}
 use Rattle.num.specs.Bytes.{Bytes}
 use Rattle.log_block.proofs.ListThenLog.{used-few}
 use Rattle.spec_index.specs.Answers.{lent_after}
@@ -8,7 +8,6 @@ use Rattle.log_index.proofs.make.MakeLaws.{kept-said, words-said}
 use Rattle.log_stamp.specs.Stamp.{settings_of}
 use Rattle.log_stamp.proofs.StampLaws.{fourteen}
 use Rattle.calls_stamp.proofs.IndexLaws.{made, added}
-use borrow.Author.Rules.{rules}
 use Rattle.calls_stamp.proofs.indexes.add.Goals as goal
 
 pub write_index-requires : goal.write_index-requires

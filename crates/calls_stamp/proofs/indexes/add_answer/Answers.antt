@@ -1,5 +1,5 @@
 -- `add_answer` meets its contract: the tests are the definition's, in their order.
-use mathlib.Core.Path.{◌≡◌, ◌∙◌, sym}
+use mathlib.Core.Path.{◌∙◌, sym}
 use borrow.Author.Tests.{eq-eqb, ne_eqb}
 use lib.ListN.{length}
 use Rattle.num.specs.Bytes.{Bytes}
@@ -12,7 +12,6 @@ use Rattle.log_stamp.specs.Stamp.{settings_of}
 use Rattle.log_stamp.proofs.StampLaws.{fourteen, right-passed, right-refused, right-next}
 use Rattle.calls_stamp.specs.Results.{stamped_index_answer}
 use Rattle.calls_stamp.proofs.IndexLaws.{made}
-use borrow.Author.Rules.{rules}
 use Rattle.calls_stamp.proofs.indexes.add_answer.Goals as goal
 
 pub returns-then-log-ne0 : goal.returns-then-log-ne0

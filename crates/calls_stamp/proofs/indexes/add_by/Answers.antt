@@ -1,6 +1,5 @@
 -- `add_by` meets its contract: the answer in numbers.
 use Rattle.calls_stamp.specs.Results.{stamped_index_call}
-use borrow.Author.Rules.{rules}
 use Rattle.calls_stamp.proofs.indexes.add_by.Goals as goal
 
 pub returns : goal.returns

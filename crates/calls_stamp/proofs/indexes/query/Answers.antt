@@ -2,7 +2,6 @@
 use mathlib.Core.Path.{◌∙◌, sym}
 use Rattle.spec_index.specs.Answers.{lent_after}
 use Rattle.calls_stamp.proofs.IndexLaws.{query-passed}
-use borrow.Author.Rules.{rules}
 use Rattle.calls_stamp.proofs.indexes.query.Goals as goal
 
 pub list_found-requires : goal.list_found-requires

@@ -1,5 +1,5 @@
 -- `query_answer` meets its contract: the tests are the definition's, in their order.
-use mathlib.Core.Path.{◌≡◌, ◌∙◌, sym}
+use mathlib.Core.Path.{◌∙◌, sym}
 use borrow.Author.Tests.{eq-eqb, ne_eqb, lt-ltb, le-ltb}
 use Rattle.num.specs.Bytes.{Bytes}
 use Rattle.num.specs.Marks.{count_up_to}
@@ -11,7 +11,6 @@ use Rattle.spec_index.specs.Answers.{index_right, count_or_full}
 use Rattle.log_stamp.proofs.StampLaws.{fourteen, right-passed, right-refused, right-next}
 use Rattle.calls_stamp.specs.Results.{stamped_query_answer}
 use Rattle.calls_stamp.proofs.IndexLaws.{beside-said}
-use borrow.Author.Rules.{rules}
 use Rattle.calls_stamp.proofs.indexes.query_answer.Goals as goal
 
 pub returns-then-log-ne0 : goal.returns-then-log-ne0

@@ -1,7 +1,6 @@
 -- `query_beside` meets its contract: the tests are the definition's, in their order.
-use mathlib.Core.Path.{◌≡◌, ◌∙◌, sym}
+use mathlib.Core.Path.{◌∙◌, sym}
 use borrow.Author.Tests.{eq-eqb, ne_eqb}
-use borrow.Author.Rules.{rules}
 use Rattle.calls_stamp.proofs.indexes.query_beside.Goals as goal
 
 pub returns-then-wrong-n : goal.returns-then-wrong-n

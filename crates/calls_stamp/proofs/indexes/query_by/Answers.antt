@@ -1,6 +1,5 @@
 -- `query_by` meets its contract: the answer in numbers.
 use Rattle.calls_stamp.specs.Results.{stamped_query_call}
-use borrow.Author.Rules.{rules}
 use Rattle.calls_stamp.proofs.indexes.query_by.Goals as goal
 
 pub returns : goal.returns

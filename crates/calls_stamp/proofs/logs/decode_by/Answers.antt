@@ -1,6 +1,5 @@
 -- `decode_by` meets its contract: the answer in numbers.
 use Rattle.calls_stamp.specs.Results.{stamped_decode_call}
-use borrow.Author.Rules.{rules}
 use Rattle.calls_stamp.proofs.logs.decode_by.Goals as goal
 
 pub returns : goal.returns

@@ -6,7 +6,6 @@ use Rattle.spec_calls.specs.Settings.{under_settings}
 use Rattle.spec_calls.specs.Logs.{copy_call}
 use Rattle.calls_stamp.specs.Results.{stamped_encode_call}
 use Rattle.calls_stamp.proofs.TripLaws.{accepted-is}
-use borrow.Author.Rules.{rules}
 use Rattle.calls_stamp.proofs.logs.encode_by.Goals as goal
 
 pub encode-requires : goal.encode-requires

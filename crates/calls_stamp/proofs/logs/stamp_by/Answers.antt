@@ -5,7 +5,6 @@ use Rattle.spec_calls.specs.Settings.{under_settings}
 use Rattle.spec_calls.specs.Logs.{copy_call}
 use Rattle.calls_stamp.specs.Results.{stamp_call}
 use Rattle.calls_stamp.proofs.TripLaws.{accepted-is}
-use borrow.Author.Rules.{rules}
 use Rattle.calls_stamp.proofs.logs.stamp_by.Goals as goal
 
 pub stamp-requires : goal.stamp-requires

@@ -1,6 +1,5 @@
 -- `unstamp_by` meets its contract: the answer in numbers.
 use Rattle.calls_stamp.specs.Results.{unstamp_call}
-use borrow.Author.Rules.{rules}
 use Rattle.calls_stamp.proofs.logs.unstamp_by.Goals as goal
 
 pub returns : goal.returns

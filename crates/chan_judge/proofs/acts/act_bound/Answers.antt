@@ -1,9 +1,9 @@
 -- `chan_judge::acts::act_bound` meets its contract: asked is what the banks below x ask, in every turn.
-use Prim.Native.Nat.{◌-◌, ◌≤◌}
+use Prim.Native.Nat.{◌-◌}
 use mathlib.Core.Path.{◌≡◌, refl, ◌∙◌}
 use native.Mathlib.Omega.{arith}
 use Rattle.spec_rules.specs.Checks.{max_up_to}
-use Rattle.chan_judge.specs.Form.Tests.{act_term, act_over}
+use Rattle.chan_judge.specs.Form.Tests.{act_over}
 use Rattle.chan_judge.proofs.ActLaws.{acts-next}
 use borrow.Author.Rules.{rules}
 use Rattle.chan_judge.proofs.acts.act_bound.Goals as goal

@@ -1,11 +1,8 @@
 -- `chan_judge::acts::act_bound` meets its contract: asked is what the banks below x ask, in every turn.
 use Prim.Native.Nat.{◌-◌, ◌≤◌}
-use mathlib.Core.Path.{◌≡◌, refl, ◌∙◌}
-use native.Mathlib.Omega.{arith}
+use mathlib.Core.Path.{◌≡◌}
 use Rattle.spec_rules.specs.Checks.{max_up_to}
-use Rattle.chan_judge.specs.Form.Tests.{act_term, act_over}
-use Rattle.chan_judge.proofs.ActLaws.{acts-next}
-use borrow.Author.Rules.{rules}
+use Rattle.chan_judge.specs.Form.Tests.{act_term}
 use Rattle.chan_judge.proofs.acts.act_bound.Given as goal
 
 abbrev pub invariant-loop-x : goal.invariant-loop-x

@@ -1,5 +1,4 @@
 -- `chan_judge::acts::act_gap` meets its contract: by whether the banks are near.
-use borrow.Author.Rules.{rules}
 use Rattle.chan_judge.proofs.acts.act_gap.Goals as goal
 
 pub returns-then-is_near : goal.returns-then-is_near

@@ -1,5 +1,4 @@
 -- `chan_judge::acts::act_with` meets its contract: the distance is that of the two banks.
-use borrow.Author.Rules.{rules}
 use Rattle.chan_judge.proofs.acts.act_with.Goals as goal
 
 pub returns : goal.returns

@@ -1,5 +1,4 @@
 -- `chan_judge::tests::apart` meets its contract: the bound of one last instant.
-use borrow.Author.Rules.{rules}
 use Rattle.chan_judge.proofs.tests.apart.Goals as goal
 
 pub returns : goal.returns

@@ -1,6 +1,5 @@
 -- `chan_judge::tests::closed_long` meets its contract: the bound of three last instants.
 use lib.Dec.{leb-zero}
-use borrow.Author.Rules.{rules}
 use Rattle.chan_judge.proofs.tests.closed_long.Goals as goal
 
 pub returns-then-v : goal.returns-then-v

@@ -1,5 +1,4 @@
 -- `chan_judge::tests::closes_named` meets its contract: each way out decides the test.
-use borrow.Author.Rules.{rules}
 use Rattle.chan_judge.proofs.tests.closes_named.Goals as goal
 
 pub returns-then-h-out : goal.returns-then-h-out

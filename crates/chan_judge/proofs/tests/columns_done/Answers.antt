@@ -1,6 +1,5 @@
 -- `chan_judge::tests::columns_done` meets its contract: the bounds of three last instants each.
 use lib.Dec.{leb-zero}
-use borrow.Author.Rules.{rules}
 use Rattle.chan_judge.proofs.tests.columns_done.Goals as goal
 
 pub returns-then-p : goal.returns-then-p

@@ -1,6 +1,5 @@
 -- `chan_judge::tests::comes_at` meets its contract: by the arrival.
 use Rattle.chan_judge.specs.Form.Tests.{comes_at}
-use borrow.Author.Rules.{rules}
 use Rattle.chan_judge.proofs.tests.comes_at.Goals as goal
 
 pub returns-in-At : goal.returns-in-At

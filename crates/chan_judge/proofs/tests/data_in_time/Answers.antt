@@ -1,6 +1,5 @@
 -- `chan_judge::tests::data_in_time` meets its contract: by whether it is an RD or a WR.
 use Rattle.chan_judge.proofs.ArrivalLaws.{arrives-in-time}
-use borrow.Author.Rules.{rules}
 use Rattle.chan_judge.proofs.tests.data_in_time.Goals as goal
 
 pub returns-then-v : goal.returns-then-v

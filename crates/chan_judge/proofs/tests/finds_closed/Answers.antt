@@ -1,5 +1,4 @@
 -- `chan_judge::tests::finds_closed` meets its contract: the states of the three banks.
-use borrow.Author.Rules.{rules}
 use Rattle.chan_judge.proofs.tests.finds_closed.Goals as goal
 
 pub returns : goal.returns

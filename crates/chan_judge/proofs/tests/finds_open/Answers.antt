@@ -1,5 +1,4 @@
 -- `chan_judge::tests::finds_open` meets its contract: the states of the two banks.
-use borrow.Author.Rules.{rules}
 use Rattle.chan_judge.proofs.tests.finds_open.Goals as goal
 
 pub returns : goal.returns

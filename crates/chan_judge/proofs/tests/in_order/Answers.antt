@@ -1,5 +1,4 @@
 -- `chan_judge::tests::in_order` meets its contract: the four tests.
-use borrow.Author.Rules.{rules}
 use Rattle.chan_judge.proofs.tests.in_order.Goals as goal
 
 pub returns : goal.returns

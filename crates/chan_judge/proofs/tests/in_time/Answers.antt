@@ -1,6 +1,5 @@
 -- `chan_judge::tests::in_time` meets its contract: by the arrival.
 use Rattle.chan_judge.specs.Form.Tests.{in_time}
-use borrow.Author.Rules.{rules}
 use Rattle.chan_judge.proofs.tests.in_time.Goals as goal
 
 pub returns-in-At : goal.returns-in-At

@@ -1,6 +1,5 @@
 -- `chan_judge::tests::open_long` meets its contract: the bound of three last instants.
 use lib.Dec.{leb-zero}
-use borrow.Author.Rules.{rules}
 use Rattle.chan_judge.proofs.tests.open_long.Goals as goal
 
 pub returns-then-p : goal.returns-then-p

@@ -4,7 +4,6 @@ use mathlib.Core.Path.{◌≡◌, refl, sym}
 use mathlib.Core.Bool.{Bool, true, false, not, ◌||◌}
 use lib.Dec.{leb, leb-zero}
 use Rattle.chan_view.specs.Form.Bounds.{bound_if}
-use borrow.Author.Rules.{rules}
 use Rattle.chan_judge.proofs.tests.prer_keeps.Goals as goal
 
 flagged : (applies : Bool) (bound t : ℕ) → (not applies || leb bound t) ≡ leb (bound_if applies bound) t

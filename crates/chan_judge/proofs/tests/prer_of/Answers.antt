@@ -1,6 +1,5 @@
 -- `chan_judge::tests::prer_of` meets its contract: by what implies it.
 use Rattle.chan_judge.proofs.PrerLaws.{by-retire, by_read, by_itself}
-use borrow.Author.Rules.{rules}
 use Rattle.chan_judge.proofs.tests.prer_of.Goals as goal
 
 pub returns-then-h-out : goal.returns-then-h-out

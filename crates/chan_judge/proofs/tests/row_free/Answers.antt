@@ -1,5 +1,4 @@
 -- `chan_judge::tests::row_free` meets its contract: the test of the last instant is its own.
-use borrow.Author.Rules.{rules}
 use Rattle.chan_judge.proofs.tests.row_free.Goals as goal
 
 pub returns : goal.returns

@@ -1,5 +1,4 @@
 -- `chan_judge::tests::row_ready` meets its contract: the three distances.
-use borrow.Author.Rules.{rules}
 use Rattle.chan_judge.proofs.tests.row_ready.Goals as goal
 
 pub returns : goal.returns

@@ -1,5 +1,4 @@
 -- `chan_judge::tests::spared` meets its contract: the test is that of the definition.
-use borrow.Author.Rules.{rules}
 use Rattle.chan_judge.proofs.tests.spared.Goals as goal
 
 pub returns : goal.returns

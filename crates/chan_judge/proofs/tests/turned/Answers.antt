@@ -1,5 +1,4 @@
 -- `chan_judge::tests::turned` meets its contract: the distance in 64 bits.
-use borrow.Author.Rules.{rules}
 use Rattle.chan_judge.proofs.tests.turned.Goals as goal
 
 pub returns : goal.returns

@@ -1,6 +1,5 @@
 -- `chan_judge::tests::write_safe` meets its contract: of either write.
 use Rattle.chan_judge.proofs.PrerLaws.{spares-all}
-use borrow.Author.Rules.{rules}
 use Rattle.chan_judge.proofs.tests.write_safe.Goals as goal
 
 pub returns-then-p : goal.returns-then-p

@@ -1,6 +1,5 @@
 -- `chan_least::bounds::close_bound` meets its contract: the bounds are those of the definition.
 use Rattle.chan_least.specs.Form.Least.{close_bound}
-use borrow.Author.Rules.{rules}
 use Rattle.chan_least.proofs.bounds.close_bound.Goals as goal
 
 pub returns : goal.returns

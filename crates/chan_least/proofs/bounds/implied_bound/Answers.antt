@@ -1,6 +1,5 @@
 -- `chan_least::bounds::implied_bound` meets its contract: the bound where it applies.
 use Rattle.chan_least.specs.Form.Least.{implied_bound}
-use borrow.Author.Rules.{rules}
 use Rattle.chan_least.proofs.bounds.implied_bound.Goals as goal
 
 pub returns-then-closes : goal.returns-then-closes

@@ -1,5 +1,4 @@
 -- `chan_least::bounds::latest_of` meets its contract: the larger of the first two, then of that and the third.
-use borrow.Author.Rules.{rules}
 use Rattle.chan_least.proofs.bounds.latest_of.Goals as goal
 
 pub returns : goal.returns

@@ -1,6 +1,5 @@
 -- `chan_least::bounds::open_bound` meets its contract: the bounds are those of the definition.
 use Rattle.chan_least.specs.Form.Least.{open_bound}
-use borrow.Author.Rules.{rules}
 use Rattle.chan_least.proofs.bounds.open_bound.Goals as goal
 
 pub returns : goal.returns

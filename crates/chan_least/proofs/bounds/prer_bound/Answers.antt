@@ -1,5 +1,4 @@
 -- `chan_least::bounds::prer_bound` meets its contract: the bounds are those of the definition.
-use borrow.Author.Rules.{rules}
 use Rattle.chan_least.proofs.bounds.prer_bound.Goals as goal
 
 pub returns : goal.returns

@@ -1,6 +1,5 @@
 -- `chan_least::bounds::retire_bound` meets its contract: the bounds are those of the definition.
 use Rattle.chan_least.specs.Form.Least.{retire_bound}
-use borrow.Author.Rules.{rules}
 use Rattle.chan_least.proofs.bounds.retire_bound.Goals as goal
 
 pub returns : goal.returns

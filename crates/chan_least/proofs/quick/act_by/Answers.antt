@@ -1,5 +1,4 @@
 -- `chan_least::quick::act_by_lem` meets its contract: the two bounds.
-use borrow.Author.Rules.{rules}
 use Rattle.chan_least.proofs.quick.act_by.Goals as goal
 
 pub returns : goal.returns

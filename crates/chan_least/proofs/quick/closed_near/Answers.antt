@@ -1,5 +1,4 @@
 -- `chan_least::quick::closed_near` meets its contract: the three tests.
-use borrow.Author.Rules.{rules}
 use Rattle.chan_least.proofs.quick.closed_near.Goals as goal
 
 pub returns : goal.returns

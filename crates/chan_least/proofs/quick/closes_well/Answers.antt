@@ -1,6 +1,5 @@
 -- `chan_least::quick::closes_well` meets its contract: the waiting writes and the bound.
 use Rattle.chan_least.specs.Form.Quick.{closes_well}
-use borrow.Author.Rules.{rules}
 use Rattle.chan_least.proofs.quick.closes_well.Goals as goal
 
 pub returns : goal.returns

@@ -1,6 +1,5 @@
 -- `chan_least::quick::col_well` meets its contract: by the command.
 use Rattle.chan_least.specs.Form.Quick.{col_well}
-use borrow.Author.Rules.{rules}
 use Rattle.chan_least.proofs.quick.col_well.Goals as goal
 
 pub returns-in-Nocop : goal.returns-in-Nocop

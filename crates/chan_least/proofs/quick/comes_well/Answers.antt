@@ -1,5 +1,4 @@
 -- `chan_least::quick::comes_well` meets its contract: the tests.
-use borrow.Author.Rules.{rules}
 use Rattle.chan_least.proofs.quick.comes_well.Goals as goal
 
 pub returns : goal.returns

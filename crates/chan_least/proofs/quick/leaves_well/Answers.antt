@@ -1,6 +1,5 @@
 -- `chan_least::quick::leaves_well` meets its contract: each way out decides the test.
 use Rattle.chan_least.specs.Form.Quick.{leaves_well}
-use borrow.Author.Rules.{rules}
 use Rattle.chan_least.proofs.quick.leaves_well.Goals as goal
 
 pub returns-then-out : goal.returns-then-out

@@ -1,6 +1,5 @@
 -- `chan_least::quick::opens_well` meets its contract: the state and the bound.
 use Rattle.chan_least.specs.Form.Quick.{opens_well}
-use borrow.Author.Rules.{rules}
 use Rattle.chan_least.proofs.quick.opens_well.Goals as goal
 
 pub returns : goal.returns

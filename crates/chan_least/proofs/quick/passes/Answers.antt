@@ -1,6 +1,5 @@
 -- `chan_least::quick::passes` meets its contract: by the kind of the record.
 use Rattle.chan_least.specs.Form.Quick.{record_well}
-use borrow.Author.Rules.{rules}
 use Rattle.chan_least.proofs.quick.passes.Goals as goal
 
 pub returns-in-RowAt : goal.returns-in-RowAt

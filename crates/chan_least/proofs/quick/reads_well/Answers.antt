@@ -1,7 +1,6 @@
 -- `chan_least::quick::reads_well` meets its contract: data in time, and late.
 use Rattle.chan_least.specs.Form.Quick.{reads_well}
 use Rattle.chan_least.proofs.QuickLaws.{comes, is-late}
-use borrow.Author.Rules.{rules}
 use Rattle.chan_least.proofs.quick.reads_well.Goals as goal
 
 pub returns-in-At : goal.returns-in-At

@@ -1,6 +1,5 @@
 -- `chan_least::quick::row_well` meets its contract: by the command.
 use Rattle.chan_least.specs.Form.Quick.{row_well}
-use borrow.Author.Rules.{rules}
 use Rattle.chan_least.proofs.quick.row_well.Goals as goal
 
 pub returns-in-Act : goal.returns-in-Act

@@ -1,5 +1,4 @@
 -- `chan_step::tracks::side_track` meets its contract: the instant is chosen by the state.
-use borrow.Author.Rules.{rules}
 use Rattle.chan_step.proofs.tracks.side_track.Goals as goal
 
 pub returns : goal.returns

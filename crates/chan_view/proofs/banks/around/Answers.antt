@@ -1,5 +1,4 @@
 -- `chan_view::banks::around` meets its contract: each track is read by its bank.
-use borrow.Author.Rules.{rules}
 use Rattle.chan_view.proofs.banks.around.Goals as goal
 
 pub returns : goal.returns

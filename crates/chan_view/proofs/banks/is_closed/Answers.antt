@@ -1,6 +1,5 @@
 -- `chan_view::banks::is_closed` meets its contract: by the state.
 use Rattle.spec_rules.specs.History.{is_closed}
-use borrow.Author.Rules.{rules}
 use Rattle.chan_view.proofs.banks.is_closed.Goals as goal
 
 pub returns-in-Closed : goal.returns-in-Closed

@@ -1,6 +1,5 @@
 -- `chan_view::banks::is_open` meets its contract: by the state.
 use Rattle.spec_rules.specs.History.{is_open}
-use borrow.Author.Rules.{rules}
 use Rattle.chan_view.proofs.banks.is_open.Goals as goal
 
 pub returns-in-Closed : goal.returns-in-Closed

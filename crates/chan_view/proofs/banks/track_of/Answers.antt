@@ -1,6 +1,5 @@
 -- `chan_view::banks::track_of` meets its contract: each way out decides the test.
 use borrow.Author.Tests.{lt-ltb, le-ltb}
-use borrow.Author.Rules.{rules}
 use Rattle.chan_view.proofs.banks.track_of.Goals as goal
 
 pub returns-then-b-lt32 : goal.returns-then-b-lt32

@@ -1,5 +1,4 @@
 -- `chan_view::bounds::after_gap` meets its contract: the distance is the same number in 64 bits.
-use borrow.Author.Rules.{rules}
 use Rattle.chan_view.proofs.bounds.after_gap.Goals as goal
 
 pub returns : goal.returns

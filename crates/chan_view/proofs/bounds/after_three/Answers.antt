@@ -4,7 +4,6 @@ use mathlib.Core.Path.{◌≡◌}
 use native.Mathlib.Omega.{arith}
 use borrow.Author.Tests.{eq-eqb, ne_eqb}
 use Rattle.chan_view.proofs.BoundLaws.{three-since}
-use borrow.Author.Rules.{rules}
 use Rattle.chan_view.proofs.bounds.after_three.Goals as goal
 
 pub returns-then-last-eq0 : goal.returns-then-last-eq0

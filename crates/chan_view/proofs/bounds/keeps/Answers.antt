@@ -1,6 +1,5 @@
 -- `chan_view::bounds::keeps` meets its contract: where the bound applies, the test is its own.
 use lib.Dec.{leb-zero}
-use borrow.Author.Rules.{rules}
 use Rattle.chan_view.proofs.bounds.keeps.Goals as goal
 
 pub returns-then-applies : goal.returns-then-applies

@@ -1,6 +1,5 @@
 -- `chan_view::bounds::since_wide` meets its contract: each way out decides the test.
 use borrow.Author.Tests.{eq-eqb, ne_eqb}
-use borrow.Author.Rules.{rules}
 use Rattle.chan_view.proofs.bounds.since_wide.Goals as goal
 
 pub returns-then-last-eq0 : goal.returns-then-last-eq0

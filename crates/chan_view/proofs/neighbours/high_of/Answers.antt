@@ -3,7 +3,6 @@ use mathlib.Core.Path.{sym, ◌∙◌}
 use native.Mathlib.Omega.{arith}
 use Rattle.chan_view.specs.Form.Beside.{high_of}
 use Rattle.chan_view.proofs.NearLaws.{not_last}
-use borrow.Author.Rules.{rules}
 use Rattle.chan_view.proofs.neighbours.high_of.Goals as goal
 
 pub returns-then-is_last : goal.returns-then-is_last

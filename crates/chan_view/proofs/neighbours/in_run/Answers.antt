@@ -1,5 +1,4 @@
 -- `chan_view::neighbours::in_run` meets its contract: the run's number is the bank's without its low bits.
-use borrow.Author.Rules.{rules}
 use Rattle.chan_view.proofs.neighbours.in_run.Goals as goal
 
 pub returns : goal.returns

@@ -1,6 +1,5 @@
 -- `chan_view::neighbours::is_near` meets its contract: the tests are those of the definition.
 use Rattle.spec_rules.specs.Neighbour.{in_runs, context_of}
-use borrow.Author.Rules.{rules}
 use Rattle.chan_view.proofs.neighbours.is_near.Goals as goal
 
 pub returns : goal.returns

@@ -1,9 +1,7 @@
 -- `chan_view::neighbours::low_of` meets its contract: each way out decides the test.
 use mathlib.Core.Path.{sym, ◌∙◌}
-use native.Mathlib.Omega.{arith}
 use Rattle.chan_view.specs.Form.Beside.{low_of}
 use Rattle.chan_view.proofs.NearLaws.{not_first}
-use borrow.Author.Rules.{rules}
 use Rattle.chan_view.proofs.neighbours.low_of.Goals as goal
 
 pub returns-then-is_first : goal.returns-then-is_first

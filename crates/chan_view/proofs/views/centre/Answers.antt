@@ -1,6 +1,5 @@
 -- `chan_view::views::centre` meets its contract: each way out decides the test.
 use mathlib.Core.Path.{sym}
-use borrow.Author.Rules.{rules}
 use Rattle.chan_view.proofs.views.centre.Goals as goal
 
 pub returns-then-leaves_closing : goal.returns-then-leaves_closing

@@ -1,6 +1,5 @@
 -- `chan_view::views::col_view` meets its contract: by the command.
 use Rattle.chan_view.specs.Form.View.{col_view}
-use borrow.Author.Rules.{rules}
 use Rattle.chan_view.proofs.views.col_view.Goals as goal
 
 pub returns-in-Nocop : goal.returns-in-Nocop

@@ -1,6 +1,5 @@
 -- `chan_view::views::held_of` meets its contract: by the state of the buffer.
 use Rattle.chan_view.specs.Form.View.{held_of}
-use borrow.Author.Rules.{rules}
 use Rattle.chan_view.proofs.views.held_of.Goals as goal
 
 pub returns-in-Empty : goal.returns-in-Empty

@@ -1,5 +1,4 @@
 -- `chan_view::views::implies` meets its contract: by what leaves.
-use borrow.Author.Rules.{rules}
 use Rattle.chan_view.proofs.views.implies.Goals as goal
 
 pub returns : goal.returns

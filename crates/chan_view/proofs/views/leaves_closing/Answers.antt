@@ -1,5 +1,4 @@
 -- `chan_view::views::leaves_closing` meets its contract: by what leaves.
-use borrow.Author.Rules.{rules}
 use Rattle.chan_view.proofs.views.leaves_closing.Goals as goal
 
 pub returns : goal.returns

@@ -1,5 +1,4 @@
 -- `chan_view::views::leaving` meets its contract: the sum in 64 bits.
-use borrow.Author.Rules.{rules}
 use Rattle.chan_view.proofs.views.leaving.Goals as goal
 
 pub returns : goal.returns

@@ -1,6 +1,5 @@
 -- `chan_view::views::row_view` meets its contract: by the command.
 use Rattle.chan_view.specs.Form.View.{row_view}
-use borrow.Author.Rules.{rules}
 use Rattle.chan_view.proofs.views.row_view.Goals as goal
 
 pub returns-in-Act : goal.returns-in-Act

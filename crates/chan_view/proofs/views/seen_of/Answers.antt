@@ -1,6 +1,5 @@
 -- `chan_view::views::seen_of` meets its contract: by the kind of the record.
 use Rattle.chan_view.specs.Form.View.{seen_of}
-use borrow.Author.Rules.{rules}
 use Rattle.chan_view.proofs.views.seen_of.Goals as goal
 
 pub returns-in-RowAt : goal.returns-in-RowAt

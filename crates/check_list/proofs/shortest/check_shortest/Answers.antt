@@ -1,7 +1,6 @@
 -- `check_shortest` meets its contract: the verdict and its start are the definition's two parts.
 use Rattle.spec_rules.specs.Neighbour.{context_of}
 use Rattle.spec_check.specs.Shortest.{shortest_answer}
-use borrow.Author.Rules.{rules}
 use Rattle.check_list.proofs.shortest.check_shortest.Goals as goal
 
 pub returns : goal.returns

@@ -6,7 +6,6 @@ use Rattle.record.specs.Refusal.{answer_of}
 use Rattle.spec_rules.specs.Neighbour.{context_of}
 use Rattle.spec_check.specs.Shortest.{start_of}
 use Rattle.check_list.proofs.shortest.VerdictLaws.{named-within, named-formed}
-use borrow.Author.Rules.{rules}
 use Rattle.check_list.proofs.shortest.start_of.Goals as goal
 
 pub latest_start-requires : goal.latest_start-requires

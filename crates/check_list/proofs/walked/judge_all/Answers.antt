@@ -7,7 +7,6 @@ use Rattle.check_walk.specs.declared.Stop.{Stop}
 use Rattle.spec_check.specs.declared.Judged.TheVariants.{Refused}
 use Rattle.check_walk.specs.Form.Walk.{stop_of}
 use Rattle.check_list.proofs.StopLaws.{stop-passed, stop-refused}
-use borrow.Author.Rules.{rules}
 use Rattle.check_list.proofs.walked.judge_all.Goals as goal
 
 pub returns-then-at-n : goal.returns-then-at-n

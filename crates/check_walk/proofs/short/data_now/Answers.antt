@@ -1,5 +1,4 @@
 -- `check_walk::short::data_now` meets its contract: the two callees.
-use borrow.Author.Rules.{rules}
 use Rattle.check_walk.proofs.short.data_now.Goals as goal
 
 pub returns : goal.returns

@@ -1,5 +1,4 @@
 -- `check_walk::short::fields_at` meets its contract: the three numbers.
-use borrow.Author.Rules.{rules}
 use Rattle.check_walk.proofs.short.fields_at.Goals as goal
 
 pub returns : goal.returns

@@ -1,5 +1,4 @@
 -- `check_walk::short::is_after` meets its contract: the sum in 64 bits.
-use borrow.Author.Rules.{rules}
 use Rattle.check_walk.proofs.short.is_after.Goals as goal
 
 pub returns : goal.returns

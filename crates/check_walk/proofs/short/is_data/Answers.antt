@@ -2,7 +2,6 @@
 use Prim.Native.Nat.{◌+◌}
 use native.Mathlib.Omega.{arith}
 use Rattle.check_walk.proofs.ShortLaws.{data-found}
-use borrow.Author.Rules.{rules}
 use Rattle.check_walk.proofs.short.is_data.Goals as goal
 
 pub returns : goal.returns

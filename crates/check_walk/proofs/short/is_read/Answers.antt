@@ -2,10 +2,8 @@
 use Prim.Native.Nat.{◌+◌}
 use mathlib.Core.Path.{refl, sym, ◌∙◌}
 use native.Mathlib.Omega.{arith}
-use borrow.Author.Tests.{not-false}
 use Rattle.spec_rules.proofs.Bools.{not-both}
 use Rattle.check_walk.proofs.ShortLaws.{read_found}
-use borrow.Author.Rules.{rules}
 use Rattle.check_walk.proofs.short.is_read.Goals as goal
 
 pub returns-then-f-ne1 : goal.returns-then-f-ne1

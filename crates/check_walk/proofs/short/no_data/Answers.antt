@@ -1,5 +1,4 @@
 -- `check_walk::short::no_data` meets its contract: the two numbers.
-use borrow.Author.Rules.{rules}
 use Rattle.check_walk.proofs.short.no_data.Goals as goal
 
 pub returns : goal.returns

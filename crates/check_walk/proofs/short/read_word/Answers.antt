@@ -2,7 +2,6 @@
 use mathlib.Core.Path.{refl}
 use Rattle.spec_rules.proofs.Bools.{not-both}
 use Rattle.check_walk.proofs.ShortLaws.{read-says}
-use borrow.Author.Rules.{rules}
 use Rattle.check_walk.proofs.short.read_word.Goals as goal
 
 pub returns-then-s-ge32 : goal.returns-then-s-ge32

@@ -1,6 +1,5 @@
 -- `check_walk::short::reads_beside` meets its contract: by the state of the buffer.
 use Rattle.check_walk.specs.Form.Short.{reads_beside}
-use borrow.Author.Rules.{rules}
 use Rattle.check_walk.proofs.short.reads_beside.Goals as goal
 
 pub returns-in-Empty : goal.returns-in-Empty

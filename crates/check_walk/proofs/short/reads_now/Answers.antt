@@ -1,5 +1,4 @@
 -- `check_walk::short::reads_now` meets its contract: the tests.
-use borrow.Author.Rules.{rules}
 use Rattle.check_walk.proofs.short.reads_now.Goals as goal
 
 pub returns : goal.returns

@@ -7,7 +7,6 @@ use Rattle.chan_view.specs.declared.View.{View}
 use Rattle.chan_view.specs.declared.Held.{Held}
 use Rattle.chan_view.specs.Form.View.{seen_of, held_of, implies_by, centre_of}
 use Rattle.check_walk.specs.Form.Turn.{view_in, closed_near, implied_at}
-use borrow.Author.Rules.{rules}
 use Rattle.check_walk.proofs.turn.banks_implied.Goals as goal
 
 pub implied_at-requires : goal.implied_at-requires

@@ -1,7 +1,6 @@
 -- `turn::buffer_next` meets its contract: the older write leaves or does not.
 use mathlib.Core.Path.{◌≡◌}
 use Rattle.chan_step.specs.Form.Lasts.{buffer_next}
-use borrow.Author.Rules.{rules}
 use Rattle.check_walk.proofs.turn.buffer_next.Goals as goal
 
 pub returns : goal.returns

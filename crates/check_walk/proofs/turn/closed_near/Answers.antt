@@ -1,5 +1,4 @@
 -- `turn::closed_near` meets its contract: the three stores.
-use borrow.Author.Rules.{rules}
 use Rattle.check_walk.proofs.turn.closed_near.Goals as goal
 
 pub returns : goal.returns

@@ -4,7 +4,6 @@ use Prim.Native.Nat.{ℕ}
 use mathlib.Core.Bool.{false}
 use Rattle.chan_view.specs.Form.View.{seen_of, held_of, implies_by}
 use Rattle.check_walk.specs.Form.Turn.{view_in, implied_at}
-use borrow.Author.Rules.{rules}
 use Rattle.check_walk.proofs.turn.lasts_implied.Goals as goal
 
 pub implied_at-requires : goal.implied_at-requires

@@ -1,5 +1,4 @@
 -- `turn::opened_track` meets its contract: an ACT gives the bank its instant, a REFA keeps the earlier one.
-use borrow.Author.Rules.{rules}
 use Rattle.check_walk.proofs.turn.opened_track.Goals as goal
 
 pub returns : goal.returns

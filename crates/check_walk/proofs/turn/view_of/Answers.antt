@@ -1,7 +1,6 @@
 -- `turn::view_of` meets its contract: by the kind of the record.
 use mathlib.Core.Path.{sym}
 use Rattle.check_walk.specs.Form.Turn.{view_in}
-use borrow.Author.Rules.{rules}
 use Rattle.check_walk.proofs.turn.view_of.Goals as goal
 
 pub returns-in-Packet : goal.returns-in-Packet

@@ -5,8 +5,7 @@ use mathlib.Core.Logic.{◌≢◌}
 use native.Mathlib.Omega.{arith}
 use lib.ListN.{length}
 use Rattle.listing.proofs.entries.TurnLaws.{set_h-valid}
-use Rattle.listing.proofs.entries.StepLaws.{Given, Listed, none-listed, turn, lines_fit, records-bound, place-bound, now-listed, all_listed, stop-within, stop-room, stop-listed}
-use borrow.Author.Rules.{rules}
+use Rattle.listing.proofs.entries.StepLaws.{Given, none-listed, turn, lines_fit, records-bound, place-bound, now-listed, all_listed, stop-within, stop-room, stop-listed}
 use Rattle.listing.proofs.entries.put_each.Goals as goal
 
 pub loop-i-init : goal.loop-i-init

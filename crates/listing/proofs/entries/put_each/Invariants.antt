@@ -1,12 +1,8 @@
 -- `put_each` meets its contract: at each turn planner, records and text are those of the requests before the next one.
-use Prim.Native.Nat.{◌-◌, ◌/◌}
-use mathlib.Core.Path.{◌≡◌, refl, ◌∙◌}
-use mathlib.Core.Logic.{◌≢◌}
-use native.Mathlib.Omega.{arith}
+use Prim.Native.Nat.{◌-◌}
+use mathlib.Core.Path.{◌≡◌}
 use lib.ListN.{length}
-use Rattle.listing.proofs.entries.TurnLaws.{set_h-valid}
-use Rattle.listing.proofs.entries.StepLaws.{Given, Listed, none-listed, turn, lines_fit, records-bound, place-bound, now-listed, all_listed, stop-within, stop-room, stop-listed}
-use borrow.Author.Rules.{rules}
+use Rattle.listing.proofs.entries.StepLaws.{Listed}
 use Rattle.listing.proofs.entries.put_each.Given as goal
 
 abbrev pub invariant-loop-i : goal.invariant-loop-i

@@ -1,6 +1,5 @@
 -- `latest_after` meets its contract: each arm is a case of the definitions.
 use mathlib.Core.Path.{refl}
-use borrow.Author.Rules.{rules}
 use Rattle.listing_text.proofs.lines.latest_after.Goals as goal
 
 pub returns-in-Wr : goal.returns-in-Wr

@@ -1,21 +1,10 @@
 -- `put_lines` meets its contract: after i turns the lines of the first i records are put.
-use mathlib.Core.Path.{◌≡◌, refl, sym, ◌∙◌, ap}
-use mathlib.Core.List.{List, [], ◌∷◌, ◌++◌}
-use Prim.Native.Nat.{ℕ, ◌+◌, ◌-◌, ◌*◌, ◌≤◌}
-use native.Mathlib.Nat.{add-zero}
-use native.Mathlib.Omega.{arith}
-use native.Mathlib.Numerals.{add-one}
+use mathlib.Core.Path.{◌≡◌}
+use Prim.Native.Nat.{◌+◌, ◌-◌, ◌*◌, ◌≤◌}
 use lib.ListN.{length}
-use Rattle.num.proofs.SpliceLaws.{splice-none}
-use Rattle.num.specs.Bytes.{part}
-use Rattle.settings.specs.declared.Settings.{Settings}
-use Rattle.record.specs.declared.Record.{Record}
-use Rattle.record.specs.Record.{record_read}
-use Rattle.spec_check.specs.Check.{known, records_up_to}
-use Rattle.listing_text.specs.Text.{Put, line_room, write_bank, write_column, write_bank_after, write_column_after, record_lines}
+use Rattle.spec_check.specs.Check.{records_up_to}
+use Rattle.listing_text.specs.Text.{Put, line_room, write_bank_after, write_column_after, record_lines}
 use Rattle.settings.specs.Bench.{set_h}
-use Rattle.listing_text.proofs.LineLaws.{bank-next, column-next, line-next}
-use borrow.Author.Rules.{rules}
 use Rattle.listing_text.proofs.lines.put_lines.Given as goal
 
 abbrev pub invariant-loop-i : goal.invariant-loop-i

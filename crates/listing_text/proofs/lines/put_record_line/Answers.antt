@@ -1,6 +1,5 @@
 -- `put_record_line` meets its contract: each arm is a case of the definition.
 use Rattle.listing_text.specs.Text.{codes, dash, mask_text, record_line}
-use borrow.Author.Rules.{rules}
 use Rattle.listing_text.proofs.lines.put_record_line.Goals as goal
 
 pub returns-in-RowAt : goal.returns-in-RowAt

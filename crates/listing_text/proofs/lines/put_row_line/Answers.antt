@@ -1,6 +1,5 @@
 -- `put_row_line` meets its contract: each arm is the line of its packet.
 use Rattle.listing_text.specs.Text.{codes, dash, mask_text, row_line}
-use borrow.Author.Rules.{rules}
 use Rattle.listing_text.proofs.lines.put_row_line.Goals as goal
 
 pub returns-in-Act : goal.returns-in-Act

@@ -1,7 +1,6 @@
 -- `record_at` meets its contract: each arm is a case of the definition.
 use mathlib.Core.Path.{◌∙◌, sym}
 use Rattle.spec_check.specs.Check.{known}
-use borrow.Author.Rules.{rules}
 use Rattle.listing_text.proofs.lines.record_at.Goals as goal
 
 pub returns-in-NoRecord : goal.returns-in-NoRecord

@@ -1,5 +1,5 @@
 -- `log_block::read::read_at` meets its contract: the lent part of the log is the used records of the block.
-use Rattle.std.proofs.Common.{◌≡◌, ◌+◌, ◌-◌, ◌*◌, arith, rules}
+use Rattle.std.proofs.Common.{◌≡◌, ◌+◌, ◌-◌, ◌*◌, arith}
 use Rattle.log_block.specs.Block.{used, block_at}
 use Rattle.log_block.proofs.ListThenLog.{used-few}
 use Rattle.log_block.proofs.ReadLaws.{used-part}

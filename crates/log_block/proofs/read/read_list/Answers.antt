@@ -1,6 +1,5 @@
 -- `log_block::read::read_list` meets its contract: after k turns the records of the first k blocks are copied.
-use Rattle.std.proofs.Common.{◌≡◌, ◌+◌, ◌-◌, ◌*◌, ◌≤◌, length, ap, ◌∙◌, arith, rules}
-use Rattle.num.specs.Bytes.{splice}
+use Rattle.std.proofs.Common.{◌≡◌, ◌+◌, ◌-◌, ◌*◌, length, ap, ◌∙◌, arith, rules}
 use Rattle.num.proofs.SpliceLaws.{splice-none}
 use Rattle.log_block.specs.Block.{blocks_in, list_up_to, list_of}
 use Rattle.log_block.proofs.ListThenLog.{length-up_to, length-next}

@@ -1,5 +1,5 @@
 -- `log_block::read::records_in` meets its contract: every block but the last is full.
-use Rattle.std.proofs.Common.{◌≡◌, ◌-◌, ◌*◌, ◌≤◌, length, ap, mul-le-mul_right, arith, rules}
+use Rattle.std.proofs.Common.{◌≡◌, ◌-◌, ◌*◌, ◌≤◌, length, ap, mul-le-mul_right, arith}
 use Rattle.log_block.specs.Block.{blocks_in, list_of}
 use Rattle.log_block.proofs.ListThenLog.{used-most, length-list, list-none}
 use Rattle.log_block.proofs.read.records_in.Goals as goal

@@ -1,5 +1,5 @@
 -- `log_block::read::used_at` meets its contract: the lent part is the block.
-use Rattle.std.proofs.Common.{◌≡◌, ◌+◌, ◌-◌, ◌*◌, arith, rules}
+use Rattle.std.proofs.Common.{◌≡◌, ◌+◌, ◌-◌, ◌*◌, arith}
 use Rattle.log_block.proofs.read.used_at.Goals as goal
 
 pub returns : goal.returns

@@ -1,5 +1,5 @@
 -- `log_block::read::used_of` meets its contract: every block but the last is full.
-use Rattle.std.proofs.Common.{sym, rules}
+use Rattle.std.proofs.Common.{sym}
 use Rattle.log_block.proofs.ListThenLog.{used-full}
 use Rattle.log_block.proofs.read.used_of.Goals as goal
 

@@ -1,5 +1,5 @@
 -- `log_block::write::write_at` meets its contract: the lent part of the log comes back as the block of the lent part of the list.
-use Rattle.std.proofs.Common.{◌+◌, ◌-◌, ◌*◌, ◌∙◌, arith, rules}
+use Rattle.std.proofs.Common.{◌+◌, ◌-◌, ◌*◌, ◌∙◌, arith}
 use Rattle.num.specs.Bytes.{part}
 use Rattle.log_block.specs.Block.{block}
 use Rattle.log_block.proofs.BlockLaws.{length-block, part-fits}

@@ -1,5 +1,5 @@
 -- `log_block::write::write_block` meets its contract: the records that were copied are those that stand at the start.
-use Rattle.std.proofs.Common.{◌+◌, length, drop, refl, ap, take_at, rules}
+use Rattle.std.proofs.Common.{◌+◌, length, drop, refl, ap, take_at}
 use Rattle.log_block.specs.Block.{block}
 use Rattle.log_block.proofs.write.write_block.Goals as goal
 

@@ -1,5 +1,5 @@
 -- `log_block::write::write_fields` meets its contract: five stores, one after the other, are the body of the block.
-use Rattle.std.proofs.Common.{arith, rules}
+use Rattle.std.proofs.Common.{arith}
 use Rattle.log_block.proofs.WriteLaws.{body-stores}
 use Rattle.log_block.proofs.write.write_fields.Goals as goal
 

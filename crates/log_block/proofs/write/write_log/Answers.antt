@@ -1,6 +1,5 @@
 -- `log_block::write::write_log` meets its contract: after k turns the first k blocks are written.
-use Rattle.std.proofs.Common.{◌≡◌, ◌-◌, ◌/◌, ◌≤◌, length, ap, ◌∙◌, arith, rules}
-use Rattle.num.specs.Bytes.{splice}
+use Rattle.std.proofs.Common.{◌≡◌, ◌-◌, ◌/◌, length, ap, ◌∙◌, arith, rules}
 use Rattle.num.proofs.SpliceLaws.{splice-none}
 use Rattle.log_block.specs.Block.{block_count, log_up_to, log_of}
 use Rattle.log_block.proofs.WriteLaws.{log-turn, log-held, starts-within}

@@ -1,9 +1,7 @@
 -- `log_block::write::write_log` meets its contract: after k turns the first k blocks are written.
-use Rattle.std.proofs.Common.{◌≡◌, ◌-◌, ◌/◌, ◌≤◌, length, ap, ◌∙◌, arith, rules}
+use Rattle.std.proofs.Common.{◌≡◌, ◌-◌, ◌≤◌}
 use Rattle.num.specs.Bytes.{splice}
-use Rattle.num.proofs.SpliceLaws.{splice-none}
-use Rattle.log_block.specs.Block.{block_count, log_up_to, log_of}
-use Rattle.log_block.proofs.WriteLaws.{log-turn, log-held, starts-within}
+use Rattle.log_block.specs.Block.{log_up_to}
 use Rattle.log_block.proofs.write.write_log.Given as goal
 
 abbrev pub invariant-loop-k : goal.invariant-loop-k

@@ -5,7 +5,6 @@ use Rattle.spec_index.specs.Answers.{lent_after}
 use Rattle.spec_index.proofs.IndexLaws.{kept-most}
 use Rattle.log_block.proofs.ListThenLog.{used-few}
 use Rattle.log_index.proofs.make.MakeLaws.{fifteen, added, kept-said, words-said}
-use borrow.Author.Rules.{rules}
 use Rattle.log_index.proofs.make.add.Goals as goal
 
 pub write_index-requires : goal.write_index-requires

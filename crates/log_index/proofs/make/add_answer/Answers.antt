@@ -6,7 +6,6 @@ use Rattle.log_block.specs.Block.{blocks_in}
 use Rattle.spec_index.specs.Answers.{add_answer}
 use Rattle.log_block.proofs.ListThenLog.{used-few}
 use Rattle.log_index.proofs.make.MakeLaws.{fifteen, right-passed, right-refused, right-next, room-said}
-use borrow.Author.Rules.{rules}
 use Rattle.log_index.proofs.make.add_answer.Goals as goal
 
 pub returns-then-log-ne0 : goal.returns-then-log-ne0

@@ -1,13 +1,9 @@
 -- `first_wrong` meets its contract: the words before word k are right in every turn.
-use Prim.Native.Nat.{ℕ, ◌-◌, ◌<◌, ◌≤◌}
+use Prim.Native.Nat.{◌-◌}
 use mathlib.Core.Path.{◌≡◌, sym, ◌∙◌}
-use mathlib.Core.Bool.{true}
 use native.Mathlib.Omega.{arith}
 use borrow.Author.Count.{below_more}
-use borrow.Author.Tests.{not-true, not-false}
 use Rattle.num.proofs.SearchLaws.{first-at, first-none}
-use Rattle.spec_index.specs.Index.{word_right}
-use Rattle.log_index.specs.Form.Fields.{fields_word}
 use borrow.Author.Rules.{rules}
 use Rattle.log_index.proofs.make.first_wrong.Goals as goal
 

@@ -1,5 +1,4 @@
 -- `put_word` meets its contract.
-use borrow.Author.Rules.{rules}
 use Rattle.log_index.proofs.make.put_word.Goals as goal
 
 pub block_word-w-requires : goal.block_word-w-requires

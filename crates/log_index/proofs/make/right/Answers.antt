@@ -4,7 +4,6 @@ use borrow.Author.Tests.{eq-eqb, ne_eqb}
 use Rattle.log_list.proofs.BadLaws.{bad-of-all}
 use native.Mathlib.Omega.{arith}
 use Rattle.log_index.proofs.make.MakeLaws.{fifteen}
-use borrow.Author.Rules.{rules}
 use Rattle.log_index.proofs.make.right.Goals as goal
 
 pub faults-found-requires : goal.faults-found-requires

@@ -5,7 +5,6 @@ use borrow.Author.Tests.{eq-eqb, ne_eqb, le-leb, lt-leb}
 use lib.ListN.{length}
 use Rattle.log_block.specs.Block.{blocks_in}
 use Rattle.log_index.specs.Form.Room.{room_answer}
-use borrow.Author.Rules.{rules}
 use Rattle.log_index.proofs.make.room_answer.Goals as goal
 
 pub returns-then-wrong-kept : goal.returns-then-wrong-kept

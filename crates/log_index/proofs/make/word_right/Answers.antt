@@ -1,7 +1,6 @@
 -- `word_right` meets its contract.
 use borrow.Author.Tests.{le-ltb, lt-ltb}
 use Rattle.spec_index.specs.Index.{word_right}
-use borrow.Author.Rules.{rules}
 use Rattle.log_index.proofs.make.word_right.Goals as goal
 
 pub returns-then-k-index : goal.returns-then-k-index

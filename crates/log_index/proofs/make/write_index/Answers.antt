@@ -1,11 +1,9 @@
 -- `write_index` meets its contract: after each turn the words of the first k blocks are there.
-use Prim.Native.Nat.{◌+◌, ◌-◌, ◌*◌, ◌≤◌}
+use Prim.Native.Nat.{◌-◌, ◌*◌}
 use mathlib.Core.Path.{◌≡◌, ◌∙◌, ap}
 use native.Mathlib.Omega.{arith}
 use lib.ListN.{length}
-use Rattle.num.specs.Bytes.{splice}
 use Rattle.log_block.specs.Block.{blocks_in}
-use Rattle.spec_index.specs.Index.{words_up_to}
 use Rattle.spec_index.proofs.IndexLaws.{length-words}
 use Rattle.log_index.specs.Form.Fields.{fields_word}
 use Rattle.log_index.proofs.make.MakeLaws.{splice-kept, words-turn, words-held}

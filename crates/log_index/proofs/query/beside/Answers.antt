@@ -5,7 +5,6 @@ use Rattle.log_block.specs.Block.{blocks_in}
 use Rattle.log_block.proofs.ListThenLog.{used-few}
 use Rattle.log_index.proofs.make.MakeLaws.{fifteen, right-passed, right-refused, right-next}
 use Rattle.log_index.proofs.query.QueryLaws.{beside-said}
-use borrow.Author.Rules.{rules}
 use Rattle.log_index.proofs.query.beside.Goals as goal
 
 pub compared-requires : goal.compared-requires

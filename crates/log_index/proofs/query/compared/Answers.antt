@@ -5,7 +5,6 @@ use Rattle.num.specs.Search.{first_false}
 use Rattle.spec_index.specs.Index.{words_of, word_right}
 use Rattle.log_index.specs.Form.Fields.{fields_word}
 use Rattle.log_index.specs.Form.Beside.{beside_fields}
-use borrow.Author.Rules.{rules}
 use Rattle.log_index.proofs.query.compared.Goals as goal
 
 pub returns-then-wrong-n : goal.returns-then-wrong-n

@@ -1,6 +1,5 @@
 -- `fits` meets its contract.
 use borrow.Author.Tests.{le-leb, lt-leb}
-use borrow.Author.Rules.{rules}
 use Rattle.log_index.proofs.query.fits.Goals as goal
 
 pub returns-then-n-room : goal.returns-then-n-room

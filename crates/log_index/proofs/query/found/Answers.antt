@@ -1,5 +1,5 @@
 -- `found` meets its contract: n is the count of the words passed so far.
-use Prim.Native.Nat.{◌-◌, ◌≤◌}
+use Prim.Native.Nat.{◌-◌}
 use mathlib.Core.Path.{◌≡◌, refl, sym}
 use native.Mathlib.Omega.{arith}
 use Rattle.num.specs.Marks.{count_up_to}

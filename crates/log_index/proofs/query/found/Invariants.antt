@@ -1,12 +1,8 @@
 -- `found` meets its contract: n is the count of the words passed so far.
 use Prim.Native.Nat.{◌-◌, ◌≤◌}
-use mathlib.Core.Path.{◌≡◌, refl, sym}
-use native.Mathlib.Omega.{arith}
+use mathlib.Core.Path.{◌≡◌}
 use Rattle.num.specs.Marks.{count_up_to}
-use Rattle.num.proofs.bits.CountLaws.{count_next, count-le, at-most-1}
-use Rattle.spec_index.specs.Index.{index_words}
 use Rattle.spec_index.specs.Query.{has_bit}
-use borrow.Author.Rules.{rules}
 use Rattle.log_index.proofs.query.found.Given as goal
 
 abbrev pub invariant-loop-k : goal.invariant-loop-k

@@ -1,7 +1,6 @@
 -- `has_bit` meets its contract.
 use Rattle.num.specs.Marks.{bit}
 use Rattle.spec_index.specs.Query.{has_bit}
-use borrow.Author.Rules.{rules}
 use Rattle.log_index.proofs.query.has_bit.Goals as goal
 
 pub returns : goal.returns

@@ -1,9 +1,8 @@
 -- `list_found` meets its contract: after k turns the blocks below k are listed.
-use Prim.Native.Nat.{◌+◌, ◌-◌, ◌≤◌}
+use Prim.Native.Nat.{◌+◌, ◌-◌}
 use mathlib.Core.Path.{◌≡◌, refl, sym, ap, ◌∙◌}
 use native.Mathlib.Omega.{arith}
 use lib.ListN.{length}
-use Rattle.num.specs.Bytes.{splice}
 use Rattle.num.proofs.SpliceLaws.{splice-none}
 use Rattle.num.specs.Marks.{count_up_to}
 use Rattle.num.proofs.bits.CountLaws.{count_next}

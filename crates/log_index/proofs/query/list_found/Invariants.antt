@@ -1,17 +1,9 @@
 -- `list_found` meets its contract: after k turns the blocks below k are listed.
-use Prim.Native.Nat.{◌+◌, ◌-◌, ◌≤◌}
-use mathlib.Core.Path.{◌≡◌, refl, sym, ap, ◌∙◌}
-use native.Mathlib.Omega.{arith}
-use lib.ListN.{length}
+use Prim.Native.Nat.{◌-◌, ◌≤◌}
+use mathlib.Core.Path.{◌≡◌}
 use Rattle.num.specs.Bytes.{splice}
-use Rattle.num.proofs.SpliceLaws.{splice-none}
 use Rattle.num.specs.Marks.{count_up_to}
-use Rattle.num.proofs.bits.CountLaws.{count_next}
-use Rattle.spec_index.specs.Index.{index_words}
-use Rattle.spec_index.specs.Query.{has_bit, numbers_where, queried}
-use Rattle.spec_index.proofs.ListLaws.{count-mono}
-use Rattle.log_index.proofs.query.QueryLaws.{listed-turn, listed-held}
-use borrow.Author.Rules.{rules}
+use Rattle.spec_index.specs.Query.{has_bit, numbers_where}
 use Rattle.log_index.proofs.query.list_found.Given as goal
 
 abbrev pub invariant-loop-k : goal.invariant-loop-k

@@ -1,6 +1,5 @@
 -- `one_at` meets its contract.
 use mathlib.Core.Path.{◌∙◌, sym}
-use borrow.Author.Rules.{rules}
 use Rattle.log_index.proofs.query.one_at.Goals as goal
 
 pub returns-then-has_bit : goal.returns-then-has_bit

@@ -3,7 +3,6 @@ use Prim.Native.Nat.{◌*◌}
 use mathlib.Core.Path.{◌∙◌, sym}
 use native.Mathlib.Omega.{arith}
 use Rattle.num.proofs.SpliceLaws.{splice-none}
-use borrow.Author.Rules.{rules}
 use Rattle.log_index.proofs.query.put_found.Goals as goal
 
 pub put_u32-requires : goal.put_u32-requires

@@ -2,7 +2,6 @@
 use mathlib.Core.Path.{◌∙◌, sym}
 use Rattle.spec_index.specs.Answers.{lent_after}
 use Rattle.log_index.proofs.query.QueryLaws.{query-passed}
-use borrow.Author.Rules.{rules}
 use Rattle.log_index.proofs.query.query.Goals as goal
 
 pub list_found-requires : goal.list_found-requires

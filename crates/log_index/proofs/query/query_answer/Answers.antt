@@ -5,7 +5,6 @@ use Rattle.spec_index.specs.declared.Indexed.TheVariants.{Count}
 use Rattle.spec_index.specs.Index.{index_words}
 use Rattle.spec_index.specs.Answers.{query_answer}
 use Rattle.log_index.proofs.query.QueryLaws.{beside-refused, beside-differs, beside-passed, beside-next}
-use borrow.Author.Rules.{rules}
 use Rattle.log_index.proofs.query.query_answer.Goals as goal
 
 pub returns-then-log-ne0 : goal.returns-then-log-ne0

@@ -1,6 +1,5 @@
 -- `bank_field` meets its contract.
 use native.Mathlib.Omega.{arith}
-use borrow.Author.Rules.{rules}
 use Rattle.log_index.proofs.words.bank_field.Goals as goal
 
 pub returns-then-row : goal.returns-then-row

@@ -1,6 +1,5 @@
 -- `banks` meets its contract.
 use Rattle.num.proofs.bits.CountLaws.{ones_is}
-use borrow.Author.Rules.{rules}
 use Rattle.log_index.proofs.words.banks.Goals as goal
 
 pub returns : goal.returns

@@ -3,7 +3,6 @@ use Prim.Native.Nat.{◌+◌, ◌-◌, ◌*◌}
 use mathlib.Core.Path.{◌≡◌}
 use native.Mathlib.Omega.{arith}
 use Rattle.log_index.specs.Form.Fields.{fields_word}
-use borrow.Author.Rules.{rules}
 use Rattle.log_index.proofs.words.block_word.Goals as goal
 
 pub returns : goal.returns

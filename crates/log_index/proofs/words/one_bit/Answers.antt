@@ -1,7 +1,6 @@
 -- `one_bit` meets its contract.
 use lib.Dec.{eqb}
 use Rattle.log_index.proofs.words.WordLaws.{power-is, none_is}
-use borrow.Author.Rules.{rules}
 use Rattle.log_index.proofs.words.one_bit.Goals as goal
 
 pub returns-then-on : goal.returns-then-on

@@ -1,6 +1,5 @@
 -- `record_word` meets its contract: the fields are those of the record.
 use Rattle.log_index.specs.Form.Fields.{fields_at}
-use borrow.Author.Rules.{rules}
 use Rattle.log_index.proofs.words.record_word.Goals as goal
 
 pub returns : goal.returns

@@ -1,8 +1,7 @@
 -- `records_word` meets its contract: after i turns w is the word of the first i records.
-use Prim.Native.Nat.{◌-◌, ◌≤◌}
+use Prim.Native.Nat.{◌-◌}
 use mathlib.Core.Path.{◌≡◌}
 use native.Mathlib.Omega.{arith}
-use Rattle.log_index.specs.Form.Fields.{fields_up_to}
 use Rattle.log_index.proofs.words.WordLaws.{fields-none, fields-next}
 use borrow.Author.Rules.{rules}
 use Rattle.log_index.proofs.words.records_word.Goals as goal

@@ -4,7 +4,6 @@ use mathlib.Core.Path.{◌≡◌}
 use native.Mathlib.Omega.{arith}
 use Rattle.log_block.specs.Block.{used, block_at}
 use Rattle.log_block.proofs.ReadLaws.{used-part}
-use borrow.Author.Rules.{rules}
 use Rattle.log_list.proofs.copy.bad_in_block.Goals as goal
 
 pub returns : goal.returns

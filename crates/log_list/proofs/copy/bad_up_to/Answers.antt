@@ -5,7 +5,6 @@ use native.Mathlib.Omega.{arith}
 use borrow.Author.Tests.{eq-eqb, ne_eqb}
 use Rattle.log_block.specs.Block.{used, block_at}
 use Rattle.log_list.proofs.BadLaws.{bad-most}
-use borrow.Author.Rules.{rules}
 use Rattle.log_list.proofs.copy.bad_up_to.Goals as goal
 
 pub overflow_mul-first : goal.overflow_mul-first

@@ -1,6 +1,5 @@
 -- `blocks_or_full` meets its contract: the test is the definition's.
 use mathlib.Core.Path.{◌∙◌, sym}
-use borrow.Author.Rules.{rules}
 use Rattle.log_list.proofs.copy.blocks_or_full.Goals as goal
 
 pub returns-then-both : goal.returns-then-both

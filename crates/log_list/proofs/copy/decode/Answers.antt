@@ -4,7 +4,6 @@ use native.Mathlib.Omega.{arith}
 use Rattle.log_list.specs.Log.{decode_log, copied}
 use Rattle.log_list.proofs.CopyLaws.{decoded}
 use Rattle.log_block.proofs.ListThenLog.{list-whole}
-use borrow.Author.Rules.{rules}
 use Rattle.log_list.proofs.copy.decode.Goals as goal
 
 pub read_list-requires : goal.read_list-requires

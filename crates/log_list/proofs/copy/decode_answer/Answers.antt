@@ -1,10 +1,9 @@
 -- `decode_answer` meets its contract: the tests are the definition's, in their order.
 use Prim.Native.Nat.{◌/◌}
-use mathlib.Core.Path.{◌≡◌, ◌∙◌, sym}
+use mathlib.Core.Path.{◌∙◌, sym}
 use borrow.Author.Tests.{eq-eqb, ne_eqb, le-leb, lt-leb}
 use Rattle.log_list.specs.Log.{decode_answer}
 use Rattle.log_list.proofs.BadLaws.{bad-of-all}
-use borrow.Author.Rules.{rules}
 use Rattle.log_list.proofs.copy.decode_answer.Goals as goal
 
 pub returns-then-log-ne0 : goal.returns-then-log-ne0

@@ -2,7 +2,6 @@
 use mathlib.Core.Path.{◌∙◌, sym}
 use Rattle.log_list.specs.Log.{encode_log, copied}
 use Rattle.log_list.proofs.CopyLaws.{encoded}
-use borrow.Author.Rules.{rules}
 use Rattle.log_list.proofs.copy.encode.Goals as goal
 
 pub write_log-requires : goal.write_log-requires

@@ -2,7 +2,6 @@
 use mathlib.Core.Path.{◌∙◌, sym}
 use borrow.Author.Tests.{eq-eqb, ne_eqb}
 use Rattle.log_list.specs.Log.{encode_answer}
-use borrow.Author.Rules.{rules}
 use Rattle.log_list.proofs.copy.encode_answer.Goals as goal
 
 pub returns-then-list-ne0 : goal.returns-then-list-ne0

@@ -1,19 +1,10 @@
 -- `faults` meets its contract: the blocks before block k are right in every turn, and the first bad record of theirs is known.
-use Prim.Native.Nat.{ℕ, ◌+◌, ◌-◌, ◌<◌, ◌≤◌}
-use mathlib.Core.Path.{◌≡◌, refl, sym, ◌∙◌}
+use Prim.Native.Nat.{ℕ, ◌-◌, ◌<◌, ◌≤◌}
+use mathlib.Core.Path.{◌≡◌}
 use mathlib.Core.Bool.{true}
-use native.Mathlib.Omega.{arith}
-use lib.Dec.{eqb}
-use borrow.Author.Count.{below_more}
-use borrow.Author.Tests.{not-true, not-false}
-use Rattle.num.specs.Search.{first_false}
-use Rattle.num.proofs.SearchLaws.{first-at, first-none}
 use Rattle.record.specs.Record.{first_bad}
-use Rattle.log_block.specs.Block.{blocks_in, block_at, first_bad_block, list_up_to}
+use Rattle.log_block.specs.Block.{list_up_to}
 use Rattle.log_block.proofs.BlockLaws.{right_at}
-use Rattle.log_block.proofs.OneBlock.{right_of}
-use Rattle.log_list.proofs.BadLaws.{bad-next}
-use borrow.Author.Rules.{rules}
 use Rattle.log_list.proofs.copy.faults.Given as goal
 
 abbrev pub invariant-loop-k : goal.invariant-loop-k

@@ -5,7 +5,6 @@ use Rattle.log_list.specs.Log.{copied}
 use Rattle.log_block.proofs.ListThenLog.{list-whole}
 use Rattle.log_stamp.proofs.StampLaws.{fourteen}
 use Rattle.log_stamp.proofs.CopyLaws.{decoded}
-use borrow.Author.Rules.{rules}
 use Rattle.log_stamp.proofs.copy.decode.Goals as goal
 
 pub read_list-requires : goal.read_list-requires

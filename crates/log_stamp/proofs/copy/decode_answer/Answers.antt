@@ -1,12 +1,11 @@
 -- `decode_answer` meets its contract: the tests are the definition's, in their order.
-use mathlib.Core.Path.{◌≡◌, ◌∙◌, sym}
+use mathlib.Core.Path.{◌∙◌, sym}
 use borrow.Author.Tests.{eq-eqb, ne_eqb}
 use Rattle.log_list.specs.declared.Copied.TheVariants.{Refused}
 use Rattle.log_list.specs.Log.{records_or_full}
 use Rattle.log_block.specs.Block.{list_of}
 use Rattle.log_stamp.specs.Copy.{stamped_decode_answer}
 use Rattle.log_stamp.proofs.StampLaws.{fourteen, right-passed, right-refused, right-next}
-use borrow.Author.Rules.{rules}
 use Rattle.log_stamp.proofs.copy.decode_answer.Goals as goal
 
 pub returns-then-log-ne0 : goal.returns-then-log-ne0

@@ -1,7 +1,6 @@
 -- `records_or_full` meets its contract: the test is the definition's.
 use Prim.Native.Nat.{◌/◌}
 use borrow.Author.Tests.{le-leb, lt-leb}
-use borrow.Author.Rules.{rules}
 use Rattle.log_stamp.proofs.copy.records_or_full.Goals as goal
 
 pub returns-then-n-room : goal.returns-then-n-room

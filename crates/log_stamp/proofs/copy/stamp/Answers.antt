@@ -3,7 +3,6 @@ use mathlib.Core.Path.{◌∙◌, sym}
 use native.Mathlib.Omega.{arith}
 use Rattle.log_list.specs.Log.{copied}
 use Rattle.log_stamp.proofs.CopyLaws.{stamped}
-use borrow.Author.Rules.{rules}
 use Rattle.log_stamp.proofs.copy.stamp.Goals as goal
 
 pub write_moved-requires : goal.write_moved-requires

@@ -1,14 +1,12 @@
 -- `stamp_answer` meets its contract: the tests are the definition's, in their order.
-use mathlib.Core.Path.{◌≡◌, ◌∙◌, sym, ap}
+use mathlib.Core.Path.{◌∙◌, sym}
 use native.Mathlib.Omega.{arith}
 use borrow.Author.Tests.{eq-eqb, ne_eqb}
-use Rattle.log_list.specs.declared.Copied.TheVariants.{Refused}
 use Rattle.log_block.specs.Block.{blocks_in}
 use Rattle.log_index.proofs.make.MakeLaws.{fifteen, right-passed}
 use Rattle.log_stamp.proofs.moved.ChunkLaws.{records-few}
 use Rattle.log_stamp.specs.Copy.{stamp_answer}
 use Rattle.log_stamp.proofs.CopyLaws.{old-refused}
-use borrow.Author.Rules.{rules}
 use Rattle.log_stamp.proofs.copy.stamp_answer.Goals as goal
 
 pub returns-then-log-ne0 : goal.returns-then-log-ne0

@@ -3,7 +3,6 @@ use mathlib.Core.Path.{◌∙◌, sym, refl}
 use native.Mathlib.Omega.{arith}
 use Rattle.log_list.specs.Log.{copied}
 use Rattle.log_stamp.proofs.CopyLaws.{unstamped}
-use borrow.Author.Rules.{rules}
 use Rattle.log_stamp.proofs.copy.unstamp.Goals as goal
 
 pub write_moved-requires : goal.write_moved-requires

@@ -1,5 +1,5 @@
 -- `unstamp_answer` meets its contract: the tests are the definition's, in their order.
-use mathlib.Core.Path.{◌≡◌, ◌∙◌, sym}
+use mathlib.Core.Path.{◌∙◌, sym}
 use native.Mathlib.Omega.{arith}
 use borrow.Author.Tests.{eq-eqb, ne_eqb}
 use Rattle.log_list.specs.declared.Copied.TheVariants.{Refused}
@@ -8,7 +8,6 @@ use Rattle.log_block.specs.Block.{list_of}
 use Rattle.log_stamp.proofs.moved.ChunkLaws.{records-few}
 use Rattle.log_stamp.specs.Copy.{unstamp_answer}
 use Rattle.log_stamp.proofs.StampLaws.{fourteen, right-passed, right-refused, right-next}
-use borrow.Author.Rules.{rules}
 use Rattle.log_stamp.proofs.copy.unstamp_answer.Goals as goal
 
 pub returns-then-log-ne0 : goal.returns-then-log-ne0

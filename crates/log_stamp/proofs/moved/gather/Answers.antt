@@ -1,11 +1,9 @@
 -- `gather` meets its contract: the records stand in one block, or at the end of one and the start of the next.
-use mathlib.Core.Path.{◌≡◌, ◌∙◌, sym}
-use Prim.Native.Nat.{◌+◌, ◌-◌, ◌*◌, ◌%◌, ◌<◌, ◌≤◌}
+use Prim.Native.Nat.{◌-◌, ◌%◌, ◌<◌}
 use native.Mathlib.Nat.{mod-lt}
 use native.Mathlib.Omega.{arith}
 use Rattle.log_block.proofs.CountLaws.{Records}
 use Rattle.log_stamp.proofs.moved.ChunkLaws.{first-within, rest-within, gathered}
-use borrow.Author.Rules.{rules}
 use Rattle.log_stamp.proofs.moved.gather.Goals as goal
 
 pub overflow_sub-per : goal.overflow_sub-per

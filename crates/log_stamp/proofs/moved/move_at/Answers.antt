@@ -1,6 +1,6 @@
 -- `move_at` meets its contract: the lent part of the new log comes back as the block of its records.
 use mathlib.Core.Path.{◌≡◌, ◌∙◌}
-use Prim.Native.Nat.{◌+◌, ◌-◌, ◌*◌, ◌≤◌}
+use Prim.Native.Nat.{◌+◌, ◌-◌, ◌*◌}
 use native.Mathlib.Omega.{arith}
 use lib.ListN.{length}
 use Rattle.num.specs.Bytes.{part}
@@ -10,7 +10,6 @@ use Rattle.log_block.proofs.BlockLaws.{length-block, part-fits}
 use Rattle.log_block.proofs.WriteLaws.{part-back}
 use Rattle.log_block.proofs.ListThenLog.{list-whole}
 use Rattle.log_stamp.proofs.moved.ChunkLaws.{part-least}
-use borrow.Author.Rules.{rules}
 use Rattle.log_stamp.proofs.moved.move_at.Goals as goal
 
 pub returns : goal.returns

@@ -1,13 +1,12 @@
 -- `move_block` meets its contract: the records that were gathered are those that stand at the start.
 use Prim.Native.Nat.{◌+◌, ◌*◌}
-use mathlib.Core.Path.{◌≡◌, ◌∙◌, ap}
+use mathlib.Core.Path.{◌≡◌, ap}
 use native.Mathlib.Omega.{arith}
 use lib.ListN.{length, drop}
 use lib.Seq.{take_at}
 use Rattle.num.specs.Bytes.{part}
 use Rattle.num.proofs.PartLaws.{length_part}
 use Rattle.log_block.specs.Block.{block, list_of}
-use borrow.Author.Rules.{rules}
 use Rattle.log_stamp.proofs.moved.move_block.Goals as goal
 
 pub returns : goal.returns

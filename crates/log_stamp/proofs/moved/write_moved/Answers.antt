@@ -1,9 +1,8 @@
 -- `write_moved` meets its contract: after k turns the first k blocks are written.
 use mathlib.Core.Path.{◌≡◌, ◌∙◌, ap}
-use Prim.Native.Nat.{◌-◌, ◌/◌, ◌≤◌}
+use Prim.Native.Nat.{◌-◌}
 use native.Mathlib.Omega.{arith}
 use lib.ListN.{length}
-use Rattle.num.specs.Bytes.{splice}
 use Rattle.num.proofs.SpliceLaws.{splice-none}
 use Rattle.record.specs.Record.{records_in}
 use Rattle.log_block.specs.Block.{block_count, log_up_to, log_of, list_of}

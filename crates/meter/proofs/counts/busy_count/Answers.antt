@@ -6,7 +6,6 @@ use Rattle.meter.specs.Meter.{meter_of, busy_count}
 use Rattle.meter.proofs.ValidLaws.{valid-in}
 use Rattle.meter.proofs.CycleLaws.{busy-form}
 use Rattle.meter.proofs.RunLaws.{most-busy}
-use borrow.Author.Rules.{rules}
 use Rattle.meter.proofs.counts.busy_count.Goals as goal
 
 pub overflow_sub-result : goal.overflow_sub-result

@@ -1,7 +1,6 @@
 -- `meter::counts::share` meets its contract.
 use Rattle.meter.specs.Calls.{share_answered}
 use Rattle.meter.proofs.RunLaws.{most-counted}
-use borrow.Author.Rules.{rules}
 use Rattle.meter.proofs.counts.share.Goals as goal
 
 pub share_of-requires : goal.share_of-requires

@@ -3,11 +3,10 @@
 use Prim.Native.Nat.{◌+◌}
 use mathlib.Core.Path.{sym, ◌∙◌}
 use native.Mathlib.Omega.{arith}
-use borrow.Author.Tests.{le-leb, lt-leb, lt-ltb, le-ltb, not-true, not-false}
+use borrow.Author.Tests.{le-leb, lt-leb, lt-ltb, le-ltb}
 use Rattle.settings.specs.Instants.{horizon}
 use Rattle.meter.specs.Meter.{meter_of, feed_answer}
 use Rattle.meter.proofs.ValidLaws.{valid-in}
-use borrow.Author.Rules.{rules}
 use Rattle.meter.proofs.feeds.answer_to.Goals as goal
 
 pub returns-then-not-right : goal.returns-then-not-right

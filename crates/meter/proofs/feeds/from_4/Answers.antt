@@ -6,7 +6,6 @@ use native.Mathlib.Omega.{arith}
 use borrow.Author.Tests.{lt-ltb}
 use Rattle.num.proofs.SearchLaws.{all-intro}
 use Rattle.num.specs.Marks.{mark, aged, below}
-use borrow.Author.Rules.{rules}
 use Rattle.meter.proofs.feeds.from_4.Goals as goal
 
 pub returns-then-newest-lt3 : goal.returns-then-newest-lt3

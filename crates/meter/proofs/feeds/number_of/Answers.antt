@@ -1,6 +1,5 @@
 -- `meter::feeds::number_of` meets its contract: each arm is a case of the definition.
 use Rattle.meter.specs.Answer.{feed_number}
-use borrow.Author.Rules.{rules}
 use Rattle.meter.proofs.feeds.number_of.Goals as goal
 
 pub returns-in-Accepted : goal.returns-in-Accepted

@@ -1,6 +1,5 @@
 -- `meter::feeds::right` meets its contract.
 use Rattle.meter.specs.Meter.{meter_valid}
-use borrow.Author.Rules.{rules}
 use Rattle.meter.proofs.feeds.right.Goals as goal
 
 pub returns : goal.returns

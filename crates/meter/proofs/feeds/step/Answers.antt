@@ -9,7 +9,6 @@ use Rattle.meter.specs.declared.Meter.{Meter}
 use Rattle.meter.specs.Answer.{feed_number, feed_accepted}
 use Rattle.meter.specs.Meter.{feed_answer, advanced, feed_meter, fed_by}
 use Rattle.meter.proofs.RunLaws.{accepted-follows}
-use borrow.Author.Rules.{rules}
 use Rattle.meter.proofs.feeds.step.Goals as goal
 
 is-accepted : (m : Meter) (t : ℕ) → feed_number (feed_answer m t) ≡ 0 → feed_accepted (feed_answer m t) ≡ true

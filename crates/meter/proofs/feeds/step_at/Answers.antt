@@ -1,7 +1,6 @@
 -- `meter::feeds::step_at` meets its contract.
 use Rattle.meter.specs.Meter.{fed_by}
 use Rattle.meter.specs.Calls.{fed_answered}
-use borrow.Author.Rules.{rules}
 use Rattle.meter.proofs.feeds.step_at.Goals as goal
 
 pub returns : goal.returns

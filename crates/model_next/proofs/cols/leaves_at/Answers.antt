@@ -1,6 +1,5 @@
 -- `model_next::cols::leaves_at` meets its contract: each number is the one read.
 use Rattle.model_next.specs.Form.Next.{leaves_at}
-use borrow.Author.Rules.{rules}
 use Rattle.model_next.proofs.cols.leaves_at.Goals as goal
 
 pub returns : goal.returns

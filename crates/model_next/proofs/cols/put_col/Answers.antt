@@ -2,7 +2,6 @@
 use native.Mathlib.Omega.{arith}
 use Rattle.model_next.specs.Form.Next.{col_next}
 use Rattle.model_next.proofs.FitLaws.{wr-in, rd-in}
-use borrow.Author.Rules.{rules}
 use Rattle.model_next.proofs.cols.put_col.Goals as goal
 
 pub put_wr-requires : goal.put_wr-requires

@@ -3,7 +3,6 @@ use mathlib.Core.Path.{sym, ◌∙◌}
 use borrow.Author.Tests.{eq-eqb, ne_eqb}
 use lib.ListN.{get_or}
 use Rattle.model_next.specs.Form.Next.{data_next}
-use borrow.Author.Rules.{rules}
 use Rattle.model_next.proofs.cols.put_data.Goals as goal
 
 pub returns-then-count-eq2 : goal.returns-then-count-eq2

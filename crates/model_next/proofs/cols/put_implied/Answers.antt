@@ -1,5 +1,4 @@
 -- `model_next::cols::put_implied` meets its contract: by whether there is one.
-use borrow.Author.Rules.{rules}
 use Rattle.model_next.proofs.cols.put_implied.Goals as goal
 
 pub returns-then-implied : goal.returns-then-implied

@@ -1,6 +1,5 @@
 -- `model_next::cols::put_join` meets its contract: by whether another waits.
 use borrow.Author.Tests.{eq-eqb, ne_eqb}
-use borrow.Author.Rules.{rules}
 use Rattle.model_next.proofs.cols.put_join.Goals as goal
 
 pub returns-then-left-eq0 : goal.returns-then-left-eq0

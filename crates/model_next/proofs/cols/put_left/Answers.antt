@@ -8,9 +8,8 @@ use borrow.Author.Tests.{eqb-false}
 use lib.Dec.{eqb}
 use lib.ListN.{get_or}
 use Rattle.settings.specs.declared.Settings.{Settings}
-use Rattle.spec_rules.proofs.Bools.{and_left, not-passes, not-fails}
+use Rattle.spec_rules.proofs.Bools.{and_left, not-passes}
 use Rattle.model_next.specs.Form.Next.{leaves_at, left_next, left_count}
-use borrow.Author.Rules.{rules}
 use Rattle.model_next.proofs.cols.put_left.Goals as goal
 
 waiting : (s : Settings) (b : List ℕ) (t : ℕ) → leaves_at s b t ≡ true → eqb (get_or b 728 0) 0 ≡ false

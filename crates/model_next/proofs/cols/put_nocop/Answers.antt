@@ -1,5 +1,4 @@
 -- `model_next::cols::put_nocop` meets its contract: the retire, then the instants.
-use borrow.Author.Rules.{rules}
 use Rattle.model_next.proofs.cols.put_nocop.Goals as goal
 
 pub returns : goal.returns

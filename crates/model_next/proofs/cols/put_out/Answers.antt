@@ -1,6 +1,5 @@
 -- `model_next::cols::put_out` meets its contract: one store after the other.
 use Rattle.model_next.specs.Form.Next.{moved_up}
-use borrow.Author.Rules.{rules}
 use Rattle.model_next.proofs.cols.put_out.Goals as goal
 
 pub returns : goal.returns

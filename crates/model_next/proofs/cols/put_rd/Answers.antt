@@ -1,5 +1,4 @@
 -- `model_next::cols::put_rd` meets its contract: one store after the other.
-use borrow.Author.Rules.{rules}
 use Rattle.model_next.proofs.cols.put_rd.Goals as goal
 
 pub returns : goal.returns

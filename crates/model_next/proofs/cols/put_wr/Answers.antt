@@ -1,6 +1,5 @@
 -- `model_next::cols::put_wr` meets its contract: the retire, the write, then the instants.
 use Rattle.model_next.specs.Form.Next.{join_next}
-use borrow.Author.Rules.{rules}
 use Rattle.model_next.proofs.cols.put_wr.Goals as goal
 
 pub returns : goal.returns

@@ -1,6 +1,5 @@
 -- `model_next::rows::put_refa` meets its contract: the bank, then REFR.
 use Rattle.model_next.specs.Form.Next.{refa_next}
-use borrow.Author.Rules.{rules}
 use Rattle.model_next.proofs.rows.put_refa.Goals as goal
 
 pub returns : goal.returns

@@ -1,6 +1,5 @@
 -- `model_store::dualocts::dualoct_at` meets its contract: each number is the one read.
 use Rattle.model_store.specs.Form.Touch.{dualoct_in}
-use borrow.Author.Rules.{rules}
 use Rattle.model_store.proofs.dualocts.dualoct_at.Goals as goal
 
 pub returns : goal.returns

@@ -5,7 +5,6 @@ use Rattle.num.specs.Bytes.{bytes}
 use Rattle.num.proofs.ByteLaws.{length-bytes}
 use Rattle.num.proofs.SpliceLaws.{splice-more}
 use Rattle.spec_model.specs.Store.{dualoct_bytes}
-use borrow.Author.Rules.{rules}
 use Rattle.model_store.proofs.dualocts.put_dualoct.Goals as goal
 
 pub returns : goal.returns

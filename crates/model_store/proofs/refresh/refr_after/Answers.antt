@@ -5,7 +5,6 @@ use native.Mathlib.Omega.{arith}
 use borrow.Author.Tests.{eq-eqb, ne_eqb}
 use Rattle.spec_rules.specs.Neighbour.{context_of}
 use Rattle.spec_model.specs.Model.{refr_by}
-use borrow.Author.Rules.{rules}
 use Rattle.model_store.proofs.refresh.refr_after.Goals as goal
 
 pub returns-then-bank-ne31 : goal.returns-then-bank-ne31

@@ -1,6 +1,5 @@
 -- `model_store::touching::leave_touch` meets its contract: by whether the write leaves.
 use Rattle.model_store.specs.Form.Touch.{retire_touch}
-use borrow.Author.Rules.{rules}
 use Rattle.model_store.proofs.touching.leave_touch.Goals as goal
 
 pub returns-then-leaves : goal.returns-then-leaves

@@ -1,5 +1,4 @@
 -- `model_store::touching::place_of` meets its contract.
-use borrow.Author.Rules.{rules}
 use Rattle.model_store.proofs.touching.place_of.Goals as goal
 
 pub returns : goal.returns

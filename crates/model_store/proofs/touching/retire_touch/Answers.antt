@@ -8,7 +8,6 @@ use Rattle.spec_rules.specs.History.{only_write}
 use Rattle.spec_rules.specs.Channel.{waiting_of}
 use Rattle.model_store.specs.declared.Touch.TheVariants.{Nothing}
 use Rattle.model_store.specs.Form.Touch.{retire_touch}
-use borrow.Author.Rules.{rules}
 use Rattle.model_store.proofs.touching.retire_touch.Goals as goal
 
 -- where no write waits, none leaves

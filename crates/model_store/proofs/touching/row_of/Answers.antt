@@ -1,6 +1,5 @@
 -- `model_store::touching::row_of` meets its contract: by the state of the bank.
 use Rattle.spec_model.specs.Model.{open_row}
-use borrow.Author.Rules.{rules}
 use Rattle.model_store.proofs.touching.row_of.Goals as goal
 
 pub returns-in-Closed : goal.returns-in-Closed

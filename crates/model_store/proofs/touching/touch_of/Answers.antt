@@ -1,6 +1,5 @@
 -- `model_store::touching::touch_of` meets its contract: by the kind of the record.
 use Rattle.model_store.specs.Form.Touch.{touch_of}
-use borrow.Author.Rules.{rules}
 use Rattle.model_store.proofs.touching.touch_of.Goals as goal
 
 pub returns-in-RowAt : goal.returns-in-RowAt

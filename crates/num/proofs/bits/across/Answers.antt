@@ -1,6 +1,5 @@
 -- `num::bits::across` meets its contract.
 use Rattle.num.proofs.bits.AcrossLaws.{shifts-are-across}
-use borrow.Author.Rules.{rules}
 use Rattle.num.proofs.bits.across.Goals as goal
 
 pub returns : goal.returns

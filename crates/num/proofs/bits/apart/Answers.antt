@@ -1,10 +1,10 @@
 -- `num::bits::apart` meets its contract: right says whether the marks of the words passed so far stand alone, and low is the next word.
 use mathlib.Core.Path.{◌≡◌, refl, sym}
-use Prim.Native.Nat.{◌+◌, ◌-◌, ◌*◌, ◌≤◌}
+use Prim.Native.Nat.{◌+◌, ◌-◌}
 use native.Mathlib.Omega.{arith}
 use lib.ListN.{get_or, get_or-eq_default}
 use Rattle.num.specs.Search.{all_up_to}
-use Rattle.num.specs.Marks.{alone, all_apart}
+use Rattle.num.specs.Marks.{all_apart}
 use Rattle.num.proofs.bits.AcrossLaws.{lone-next}
 use borrow.Author.Rules.{rules}
 use Rattle.num.proofs.bits.apart.Goals as goal

@@ -1,12 +1,9 @@
 -- `num::bits::apart` meets its contract: right says whether the marks of the words passed so far stand alone, and low is the next word.
-use mathlib.Core.Path.{◌≡◌, refl, sym}
-use Prim.Native.Nat.{◌+◌, ◌-◌, ◌*◌, ◌≤◌}
-use native.Mathlib.Omega.{arith}
-use lib.ListN.{get_or, get_or-eq_default}
+use mathlib.Core.Path.{◌≡◌}
+use Prim.Native.Nat.{◌-◌, ◌*◌, ◌≤◌}
+use lib.ListN.{get_or}
 use Rattle.num.specs.Search.{all_up_to}
-use Rattle.num.specs.Marks.{alone, all_apart}
-use Rattle.num.proofs.bits.AcrossLaws.{lone-next}
-use borrow.Author.Rules.{rules}
+use Rattle.num.specs.Marks.{alone}
 use Rattle.num.proofs.bits.apart.Given as goal
 
 abbrev pub invariant-loop-k : goal.invariant-loop-k

@@ -1,7 +1,6 @@
 -- `num::bits::back` meets its contract.
 use borrow.Author.Tests.{lt-ltb, le-ltb}
 use Rattle.num.specs.Form.Across.{back}
-use borrow.Author.Rules.{rules}
 use Rattle.num.proofs.bits.back.Goals as goal
 
 pub returns-then-k-q : goal.returns-then-k-q

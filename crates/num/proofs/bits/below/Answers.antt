@@ -1,10 +1,10 @@
 -- `num::bits::below` meets its contract: right says whether the marks of the words passed so far are below n, and left is what n has
 -- past them.
 use mathlib.Core.Path.{◌≡◌, refl, sym}
-use Prim.Native.Nat.{◌-◌, ◌*◌, ◌≤◌}
+use Prim.Native.Nat.{◌-◌}
 use native.Mathlib.Omega.{arith}
 use Rattle.num.specs.Search.{all_up_to}
-use Rattle.num.specs.Marks.{aged, below}
+use Rattle.num.specs.Marks.{below}
 use Rattle.num.proofs.bits.AcrossLaws.{under_next}
 use borrow.Author.Rules.{rules}
 use Rattle.num.proofs.bits.below.Goals as goal

@@ -1,12 +1,7 @@
 -- `num::bits::count` meets its contract: n is the number of marks of the words passed so far.
-use mathlib.Core.Path.{◌≡◌, refl, sym}
+use mathlib.Core.Path.{◌≡◌}
 use Prim.Native.Nat.{◌-◌, ◌*◌, ◌≤◌}
-use native.Mathlib.Omega.{arith}
-use lib.Count.{ones-le}
-use lib.ListN.{get_or}
 use Rattle.num.specs.Marks.{mark, count_up_to}
-use Rattle.num.proofs.bits.CountLaws.{count_word_lem, count-le}
-use borrow.Author.Rules.{rules}
 use Rattle.num.proofs.bits.count.Given as goal
 
 abbrev pub invariant-loop-k : goal.invariant-loop-k

@@ -1,7 +1,6 @@
 -- `num::bits::first` meets its contract.
 use native.Mathlib.Nat.{div-one}
 use Rattle.num.specs.Marks.{bit, mark}
-use borrow.Author.Rules.{rules}
 use Rattle.num.proofs.bits.first.Goals as goal
 
 pub returns : goal.returns

@@ -1,6 +1,5 @@
 -- `num::bits::lone` meets its contract: the bits one, two and three ahead, and those of the low word, have none in common.
 use Rattle.num.proofs.bits.AcrossLaws.{and-is-lone}
-use borrow.Author.Rules.{rules}
 use Rattle.num.proofs.bits.lone.Goals as goal
 
 pub returns : goal.returns

@@ -4,7 +4,6 @@ use mathlib.Core.Path.{sym}
 use native.Mathlib.Omega.{arith}
 use Rattle.num.specs.Marks.{bit}
 use Rattle.num.proofs.bits.CountLaws.{bit_is}
-use borrow.Author.Rules.{rules}
 use Rattle.num.proofs.bits.one.Goals as goal
 
 pub returns : goal.returns

@@ -1,19 +1,10 @@
 -- `num::bits::pushed` meets its contract: the words written so far are those of the marks d later, and low is the word of those that
 -- stand q words later which comes before the next.
-use mathlib.Core.Path.{◌≡◌, refl, sym, ◌∙◌}
-use mathlib.Core.List.{[], ◌∷◌, ◌++◌}
-use Prim.Native.Nat.{ℕ, ◌+◌, ◌-◌, ◌*◌, ◌/◌, ◌%◌, ◌≤◌, ◌<◌}
-use native.Mathlib.Omega.{arith}
-use native.Mathlib.Numerals.{add-one}
-use lib.ListN.{length, take, set, length-set}
-use lib.Seq.{take-suc-set, take_all}
-use mathlib.Core.Bool.{Bool}
-use borrow.Author.Tests.{lt-ltb}
-use Rattle.num.specs.Marks.{mark, later, word, words, pushed}
-use Rattle.num.specs.Form.Across.{back, across}
-use Rattle.num.proofs.bits.MarkLaws.{words-next}
-use Rattle.num.proofs.bits.AcrossLaws.{across-back, back-next, mark-first}
-use borrow.Author.Rules.{rules}
+use mathlib.Core.Path.{◌≡◌}
+use Prim.Native.Nat.{◌+◌, ◌-◌, ◌≤◌}
+use lib.ListN.{length, take}
+use Rattle.num.specs.Marks.{mark, later, words}
+use Rattle.num.specs.Form.Across.{back}
 use Rattle.num.proofs.bits.pushed.Given as goal
 
 abbrev pub invariant-loop-k : goal.invariant-loop-k

@@ -1,7 +1,6 @@
 -- `num::bits::under` meets its contract.
 use mathlib.Core.Path.{sym}
 use Rattle.num.proofs.bits.AcrossLaws.{shift-is-under, all_under}
-use borrow.Author.Rules.{rules}
 use Rattle.num.proofs.bits.under.Goals as goal
 
 pub returns-then-n-lt64 : goal.returns-then-n-lt64

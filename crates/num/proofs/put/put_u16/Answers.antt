@@ -4,7 +4,6 @@ use native.Mathlib.Omega.{arith}
 use lib.ListN.{length-set}
 use Rattle.num.specs.Bytes.{bytes}
 use Rattle.num.proofs.SpliceLaws.{splice-two}
-use borrow.Author.Rules.{rules}
 use Rattle.num.proofs.put.put_u16.Goals as goal
 
 pub bounds-b-at-2 : goal.bounds-b-at-2

@@ -4,7 +4,6 @@ use native.Mathlib.Omega.{arith}
 use Rattle.num.specs.Bytes.{bytes}
 use Rattle.num.proofs.ByteLaws.{length-bytes, bytes-append}
 use Rattle.num.proofs.SpliceLaws.{splice-more}
-use borrow.Author.Rules.{rules}
 use Rattle.num.proofs.put.put_u64.Goals as goal
 
 pub returns : goal.returns

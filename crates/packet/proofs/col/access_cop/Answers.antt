@@ -1,7 +1,6 @@
 -- `access_cop` meets its contract: bit 2 is added where the bank is closed.
 use Rattle.packet.specs.Col.{close_bit}
 use native.Mathlib.Omega.{arith}
-use borrow.Author.Rules.{rules}
 use Rattle.packet.proofs.col.access_cop.Goals as goal
 
 pub returns-then-close : goal.returns-then-close

@@ -1,6 +1,5 @@
 -- `col_fits` meets its contract: each arm is the tests of the definition.
 use Rattle.packet.specs.Col.{col_fits}
-use borrow.Author.Rules.{rules}
 use Rattle.packet.proofs.col.col_fits.Goals as goal
 
 pub returns-in-Nocop : goal.returns-in-Nocop

@@ -1,7 +1,6 @@
 -- `col_of` meets its contract: the opcodes and the column are tested in the definition's order.
 use borrow.Author.Tests.{eq-eqb, ne_eqb, lt-ltb, le-ltb}
 use Rattle.packet.specs.Col.{col_of}
-use borrow.Author.Rules.{rules}
 use Rattle.packet.proofs.col.col_of.Goals as goal
 
 pub returns-then-cop : goal.returns-then-cop

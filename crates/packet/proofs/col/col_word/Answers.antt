@@ -1,6 +1,5 @@
 -- `col_word` meets its contract: each arm is `col_fields` at the packet's fields.
 use Rattle.packet.specs.Col.{col_word}
-use borrow.Author.Rules.{rules}
 use Rattle.packet.proofs.col.col_word.Goals as goal
 
 pub returns-in-Nocop : goal.returns-in-Nocop

@@ -1,8 +1,6 @@
 -- `decode_col` meets its contract: each return rewrites the definition with the tests that led to it.
-use borrow.Author.Tests.{not-true, not-false}
 use mathlib.Core.Path.{sym, ◌∙◌}
 use Rattle.packet.specs.Col.{col_decoded}
-use borrow.Author.Rules.{rules}
 use Rattle.packet.proofs.col.decode_col.Goals as goal
 
 pub returns-then-not-head_fits : goal.returns-then-not-head_fits

@@ -2,7 +2,6 @@
 use mathlib.Core.Bool.{true, false}
 use mathlib.Core.Path.{◌≡◌, sym, ◌∙◌}
 use Rattle.packet.specs.Col.{col_fits, col_coded}
-use borrow.Author.Rules.{rules}
 use Rattle.packet.proofs.col.encode_col.Goals as goal
 
 pub returns-then-col_fits : goal.returns-then-col_fits

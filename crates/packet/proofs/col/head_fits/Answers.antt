@@ -1,6 +1,5 @@
 -- `head_fits` meets its contract: the quotient and the bit are those of the contract.
 use borrow.Author.Tests.{eq-eqb, ne_eqb}
-use borrow.Author.Rules.{rules}
 use Rattle.packet.proofs.col.head_fits.Goals as goal
 
 pub returns-then-w-wide32 : goal.returns-then-w-wide32

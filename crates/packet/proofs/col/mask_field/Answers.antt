@@ -2,7 +2,6 @@
 use native.Mathlib.Omega.{arith}
 use borrow.Author.Tests.{eq-eqb, ne_eqb}
 use Rattle.packet.specs.Col.{mask_field}
-use borrow.Author.Rules.{rules}
 use Rattle.packet.proofs.col.mask_field.Goals as goal
 
 pub returns-then-mask-eq-FULL : goal.returns-then-mask-eq-FULL

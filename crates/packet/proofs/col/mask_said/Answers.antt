@@ -1,7 +1,6 @@
 -- `mask_said` meets its contract: the test on M picks the test on the bits below it.
 use borrow.Author.Tests.{eq-eqb, ne_eqb}
 use Rattle.packet.specs.Col.{mask_said}
-use borrow.Author.Rules.{rules}
 use Rattle.packet.proofs.col.mask_said.Goals as goal
 
 pub returns-then-m-eq1 : goal.returns-then-m-eq1

@@ -2,7 +2,6 @@
 use mathlib.Core.Path.{sym, ◌∙◌}
 use borrow.Author.Tests.{eq-eqb, ne_eqb, lt-ltb, le-ltb}
 use Rattle.packet.specs.Row.{row_decoded}
-use borrow.Author.Rules.{rules}
 use Rattle.packet.proofs.row.decode_row.Goals as goal
 
 pub returns-then-w-device_head : goal.returns-then-w-device_head

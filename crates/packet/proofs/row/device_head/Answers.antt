@@ -2,7 +2,6 @@
 use native.Mathlib.Omega.{arith}
 use borrow.Author.Tests.{lt-ltb, le-ltb}
 use Rattle.packet.specs.Row.{device_head}
-use borrow.Author.Rules.{rules}
 use Rattle.packet.proofs.row.device_head.Goals as goal
 
 pub returns-then-device-lt16 : goal.returns-then-device-lt16

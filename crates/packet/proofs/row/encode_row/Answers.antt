@@ -2,7 +2,6 @@
 use mathlib.Core.Bool.{true, false}
 use mathlib.Core.Path.{◌≡◌, sym, ◌∙◌}
 use Rattle.packet.specs.Row.{row_fits, row_coded}
-use borrow.Author.Rules.{rules}
 use Rattle.packet.proofs.row.encode_row.Goals as goal
 
 pub returns-then-row_fits : goal.returns-then-row_fits

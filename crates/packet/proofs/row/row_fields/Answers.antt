@@ -1,7 +1,6 @@
 -- `row_fields` meets its contract: each product is what `device_head` and `wide32` ensure, times a power of two.
 use native.Mathlib.Omega.{arith}
 use Rattle.packet.specs.Row.{row_fields}
-use borrow.Author.Rules.{rules}
 use Rattle.packet.proofs.row.row_fields.Goals as goal
 
 pub returns : goal.returns

@@ -1,7 +1,6 @@
 -- `row_fits` meets its contract: each arm is the tests of the definition, in their order.
 use borrow.Author.Tests.{lt-ltb, le-ltb}
 use Rattle.packet.specs.Row.{row_fits}
-use borrow.Author.Rules.{rules}
 use Rattle.packet.proofs.row.row_fits.Goals as goal
 
 pub returns-then-bank-lt32 : goal.returns-then-bank-lt32

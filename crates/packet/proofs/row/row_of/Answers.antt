@@ -1,7 +1,6 @@
 -- `row_of` meets its contract: the opcodes are tested in the definition's order.
 use borrow.Author.Tests.{eq-eqb, ne_eqb}
 use Rattle.packet.specs.Row.{row_of}
-use borrow.Author.Rules.{rules}
 use Rattle.packet.proofs.row.row_of.Goals as goal
 
 pub returns-then-rop : goal.returns-then-rop

@@ -1,6 +1,5 @@
 -- `row_word` meets its contract: each arm is `row_fields` at the packet's fields.
 use Rattle.packet.specs.Row.{row_word}
-use borrow.Author.Rules.{rules}
 use Rattle.packet.proofs.row.row_word.Goals as goal
 
 pub returns-in-Act : goal.returns-in-Act

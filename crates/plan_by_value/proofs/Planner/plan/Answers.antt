@@ -5,7 +5,6 @@ use Rattle.spec_rules.proofs.Bools.{and_left, and_right}
 use Rattle.spec_plan.specs.Call.{plan_outcome, plan_next, plan_records, plan_room}
 use Rattle.spec_rules.specs.Neighbour.{context_of}
 use Rattle.plan_by_value.specs.Call.{planning}
-use borrow.Author.Rules.{rules}
 use Rattle.plan_by_value.proofs.Planner.plan.Goals as goal
 
 pub answered-requires : goal.answered-requires

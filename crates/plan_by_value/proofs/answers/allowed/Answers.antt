@@ -1,5 +1,4 @@
 -- `plan_by_value::answers::allowed` meets its contract: both tests.
-use borrow.Author.Rules.{rules}
 use Rattle.plan_by_value.proofs.answers.allowed.Goals as goal
 
 pub returns : goal.returns

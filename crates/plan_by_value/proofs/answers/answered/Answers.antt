@@ -4,7 +4,6 @@ use lib.ListN.{length}
 use Rattle.spec_rules.specs.Neighbour.{context_of}
 use Rattle.spec_plan.specs.Call.{outcome_by}
 use Rattle.plan_by_value.proofs.AnswerLaws.{refused-keeps}
-use borrow.Author.Rules.{rules}
 use Rattle.plan_by_value.proofs.answers.answered.Goals as goal
 
 pub returns-in-Refused : goal.returns-in-Refused

@@ -2,7 +2,6 @@
 use mathlib.Core.Path.{sym, ◌∙◌}
 use lib.ListN.{length}
 use Rattle.plan_by_value.proofs.AnswerLaws.{refused-keeps, unretired-is}
-use borrow.Author.Rules.{rules}
 use Rattle.plan_by_value.proofs.answers.granted.Goals as goal
 
 pub returns-then-unretired : goal.returns-then-unretired

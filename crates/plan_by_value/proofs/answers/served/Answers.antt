@@ -6,7 +6,6 @@ use Rattle.num.specs.Bytes.{splice}
 use Rattle.spec_plan.specs.Call.{list_bytes}
 use Rattle.settings.proofs.SettingsLaws.{bounds}
 use Rattle.plan_by_value.proofs.AnswerLaws.{now-in-time, refused-keeps, late_is, count_most, full_is, made-is, next-is, records-are}
-use borrow.Author.Rules.{rules}
 use Rattle.plan_by_value.proofs.answers.served.Goals as goal
 
 pub planned-d-requires : goal.planned-d-requires

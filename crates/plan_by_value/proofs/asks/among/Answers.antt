@@ -1,5 +1,4 @@
 -- `plan_by_value::asks::among` meets its contract: by the banks that are meant.
-use borrow.Author.Rules.{rules}
 use Rattle.plan_by_value.proofs.asks.among.Goals as goal
 
 pub returns-in-Near : goal.returns-in-Near

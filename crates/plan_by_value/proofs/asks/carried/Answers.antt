@@ -1,7 +1,6 @@
 -- `plan_by_value::asks::carried` meets its contract: whether a write leaves.
 use mathlib.Core.Path.{◌∙◌}
 use Rattle.plan_by_value.proofs.CarryLaws.{carried-by}
-use borrow.Author.Rules.{rules}
 use Rattle.plan_by_value.proofs.asks.carried.Goals as goal
 
 pub returns-then-retires : goal.returns-then-retires

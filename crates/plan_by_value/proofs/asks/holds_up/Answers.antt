@@ -1,6 +1,5 @@
 -- `plan_by_value::asks::holds_up` meets its contract: by the writes that wait.
 use Rattle.plan_by_value.proofs.CarryLaws.{holds_by}
-use borrow.Author.Rules.{rules}
 use Rattle.plan_by_value.proofs.asks.holds_up.Goals as goal
 
 pub returns-in-Empty : goal.returns-in-Empty

@@ -1,7 +1,6 @@
 -- `plan_by_value::asks::implied_delay` meets its contract: by what code sees of the older write.
 use mathlib.Core.Path.{◌∙◌}
 use Rattle.plan_by_value.proofs.CarryLaws.{implied-by}
-use borrow.Author.Rules.{rules}
 use Rattle.plan_by_value.proofs.asks.implied_delay.Goals as goal
 
 pub returns-then-retires-h : goal.returns-then-retires-h

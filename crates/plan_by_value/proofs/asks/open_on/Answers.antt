@@ -1,5 +1,4 @@
 -- `plan_by_value::asks::open_on` meets its contract: of the state of that bank.
-use borrow.Author.Rules.{rules}
 use Rattle.plan_by_value.proofs.asks.open_on.Goals as goal
 
 pub returns : goal.returns

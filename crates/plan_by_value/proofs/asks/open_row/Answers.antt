@@ -1,5 +1,4 @@
 -- `plan_by_value::asks::open_row` meets its contract: by the state of the bank.
-use borrow.Author.Rules.{rules}
 use Rattle.plan_by_value.proofs.asks.open_row.Goals as goal
 
 pub returns-in-Closed : goal.returns-in-Closed

@@ -1,5 +1,4 @@
 -- `plan_by_value::asks::reads` meets its contract: by what is sent next.
-use borrow.Author.Rules.{rules}
 use Rattle.plan_by_value.proofs.asks.reads.Goals as goal
 
 pub returns-in-Prer : goal.returns-in-Prer

@@ -1,7 +1,6 @@
 -- `plan_by_value::asks::shifted` meets its contract: whether a write leaves.
 use mathlib.Core.Path.{◌∙◌}
 use Rattle.plan_by_value.proofs.CarryLaws.{shifted_by}
-use borrow.Author.Rules.{rules}
 use Rattle.plan_by_value.proofs.asks.shifted.Goals as goal
 
 pub returns-then-retires : goal.returns-then-retires

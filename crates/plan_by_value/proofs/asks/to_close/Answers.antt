@@ -1,5 +1,4 @@
 -- `plan_by_value::asks::to_close` meets its contract: of the track of that bank.
-use borrow.Author.Rules.{rules}
 use Rattle.plan_by_value.proofs.asks.to_close.Goals as goal
 
 pub returns : goal.returns

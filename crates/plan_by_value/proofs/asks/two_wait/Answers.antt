@@ -1,6 +1,5 @@
 -- `plan_by_value::asks::two_wait` meets its contract: by the state of the buffer.
 use Rattle.spec_rules.specs.Channel.{waiting_of}
-use borrow.Author.Rules.{rules}
 use Rattle.plan_by_value.proofs.asks.two_wait.Goals as goal
 
 pub returns-in-Empty : goal.returns-in-Empty

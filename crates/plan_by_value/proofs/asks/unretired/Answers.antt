@@ -1,6 +1,5 @@
 -- `plan_by_value::asks::unretired` meets its contract: by the request.
 use Rattle.spec_plan.specs.Call.{unretired}
-use borrow.Author.Rules.{rules}
 use Rattle.plan_by_value.proofs.asks.unretired.Goals as goal
 
 pub returns-in-Read : goal.returns-in-Read

@@ -1,6 +1,5 @@
 -- `plan_by_value::drafts::added` meets its contract: field by field.
 use Rattle.plan_by_value.specs.Form.Drawn.{added_to}
-use borrow.Author.Rules.{rules}
 use Rattle.plan_by_value.proofs.drafts.added.Goals as goal
 
 pub returns : goal.returns

@@ -1,6 +1,5 @@
 -- `plan_by_value::drafts::put_in` meets its contract: the test of the code is that of the definition.
 use borrow.Author.Tests.{lt-ltb, le-ltb}
-use borrow.Author.Rules.{rules}
 use Rattle.plan_by_value.proofs.drafts.put_in.Goals as goal
 
 pub returns-then-n-lt32 : goal.returns-then-n-lt32

@@ -1,6 +1,5 @@
 -- `plan_by_value::drafts::turned` meets its contract: the next bank, modulo 32.
 use Rattle.plan_by_value.proofs.StepLaws.{draws-turned}
-use borrow.Author.Rules.{rules}
 use Rattle.plan_by_value.proofs.drafts.turned.Goals as goal
 
 pub returns : goal.returns

@@ -1,6 +1,5 @@
 -- `plan_by_value::drafts::waited` meets its contract: the sum in 64 bits, clipped.
 use Rattle.plan_by_value.proofs.StepLaws.{draws-waited}
-use borrow.Author.Rules.{rules}
 use Rattle.plan_by_value.proofs.drafts.waited.Goals as goal
 
 pub returns : goal.returns

@@ -1,6 +1,5 @@
 -- `plan_by_value::packets::col_delay` meets its contract: by the command.
 use Rattle.spec_rules.specs.Neighbour.{context_of}
-use borrow.Author.Rules.{rules}
 use Rattle.plan_by_value.proofs.packets.col_delay.Goals as goal
 
 pub returns-in-Nocop : goal.returns-in-Nocop

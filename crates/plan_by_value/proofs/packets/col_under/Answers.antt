@@ -1,5 +1,4 @@
 -- `plan_by_value::packets::col_under` meets its contract: by the command.
-use borrow.Author.Rules.{rules}
 use Rattle.plan_by_value.proofs.packets.col_under.Goals as goal
 
 pub returns-in-Nocop : goal.returns-in-Nocop

@@ -1,6 +1,5 @@
 -- `plan_by_value::packets::data_delay` meets its contract: by the pins.
 use Rattle.spec_rules.specs.Rules.{longest_delay}
-use borrow.Author.Rules.{rules}
 use Rattle.plan_by_value.proofs.packets.data_delay.Goals as goal
 
 pub returns-in-Row : goal.returns-in-Row

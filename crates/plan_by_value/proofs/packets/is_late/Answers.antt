@@ -5,7 +5,6 @@ use mathlib.Core.Bool.{Bool, true, false, not}
 use lib.Dec.{leb, ltb}
 use borrow.Author.Tests.{leb-true, leb-false, lt-leb, lt-ltb, le-ltb}
 use native.Mathlib.Omega.{arith}
-use borrow.Author.Rules.{rules}
 use Rattle.plan_by_value.proofs.packets.is_late.Goals as goal
 
 above : (a b : ℕ) → ltb a b ≡ not (leb b a)

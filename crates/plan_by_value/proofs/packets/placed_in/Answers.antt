@@ -1,5 +1,4 @@
 -- `plan_by_value::packets::placed_in` meets its contract: the mask of what leaves at that instant.
-use borrow.Author.Rules.{rules}
 use Rattle.plan_by_value.proofs.packets.placed_in.Goals as goal
 
 pub returns : goal.returns

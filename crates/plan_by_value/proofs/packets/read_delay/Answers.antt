@@ -1,5 +1,4 @@
 -- `plan_by_value::packets::read_delay` meets its contract: by whether the read closes its bank.
-use borrow.Author.Rules.{rules}
 use Rattle.plan_by_value.proofs.packets.read_delay.Goals as goal
 
 pub returns-then-close : goal.returns-then-close

@@ -1,6 +1,5 @@
 -- `plan_by_value::packets::record_at` meets its contract: by the pins.
 use Rattle.spec_rules.specs.Earliest.{placed_at}
-use borrow.Author.Rules.{rules}
 use Rattle.plan_by_value.proofs.packets.record_at.Goals as goal
 
 pub returns-in-Row : goal.returns-in-Row

@@ -1,6 +1,5 @@
 -- `plan_by_value::packets::under_mask` meets its contract: by the pins.
 use Rattle.spec_rules.specs.Earliest.{under}
-use borrow.Author.Rules.{rules}
 use Rattle.plan_by_value.proofs.packets.under_mask.Goals as goal
 
 pub returns-in-Row : goal.returns-in-Row

@@ -1,5 +1,5 @@
 -- `plan_by_value::ranges::apart` meets its contract: the banks before x and those below them.
-use Prim.Native.Nat.{◌-◌, ◌≤◌}
+use Prim.Native.Nat.{◌-◌}
 use mathlib.Core.Path.{◌≡◌, refl, sym, ◌∙◌, ap₂}
 use mathlib.Core.Bool.{◌&&◌}
 use native.Mathlib.Omega.{arith}
@@ -8,9 +8,7 @@ use Rattle.num.proofs.SearchLaws.{all-next}
 use Rattle.spec_rules.specs.Neighbour.{bank_count}
 use lib.ListN.{length}
 use Rattle.chan_view.proofs.PlaceLaws.{length-of-map}
-use Rattle.plan_by_value.specs.Form.Tested.{low_apart}
 use Rattle.plan_by_value.proofs.RangeLaws.{lows-apart}
-use borrow.Author.Rules.{rules}
 use Rattle.plan_by_value.proofs.ranges.apart.Goals as goal
 
 pub loop-x-init : goal.loop-x-init

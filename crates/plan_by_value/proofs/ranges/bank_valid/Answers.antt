@@ -1,7 +1,6 @@
 -- `plan_by_value::ranges::bank_valid` meets its contract: by the state of the bank.
 use Rattle.spec_rules.specs.Neighbour.{context_of}
 use Rattle.spec_state.specs.Valid.{bank_valid}
-use borrow.Author.Rules.{rules}
 use Rattle.plan_by_value.proofs.ranges.bank_valid.Goals as goal
 
 pub returns-in-Closed : goal.returns-in-Closed

@@ -5,7 +5,6 @@ use lib.ListN.{length}
 use Rattle.spec_rules.specs.Neighbour.{bank_count}
 use Rattle.spec_state.specs.Valid.{channel_valid}
 use Rattle.chan_view.proofs.PlaceLaws.{length-of-map}
-use borrow.Author.Rules.{rules}
 use Rattle.plan_by_value.proofs.ranges.channel_valid.Goals as goal
 
 pub returns : goal.returns

@@ -1,5 +1,4 @@
 -- `plan_by_value::ranges::is_stamp` meets its contract: the test is that of the definition.
-use borrow.Author.Rules.{rules}
 use Rattle.plan_by_value.proofs.ranges.is_stamp.Goals as goal
 
 pub returns : goal.returns

@@ -2,7 +2,6 @@
 use mathlib.Core.Path.{◌≡◌}
 use lib.ListN.{length}
 use Rattle.chan_view.proofs.PlaceLaws.{length-of-map, slot_read}
-use borrow.Author.Rules.{rules}
 use Rattle.plan_by_value.proofs.ranges.low_apart.Goals as goal
 
 pub returns : goal.returns

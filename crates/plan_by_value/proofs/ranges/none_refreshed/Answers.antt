@@ -1,14 +1,11 @@
 -- `plan_by_value::ranges::none_refreshed` meets its contract: no bank before x is under refresh.
-use Prim.Native.Nat.{◌-◌, ◌≤◌}
+use Prim.Native.Nat.{◌-◌}
 use mathlib.Core.Path.{◌≡◌, refl, sym, ◌∙◌, ap₂}
 use mathlib.Core.Bool.{◌&&◌}
 use native.Mathlib.Omega.{arith}
 use Rattle.num.specs.Search.{all_up_to}
 use Rattle.num.proofs.SearchLaws.{all-next}
 use Rattle.spec_rules.specs.Neighbour.{bank_count}
-use Rattle.spec_rules.specs.Channel.{state_of}
-use Rattle.spec_plan.specs.Planner.{not_refresh}
-use borrow.Author.Rules.{rules}
 use Rattle.plan_by_value.proofs.ranges.none_refreshed.Goals as goal
 
 pub loop-x-init : goal.loop-x-init

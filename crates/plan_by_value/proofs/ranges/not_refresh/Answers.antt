@@ -1,6 +1,5 @@
 -- `plan_by_value::ranges::not_refresh` meets its contract: by the state of the bank.
 use Rattle.spec_plan.specs.Planner.{not_refresh}
-use borrow.Author.Rules.{rules}
 use Rattle.plan_by_value.proofs.ranges.not_refresh.Goals as goal
 
 pub returns-in-Closed : goal.returns-in-Closed

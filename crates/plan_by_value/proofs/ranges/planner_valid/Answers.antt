@@ -1,7 +1,6 @@
 -- `plan_by_value::ranges::planner_valid` meets its contract: the answers, from the last to the first.
 use Rattle.spec_rules.specs.Neighbour.{bank_count}
 use Rattle.spec_plan.specs.Planner.{planner_valid}
-use borrow.Author.Rules.{rules}
 use Rattle.plan_by_value.proofs.ranges.planner_valid.Goals as goal
 
 pub returns : goal.returns

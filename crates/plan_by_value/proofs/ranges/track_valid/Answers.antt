@@ -1,6 +1,5 @@
 -- `plan_by_value::ranges::track_valid` meets its contract: the answers, from the last to the first.
 use Rattle.spec_state.specs.Valid.{track_valid}
-use borrow.Author.Rules.{rules}
 use Rattle.plan_by_value.proofs.ranges.track_valid.Goals as goal
 
 pub returns : goal.returns

@@ -1,14 +1,10 @@
 -- `plan_by_value::ranges::tracks_valid` meets its contract: the banks before x are in range.
 use Prim.Native.Nat.{◌-◌, ◌≤◌}
-use mathlib.Core.Path.{◌≡◌, refl, sym, ◌∙◌, ap₂}
-use mathlib.Core.Bool.{◌&&◌}
-use native.Mathlib.Omega.{arith}
+use mathlib.Core.Path.{◌≡◌}
 use Rattle.num.specs.Search.{all_up_to}
-use Rattle.num.proofs.SearchLaws.{all-next}
-use Rattle.spec_rules.specs.Neighbour.{bank_count, context_of}
+use Rattle.spec_rules.specs.Neighbour.{context_of}
 use Rattle.spec_rules.specs.Channel.{track_of}
 use Rattle.spec_state.specs.Valid.{track_valid}
-use borrow.Author.Rules.{rules}
 use Rattle.plan_by_value.proofs.ranges.tracks_valid.Given as goal
 
 abbrev pub invariant-loop-x : goal.invariant-loop-x

@@ -1,6 +1,5 @@
 -- `plan_by_value::ranges::waits` meets its contract: by the state of the buffer.
 use Rattle.spec_rules.specs.Channel.{waiting_of}
-use borrow.Author.Rules.{rules}
 use Rattle.plan_by_value.proofs.ranges.waits.Goals as goal
 
 pub returns-in-Empty : goal.returns-in-Empty

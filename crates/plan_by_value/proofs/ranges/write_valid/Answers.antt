@@ -1,7 +1,6 @@
 -- `plan_by_value::ranges::write_valid` meets its contract: the tests are those of the definition.
 use Rattle.spec_rules.specs.Neighbour.{bank_count, context_of}
 use Rattle.spec_state.specs.Valid.{write_valid}
-use borrow.Author.Rules.{rules}
 use Rattle.plan_by_value.proofs.ranges.write_valid.Goals as goal
 
 pub returns : goal.returns

@@ -2,7 +2,6 @@
 use mathlib.Core.Path.{sym, ◌∙◌}
 use mathlib.Core.Bool.{and-true}
 use Rattle.spec_rules.specs.Channel.{waiting_of}
-use borrow.Author.Rules.{rules}
 use Rattle.plan_by_value.proofs.ranges.writes_open.Goals as goal
 
 pub returns-in-Empty : goal.returns-in-Empty

@@ -1,13 +1,9 @@
 -- `plan_by_value::records::put_list` meets its contract: the records before i are put.
 use Prim.Native.Nat.{◌-◌, ◌≤◌}
-use mathlib.Core.Path.{◌≡◌, ◌∙◌, ap}
-use native.Mathlib.Omega.{arith}
-use lib.ListN.{length}
+use mathlib.Core.Path.{◌≡◌}
 use Rattle.num.specs.Bytes.{splice}
 use Rattle.spec_plan.specs.Call.{list_bytes}
 use Rattle.plan_by_value.specs.Form.Drawn.{records_of}
-use Rattle.plan_by_value.proofs.RoomLaws.{put-none, put-turn, length-put}
-use borrow.Author.Rules.{rules}
 use Rattle.plan_by_value.proofs.records.put_list.Given as goal
 
 abbrev pub invariant-loop-i : goal.invariant-loop-i

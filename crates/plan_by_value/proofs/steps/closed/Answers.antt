@@ -1,6 +1,5 @@
 -- `plan_by_value::steps::closed` meets its contract: one step after the other.
 use Rattle.spec_plan.specs.Plan.{closed}
-use borrow.Author.Rules.{rules}
 use Rattle.plan_by_value.proofs.steps.closed.Goals as goal
 
 pub returns : goal.returns

@@ -1,14 +1,9 @@
 -- `plan_by_value::steps::closed_up_to` meets its contract: what is closed of the banks below x, in every turn.
 use Prim.Native.Nat.{◌-◌, ◌≤◌}
-use mathlib.Core.Path.{◌≡◌}
-use mathlib.Core.Logic.{⊎_elim}
-use native.Mathlib.Omega.{arith}
-use Rattle.spec_rules.specs.Neighbour.{bank_count, context_of}
+use Rattle.spec_rules.specs.Neighbour.{context_of}
 use Rattle.spec_plan.specs.declared.PlannerState.{PlannerState}
 use Rattle.spec_plan.specs.Plan.{Draft, closed_up_to}
 use Rattle.plan_by_value.specs.Form.Drawn.{Draws, bank_in}
-use Rattle.plan_by_value.proofs.StepLaws.{up-to-next, up-to-none, draws-turn}
-use borrow.Author.Rules.{rules}
 use Rattle.plan_by_value.proofs.steps.closed_up_to.Given as goal
 
 abbrev pub invariant-loop-x : goal.invariant-loop-x

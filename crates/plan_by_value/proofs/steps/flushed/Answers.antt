@@ -1,6 +1,5 @@
 -- `plan_by_value::steps::flushed` meets its contract: a NOCOP sent.
 use Rattle.spec_plan.specs.Plan.{flushed}
-use borrow.Author.Rules.{rules}
 use Rattle.plan_by_value.proofs.steps.flushed.Goals as goal
 
 pub returns : goal.returns

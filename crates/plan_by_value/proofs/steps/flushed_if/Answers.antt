@@ -1,7 +1,6 @@
 -- `plan_by_value::steps::flushed_if` meets its contract: NOCOP where the waiting writes ask for one.
 use Rattle.plan_by_value.specs.Form.Drawn.{holds_up}
 use Rattle.plan_by_value.proofs.StepLaws.{draws-flushed}
-use borrow.Author.Rules.{rules}
 use Rattle.plan_by_value.proofs.steps.flushed_if.Goals as goal
 
 pub returns-then-holds_up : goal.returns-then-holds_up

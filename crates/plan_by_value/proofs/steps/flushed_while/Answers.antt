@@ -1,6 +1,5 @@
 -- `plan_by_value::steps::flushed_while` meets its contract: one NOCOP, then another, where they are asked for.
 use Rattle.spec_plan.specs.Plan.{flushed_while}
-use borrow.Author.Rules.{rules}
 use Rattle.plan_by_value.proofs.steps.flushed_while.Goals as goal
 
 pub returns : goal.returns

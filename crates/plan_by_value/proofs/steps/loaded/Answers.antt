@@ -5,7 +5,6 @@ use Rattle.chan_view.proofs.PlaceLaws.{length-of-map}
 use Rattle.plan_by_value.proofs.StepLaws.{arrival-in, draws-unloaded, draws-loaded}
 use native.Mathlib.Omega.{arith}
 use Rattle.spec_rules.specs.Packets.{instant}
-use borrow.Author.Rules.{rules}
 use Rattle.plan_by_value.proofs.steps.loaded.Goals as goal
 
 pub returns-in_default : goal.returns-in_default

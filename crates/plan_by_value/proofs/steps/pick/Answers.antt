@@ -1,5 +1,4 @@
 -- `plan_by_value::steps::pick` meets its contract: by the test.
-use borrow.Author.Rules.{rules}
 use Rattle.plan_by_value.proofs.steps.pick.Goals as goal
 
 pub returns-then-test : goal.returns-then-test

@@ -1,6 +1,5 @@
 -- `plan_by_value::steps::planned` meets its contract: by the request.
 use Rattle.spec_plan.specs.Plan.{steps_of, planned}
-use borrow.Author.Rules.{rules}
 use Rattle.plan_by_value.proofs.steps.planned.Goals as goal
 
 pub returns-in-Read : goal.returns-in-Read

@@ -1,6 +1,5 @@
 -- `plan_by_value::steps::planned_close` meets its contract: its one step is the definition's.
 use Rattle.spec_plan.specs.Plan.{planned_close}
-use borrow.Author.Rules.{rules}
 use Rattle.plan_by_value.proofs.steps.planned_close.Goals as goal
 
 pub returns : goal.returns

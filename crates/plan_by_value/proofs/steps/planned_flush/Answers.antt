@@ -1,6 +1,5 @@
 -- `plan_by_value::steps::planned_flush` meets its contract: its one step is the definition's.
 use Rattle.spec_plan.specs.Plan.{planned_flush}
-use borrow.Author.Rules.{rules}
 use Rattle.plan_by_value.proofs.steps.planned_flush.Goals as goal
 
 pub returns : goal.returns

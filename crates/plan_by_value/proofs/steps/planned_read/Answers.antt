@@ -3,7 +3,6 @@ use Rattle.spec_plan.specs.Plan.{reached, planned_read}
 use Rattle.spec_rules.specs.Neighbour.{context_of}
 use Rattle.plan_by_value.proofs.CarryLaws.{reads-hold}
 use Rattle.plan_by_value.proofs.StepLaws.{while-ext}
-use borrow.Author.Rules.{rules}
 use Rattle.plan_by_value.proofs.steps.planned_read.Goals as goal
 
 pub returns : goal.returns

@@ -3,7 +3,6 @@ use Rattle.spec_plan.specs.declared.PlannerState.{PlannerState}
 use Rattle.spec_plan.specs.Plan.{planned_refresh}
 use Rattle.plan_by_value.proofs.DrawLaws.{draws_by}
 use Rattle.plan_by_value.proofs.StepLaws.{refreshed, refreshed-grows}
-use borrow.Author.Rules.{rules}
 use Rattle.plan_by_value.proofs.steps.planned_refresh.Goals as goal
 
 pub returns : goal.returns

@@ -1,6 +1,5 @@
 -- `plan_by_value::steps::planned_write` meets its contract: one step after the other.
 use Rattle.spec_plan.specs.Plan.{planned_write}
-use borrow.Author.Rules.{rules}
 use Rattle.plan_by_value.proofs.steps.planned_write.Goals as goal
 
 pub returns : goal.returns

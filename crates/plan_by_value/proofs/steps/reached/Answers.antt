@@ -1,6 +1,5 @@
 -- `plan_by_value::steps::reached` meets its contract: nothing where the row is open.
 use Rattle.plan_by_value.proofs.StepLaws.{draws-reached}
-use borrow.Author.Rules.{rules}
 use Rattle.plan_by_value.proofs.steps.reached.Goals as goal
 
 pub returns-then-open_on : goal.returns-then-open_on

@@ -6,7 +6,6 @@ use Rattle.spec_plan.specs.Plan.{slot}
 use Rattle.plan_by_value.specs.Form.Drawn.{packet_of}
 use Rattle.plan_by_value.proofs.StepLaws.{placed-in-range, unplaced, draws-sent}
 use native.Mathlib.Omega.{arith}
-use borrow.Author.Rules.{rules}
 use Rattle.plan_by_value.proofs.steps.sent.Goals as goal
 
 pub after-next-requires : goal.after-next-requires

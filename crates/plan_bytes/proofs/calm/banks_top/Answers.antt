@@ -1,5 +1,5 @@
 -- `plan_bytes::calm::banks_top` meets its contract.
-use Prim.Native.Nat.{◌*◌, ◌-◌, ◌≤◌}
+use Prim.Native.Nat.{◌*◌, ◌-◌}
 use mathlib.Core.Path.{◌≡◌, refl}
 use native.Mathlib.Omega.{arith}
 use Rattle.spec_rules.specs.Checks.{max_up_to}

@@ -1,11 +1,7 @@
 -- `plan_bytes::calm::banks_top` meets its contract.
 use Prim.Native.Nat.{◌*◌, ◌-◌, ◌≤◌}
-use mathlib.Core.Path.{◌≡◌, refl}
-use native.Mathlib.Omega.{arith}
 use Rattle.spec_rules.specs.Checks.{max_up_to}
 use Rattle.plan_bytes.specs.Form.Numbers.{word}
-use Rattle.plan_bytes.proofs.calm.CalmLaws.{or_step}
-use borrow.Author.Rules.{rules}
 use Rattle.plan_bytes.proofs.calm.banks_top.Given as goal
 
 abbrev pub invariant-loop-i : goal.invariant-loop-i

@@ -1,7 +1,6 @@
 -- `plan_bytes::calm::calm` meets its contract.
 use Rattle.plan_bytes.specs.Form.Calm.{is_calm}
 use Rattle.plan_bytes.proofs.calm.CalmLaws.{low-calm}
-use borrow.Author.Rules.{rules}
 use Rattle.plan_bytes.proofs.calm.calm.Goals as goal
 
 pub returns-then-top-lt536870912 : goal.returns-then-top-lt536870912

@@ -1,6 +1,5 @@
 -- `plan_bytes::calm::highest` meets its contract.
 use Rattle.plan_bytes.specs.Form.Calm.{highest_in}
-use borrow.Author.Rules.{rules}
 use Rattle.plan_bytes.proofs.calm.highest.Goals as goal
 
 pub returns : goal.returns

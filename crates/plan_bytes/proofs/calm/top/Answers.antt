@@ -1,6 +1,5 @@
 -- `plan_bytes::calm::top` meets its contract.
 use Rattle.plan_bytes.proofs.calm.CalmLaws.{or-highest}
-use borrow.Author.Rules.{rules}
 use Rattle.plan_bytes.proofs.calm.top.Goals as goal
 
 pub returns : goal.returns

@@ -1,6 +1,5 @@
 -- `plan_in_place::requests::close` meets its contract.
 use Rattle.plan_in_place.proofs.Planned.{close-fits}
-use borrow.Author.Rules.{rules}
 use Rattle.plan_in_place.proofs.requests.close.Goals as goal
 
 pub close_all-requires : goal.close_all-requires

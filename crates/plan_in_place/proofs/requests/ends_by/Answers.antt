@@ -1,5 +1,4 @@
 -- `plan_in_place::requests::ends_by` meets its contract.
-use borrow.Author.Rules.{rules}
 use Rattle.plan_in_place.proofs.requests.ends_by.Goals as goal
 
 pub returns : goal.returns

@@ -3,7 +3,6 @@ use native.Mathlib.Omega.{arith}
 use Rattle.spec_plan.specs.Plan.{planned_flush}
 use Rattle.plan_bytes.proofs.Again.{rested-more}
 use Rattle.plan_in_place.proofs.Planned.{emptied-fits}
-use borrow.Author.Rules.{rules}
 use Rattle.plan_in_place.proofs.requests.flush.Goals as goal
 
 pub flush_all-requires : goal.flush_all-requires

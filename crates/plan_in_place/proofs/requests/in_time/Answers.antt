@@ -4,7 +4,6 @@ use native.Mathlib.Omega.{arith}
 use Rattle.plan_bytes.proofs.ReadyLaws.{ready-length, ready}
 use Rattle.plan_bytes.proofs.Again.{rested-call}
 use Rattle.plan_in_place.proofs.Called.{rested-low, calm-timely, wait-timely}
-use borrow.Author.Rules.{rules}
 use Rattle.plan_in_place.proofs.requests.in_time.Goals as goal
 
 pub ends_by-requires : goal.ends_by-requires

@@ -5,7 +5,6 @@ use Rattle.spec_rules.specs.Neighbour.{context_of}
 use Rattle.plan_bytes.proofs.ReadyLaws.{ready-length, ready}
 use Rattle.plan_bytes.proofs.Again.{rested-call}
 use Rattle.plan_in_place.proofs.Called.{left-timely, left_alone, left-length, wait-timely}
-use borrow.Author.Rules.{rules}
 use Rattle.plan_in_place.proofs.requests.left_in_time.Goals as goal
 
 pub ends_by-requires : goal.ends_by-requires

@@ -4,7 +4,6 @@ use native.Mathlib.Omega.{arith}
 use Rattle.plan_bytes.proofs.ReadyLaws.{ready-length, ready}
 use Rattle.plan_bytes.proofs.Again.{rested-call}
 use Rattle.plan_in_place.proofs.Called.{called-read, called-write, called-refresh, called-wait, called-flush, close-few, called-close}
-use borrow.Author.Rules.{rules}
 use Rattle.plan_in_place.proofs.requests.plan.Goals as goal
 
 pub read-requires : goal.read-requires

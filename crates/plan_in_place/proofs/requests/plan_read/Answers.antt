@@ -3,7 +3,6 @@ use native.Mathlib.Omega.{arith}
 use Rattle.plan_bytes.proofs.ReadyLaws.{ready-length, ready}
 use Rattle.plan_bytes.proofs.Again.{rested-call}
 use Rattle.plan_in_place.proofs.Called.{called-read}
-use borrow.Author.Rules.{rules}
 use Rattle.plan_in_place.proofs.requests.plan_read.Goals as goal
 
 pub read-requires : goal.read-requires

@@ -4,7 +4,6 @@ use Rattle.spec_rules.specs.Neighbour.{context_of}
 use Rattle.spec_plan.specs.Plan.{reached}
 use Rattle.plan_bytes.specs.Form.Drawn.{drafted, Drawn}
 use Rattle.plan_in_place.proofs.Planned.{reach_here, reach-fits, reach-opened, row_in, reached-after, read_first, flush-fits, read-after, read-open, read-room, read-drawn, read-lengths}
-use borrow.Author.Rules.{rules}
 use Rattle.plan_in_place.proofs.requests.read.Goals as goal
 use Rattle.plan_in_place.proofs.requests.read.Goals.{then-not-on_row, else-not-on_row}
 
@@ -34,7 +33,7 @@ flush_closing-next-requires c =
     let joined : Drawn c.args.s (reached (context_of c.args.s) c.args.at.bank c.args.at.row (drafted c.args.b.now)) c.args.room.now 0 c.if-not-on_row.b c.if-not-on_row.room c.if-not-on_row.to = let a = c.args in
     let e = c.on_row.ensures in
     elim c.if-not-on_row.branch [
-      then-not-on_row w ↦ rw (w.b-is, w.room-is, w.to-is) (reach-opened _ _ c.requires.rested a.room.now c.requires.in_bounds a.at c.requires.in_place _ e w.if-not-on_row.true _ _ _ w.open_row-to.ensures)
+      | then-not-on_row w ↦ rw (w.b-is, w.room-is, w.to-is) (reach-opened _ _ c.requires.rested a.room.now c.requires.in_bounds a.at c.requires.in_place _ e w.if-not-on_row.true _ _ _ w.open_row-to.ensures)
       | else-not-on_row w ↦ rw (w.b-is, w.room-is, w.to-is) (reach_here _ _ c.requires.rested a.room.now c.requires.in_bounds a.at c.requires.in_place _ e w.if-not-on_row.false)
     ] in
     let a = c.args in
@@ -52,7 +51,7 @@ rda-requires c =
     let joined : Drawn c.args.s (reached (context_of c.args.s) c.args.at.bank c.args.at.row (drafted c.args.b.now)) c.args.room.now 0 c.if-not-on_row.b c.if-not-on_row.room c.if-not-on_row.to = let a = c.args in
     let e = c.on_row.ensures in
     elim c.if-not-on_row.branch [
-      then-not-on_row w ↦ rw (w.b-is, w.room-is, w.to-is) (reach-opened _ _ c.requires.rested a.room.now c.requires.in_bounds a.at c.requires.in_place _ e w.if-not-on_row.true _ _ _ w.open_row-to.ensures)
+      | then-not-on_row w ↦ rw (w.b-is, w.room-is, w.to-is) (reach-opened _ _ c.requires.rested a.room.now c.requires.in_bounds a.at c.requires.in_place _ e w.if-not-on_row.true _ _ _ w.open_row-to.ensures)
       | else-not-on_row w ↦ rw (w.b-is, w.room-is, w.to-is) (reach_here _ _ c.requires.rested a.room.now c.requires.in_bounds a.at c.requires.in_place _ e w.if-not-on_row.false)
     ] in
     let a = c.args in
@@ -73,7 +72,7 @@ returns-then-close c =
     let joined : Drawn c.args.s (reached (context_of c.args.s) c.args.at.bank c.args.at.row (drafted c.args.b.now)) c.args.room.now 0 c.if-not-on_row.b c.if-not-on_row.room c.if-not-on_row.to = let a = c.args in
     let e = c.on_row.ensures in
     elim c.if-not-on_row.branch [
-      then-not-on_row w ↦ rw (w.b-is, w.room-is, w.to-is) (reach-opened _ _ c.requires.rested a.room.now c.requires.in_bounds a.at c.requires.in_place _ e w.if-not-on_row.true _ _ _ w.open_row-to.ensures)
+      | then-not-on_row w ↦ rw (w.b-is, w.room-is, w.to-is) (reach-opened _ _ c.requires.rested a.room.now c.requires.in_bounds a.at c.requires.in_place _ e w.if-not-on_row.true _ _ _ w.open_row-to.ensures)
       | else-not-on_row w ↦ rw (w.b-is, w.room-is, w.to-is) (reach_here _ _ c.requires.rested a.room.now c.requires.in_bounds a.at c.requires.in_place _ e w.if-not-on_row.false)
     ] in
     let a = c.args in
@@ -84,7 +83,7 @@ flush_delaying-next-requires c =
     let joined : Drawn c.args.s (reached (context_of c.args.s) c.args.at.bank c.args.at.row (drafted c.args.b.now)) c.args.room.now 0 c.if-not-on_row.b c.if-not-on_row.room c.if-not-on_row.to = let a = c.args in
     let e = c.on_row.ensures in
     elim c.if-not-on_row.branch [
-      then-not-on_row w ↦ rw (w.b-is, w.room-is, w.to-is) (reach-opened _ _ c.requires.rested a.room.now c.requires.in_bounds a.at c.requires.in_place _ e w.if-not-on_row.true _ _ _ w.open_row-to.ensures)
+      | then-not-on_row w ↦ rw (w.b-is, w.room-is, w.to-is) (reach-opened _ _ c.requires.rested a.room.now c.requires.in_bounds a.at c.requires.in_place _ e w.if-not-on_row.true _ _ _ w.open_row-to.ensures)
       | else-not-on_row w ↦ rw (w.b-is, w.room-is, w.to-is) (reach_here _ _ c.requires.rested a.room.now c.requires.in_bounds a.at c.requires.in_place _ e w.if-not-on_row.false)
     ] in
     let a = c.args in
@@ -102,7 +101,7 @@ rd-requires c =
     let joined : Drawn c.args.s (reached (context_of c.args.s) c.args.at.bank c.args.at.row (drafted c.args.b.now)) c.args.room.now 0 c.if-not-on_row.b c.if-not-on_row.room c.if-not-on_row.to = let a = c.args in
     let e = c.on_row.ensures in
     elim c.if-not-on_row.branch [
-      then-not-on_row w ↦ rw (w.b-is, w.room-is, w.to-is) (reach-opened _ _ c.requires.rested a.room.now c.requires.in_bounds a.at c.requires.in_place _ e w.if-not-on_row.true _ _ _ w.open_row-to.ensures)
+      | then-not-on_row w ↦ rw (w.b-is, w.room-is, w.to-is) (reach-opened _ _ c.requires.rested a.room.now c.requires.in_bounds a.at c.requires.in_place _ e w.if-not-on_row.true _ _ _ w.open_row-to.ensures)
       | else-not-on_row w ↦ rw (w.b-is, w.room-is, w.to-is) (reach_here _ _ c.requires.rested a.room.now c.requires.in_bounds a.at c.requires.in_place _ e w.if-not-on_row.false)
     ] in
     let a = c.args in
@@ -122,7 +121,7 @@ returns c =
     let joined : Drawn c.args.s (reached (context_of c.args.s) c.args.at.bank c.args.at.row (drafted c.args.b.now)) c.args.room.now 0 c.if-not-on_row.b c.if-not-on_row.room c.if-not-on_row.to = let a = c.args in
     let e = c.on_row.ensures in
     elim c.if-not-on_row.branch [
-      then-not-on_row w ↦ rw (w.b-is, w.room-is, w.to-is) (reach-opened _ _ c.requires.rested a.room.now c.requires.in_bounds a.at c.requires.in_place _ e w.if-not-on_row.true _ _ _ w.open_row-to.ensures)
+      | then-not-on_row w ↦ rw (w.b-is, w.room-is, w.to-is) (reach-opened _ _ c.requires.rested a.room.now c.requires.in_bounds a.at c.requires.in_place _ e w.if-not-on_row.true _ _ _ w.open_row-to.ensures)
       | else-not-on_row w ↦ rw (w.b-is, w.room-is, w.to-is) (reach_here _ _ c.requires.rested a.room.now c.requires.in_bounds a.at c.requires.in_place _ e w.if-not-on_row.false)
     ] in
     let a = c.args in

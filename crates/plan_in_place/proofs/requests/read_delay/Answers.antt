@@ -1,5 +1,4 @@
 -- `plan_in_place::requests::read_delay` meets its contract.
-use borrow.Author.Rules.{rules}
 use Rattle.plan_in_place.proofs.requests.read_delay.Goals as goal
 
 pub returns-then-close : goal.returns-then-close

@@ -3,7 +3,6 @@ use native.Mathlib.Omega.{arith}
 use Rattle.plan_bytes.proofs.ReadyLaws.{ready}
 use Rattle.plan_steps.proofs.Stepwise.{cleared-after, cleared-shut}
 use Rattle.plan_in_place.proofs.Planned.{bank-in, refresh-first, refresh-room, refresh-drawn}
-use borrow.Author.Rules.{rules}
 use Rattle.plan_in_place.proofs.requests.refresh.Goals as goal
 
 pub close_near-to-requires : goal.close_near-to-requires

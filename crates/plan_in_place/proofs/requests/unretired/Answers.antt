@@ -2,7 +2,6 @@
 use mathlib.Core.Path.{◌∙◌}
 use Rattle.spec_plan.specs.Call.{unretired}
 use Rattle.plan_steps.proofs.Tested.{waits-is}
-use borrow.Author.Rules.{rules}
 use Rattle.plan_in_place.proofs.requests.unretired.Goals as goal
 
 pub returns-in-Read : goal.returns-in-Read

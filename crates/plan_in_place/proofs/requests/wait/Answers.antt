@@ -1,7 +1,6 @@
 -- `plan_in_place::requests::wait` meets its contract.
 use Rattle.plan_bytes.proofs.ReadyLaws.{ready}
 use Rattle.plan_in_place.proofs.Called.{wait-stored}
-use borrow.Author.Rules.{rules}
 use Rattle.plan_in_place.proofs.requests.wait.Goals as goal
 
 pub returns : goal.returns

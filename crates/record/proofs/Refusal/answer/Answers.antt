@@ -1,6 +1,5 @@
 -- `Refusal::answer` meets its contract: each arm is a case of the definition.
 use Rattle.record.specs.Refusal.{answer_of}
-use borrow.Author.Rules.{rules}
 use Rattle.record.proofs.Refusal.answer.Goals as goal
 
 pub returns-in-Settings : goal.returns-in-Settings

@@ -1,5 +1,5 @@
 -- `record_bytes::quick::all_right` meets its contract: after each turn the first k records, where all passed, are records, or all of them.
-use Rattle.std.proofs.Common.{◌≡◌, ℕ, ◌+◌, ◌-◌, ◌<◌, ◌≤◌, Bool, true, ◌&&◌, arith, rules}
+use Rattle.std.proofs.Common.{◌≡◌, ℕ, ◌+◌, ◌-◌, ◌<◌, Bool, true, ◌&&◌, arith}
 use mathlib.Core.Bool.{and-eq-true_iff}
 use Rattle.num.proofs.SearchLaws.{all-intro}
 use Rattle.record.specs.Record.{well_formed, record_at}

@@ -1,9 +1,6 @@
 -- `record_bytes::quick::all_right` meets its contract: after each turn the first k records, where all passed, are records, or all of them.
-use Rattle.std.proofs.Common.{◌≡◌, ℕ, ◌+◌, ◌-◌, ◌<◌, ◌≤◌, Bool, true, ◌&&◌, arith, rules}
-use mathlib.Core.Bool.{and-eq-true_iff}
-use Rattle.num.proofs.SearchLaws.{all-intro}
+use Rattle.std.proofs.Common.{◌≡◌, ℕ, ◌+◌, ◌-◌, ◌<◌, ◌≤◌, true}
 use Rattle.record.specs.Record.{well_formed, record_at}
-use Rattle.record_bytes.proofs.quick.QuickLaws.{four-more}
 use Rattle.record_bytes.proofs.quick.all_right.Given as goal
 
 abbrev pub invariant-loop-k : goal.invariant-loop-k

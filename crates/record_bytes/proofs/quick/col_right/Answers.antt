@@ -1,5 +1,5 @@
 -- `record_bytes::quick::col_right` meets its contract: a word that passes is that of a packet.
-use Rattle.std.proofs.Common.{◌%◌, arith, rules}
+use Rattle.std.proofs.Common.{◌%◌, arith}
 use Rattle.record_bytes.proofs.quick.QuickLaws.{col-says}
 use Rattle.record_bytes.proofs.quick.col_right.Goals as goal
 

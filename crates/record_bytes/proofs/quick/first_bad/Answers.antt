@@ -1,7 +1,7 @@
 -- `record_bytes::quick::first_bad` meets its contract: every record of the parts passed so far is well formed.
-use Rattle.std.proofs.Common.{◌≡◌, ℕ, ◌-◌, ◌<◌, ◌≤◌, true, sym, ◌∙◌, arith, rules}
+use Rattle.std.proofs.Common.{◌-◌, sym, arith}
 use Rattle.num.proofs.SearchLaws.{first-none}
-use Rattle.record.specs.Record.{well_formed, first_bad, record_at}
+use Rattle.record.specs.Record.{first_bad}
 use Rattle.record_bytes.proofs.quick.QuickLaws.{part-more}
 use Rattle.record_bytes.proofs.quick.first_bad.Goals as goal
 

@@ -1,8 +1,6 @@
 -- `record_bytes::quick::first_bad` meets its contract: every record of the parts passed so far is well formed.
-use Rattle.std.proofs.Common.{◌≡◌, ℕ, ◌-◌, ◌<◌, ◌≤◌, true, sym, ◌∙◌, arith, rules}
-use Rattle.num.proofs.SearchLaws.{first-none}
-use Rattle.record.specs.Record.{well_formed, first_bad, record_at}
-use Rattle.record_bytes.proofs.quick.QuickLaws.{part-more}
+use Rattle.std.proofs.Common.{◌≡◌, ℕ, ◌-◌, ◌<◌, ◌≤◌, true}
+use Rattle.record.specs.Record.{well_formed, record_at}
 use Rattle.record_bytes.proofs.quick.first_bad.Given as goal
 
 abbrev pub invariant-loop-i : goal.invariant-loop-i

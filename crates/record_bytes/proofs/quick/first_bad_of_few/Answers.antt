@@ -1,5 +1,5 @@
 -- `record_bytes::quick::first_bad_of_few` meets its contract: where all records pass, none is bad.
-use Rattle.std.proofs.Common.{sym, rules}
+use Rattle.std.proofs.Common.{sym}
 use Rattle.num.proofs.SearchLaws.{all-at, first-none}
 use Rattle.record.specs.Record.{well_formed, record_at, records_in, first_bad}
 use Rattle.record_bytes.proofs.quick.first_bad_of_few.Goals as goal

@@ -1,5 +1,5 @@
 -- `record_bytes::quick::four_right` meets its contract: each of the four has its place.
-use Rattle.std.proofs.Common.{◌≡◌, ℕ, ◌+◌, ◌*◌, arith, rules}
+use Rattle.std.proofs.Common.{◌≡◌, ℕ, ◌+◌, ◌*◌, arith}
 use Rattle.record.specs.Record.{well_formed, record_at}
 use Rattle.record_bytes.proofs.quick.QuickLaws.{four-say}
 use Rattle.record_bytes.proofs.quick.four_right.Goals as goal

@@ -1,6 +1,5 @@
 -- `record_bytes::quick::number_at` meets its contract: a number of four bytes is the sum of its bytes, each by its place.
-use Rattle.std.proofs.Common.{◌≡◌, ◌+◌, arith, rules}
-use Rattle.num.specs.Bytes.{number, part}
+use Rattle.std.proofs.Common.{◌≡◌, ◌+◌, arith}
 use Rattle.num.proofs.ByteLaws.{number-part, number-one}
 use Rattle.record_bytes.proofs.quick.number_at.Goals as goal
 

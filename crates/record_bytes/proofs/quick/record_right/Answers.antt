@@ -1,6 +1,6 @@
 -- `record_bytes::quick::record_right` meets its contract: the numbers that are read are the fields of the record.
 use mathlib.Core.Bool.{and-eq-true_iff}
-use Rattle.std.proofs.Common.{◌+◌, arith, rules}
+use Rattle.std.proofs.Common.{◌+◌, arith}
 use Rattle.record_bytes.proofs.quick.QuickLaws.{fields-say}
 use Rattle.record_bytes.proofs.quick.record_right.Goals as goal
 

@@ -1,5 +1,5 @@
 -- `record_bytes::quick::row_right` meets its contract: a word that passes is that of a packet.
-use Rattle.std.proofs.Common.{arith, rules}
+use Rattle.std.proofs.Common.{arith}
 use Rattle.record_bytes.proofs.quick.QuickLaws.{head-range, row-says}
 use Rattle.record_bytes.proofs.quick.row_right.Goals as goal
 

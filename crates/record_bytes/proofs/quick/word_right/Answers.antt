@@ -1,6 +1,5 @@
 -- `record_bytes::quick::word_right` meets its contract: each kind has the test of its words.
 use Rattle.record_bytes.proofs.quick.QuickLaws.{word-says}
-use Rattle.std.proofs.Common.{rules}
 use Rattle.record_bytes.proofs.quick.word_right.Goals as goal
 
 pub returns : goal.returns

@@ -1,5 +1,4 @@
 -- `place_of` meets its contract: each field is read at its place.
-use Rattle.std.proofs.Common.{rules}
 use Rattle.record_bytes.proofs.requests.place_of.Goals as goal
 
 pub returns : goal.returns

@@ -1,5 +1,5 @@
 -- `plain_read` meets its contract: the tests are those that a read passes.
-use Rattle.std.proofs.Common.{sym, ◌∙◌, rules}
+use Rattle.std.proofs.Common.{sym, ◌∙◌}
 use mathlib.Core.Bool.{false≢true}
 use Rattle.record_bytes.proofs.requests.KindLaws.{plain-says}
 use Rattle.record_bytes.proofs.requests.plain_read.Goals as goal

@@ -1,5 +1,5 @@
 -- `read_request` meets its contract: length, kind and spare bytes are tested in the definition's order.
-use Rattle.std.proofs.Common.{sym, ◌∙◌, arith, rules, eq-eqb, ne_eqb, le-leb}
+use Rattle.std.proofs.Common.{sym, ◌∙◌, arith, eq-eqb, ne_eqb, le-leb}
 use borrow.Author.Tests.{lt-leb}
 use Rattle.record.specs.Request.{kind_of, request_read}
 use Rattle.record_bytes.proofs.requests.read_request.Goals as goal

@@ -1,6 +1,6 @@
 -- `request_of` meets its contract: the tests of the kind are the definition's, two kinds together where the fields are alike, and
 -- the fields are read at their places.
-use Rattle.std.proofs.Common.{◌∙◌, rules}
+use Rattle.std.proofs.Common.{◌∙◌}
 use Rattle.record.specs.Request.{kind_of, request_of}
 use Rattle.record_bytes.proofs.requests.KindLaws.{read-kinds, write-kinds, last-kind}
 use Rattle.record_bytes.proofs.requests.request_of.Goals as goal

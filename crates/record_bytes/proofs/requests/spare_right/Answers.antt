@@ -1,5 +1,5 @@
 -- `spare_right` meets its contract: each group of bytes is tested as the number that it is.
-use Rattle.std.proofs.Common.{sym, ◌∙◌, rules}
+use Rattle.std.proofs.Common.{sym, ◌∙◌}
 use Rattle.record_bytes.proofs.requests.SpareLaws.{spare-groups}
 use Rattle.record_bytes.proofs.requests.spare_right.Goals as goal
 

@@ -1,6 +1,5 @@
 -- `Settings::valid` meets its contract: the tests are the definition's, in another order.
 use Rattle.settings.proofs.NumberLaws.{valid-numbers}
-use borrow.Author.Rules.{rules}
 use Rattle.settings.proofs.Settings.valid.Goals as goal
 
 pub returns : goal.returns

@@ -4,7 +4,6 @@ use native.Mathlib.Omega.{arith}
 use borrow.Author.Tests.{le-leb, lt-leb}
 use Rattle.settings.specs.Instants.{arrival, arrival_number}
 use Prim.Native.Nat.{◌+◌, ◌≤◌, ◌<◌}
-use borrow.Author.Rules.{rules}
 use Rattle.settings.proofs.instants.arrival_after.Goals as goal
 
 pub returns-then-sum-le-HORIZON_WIDE : goal.returns-then-sum-le-HORIZON_WIDE

@@ -1,5 +1,4 @@
 -- `read_arrival` meets its contract: the delay that it adds is the contract's.
-use borrow.Author.Rules.{rules}
 use Rattle.settings.proofs.instants.read_arrival.Goals as goal
 
 pub returns : goal.returns

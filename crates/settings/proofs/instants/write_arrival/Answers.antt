@@ -1,5 +1,4 @@
 -- `write_arrival` meets its contract: the delay that it adds is the contract's.
-use borrow.Author.Rules.{rules}
 use Rattle.settings.proofs.instants.write_arrival.Goals as goal
 
 pub returns : goal.returns

@@ -1,11 +1,9 @@
 -- `settings::ranges::figures_right` meets its contract: right says whether each number passed so far is in its range.
 use mathlib.Core.Path.{◌≡◌, refl, sym}
-use Prim.Native.Nat.{◌-◌, ◌≤◌}
+use Prim.Native.Nat.{◌-◌}
 use native.Mathlib.Omega.{arith}
-use lib.ListN.{get_or}
 use Rattle.num.specs.Search.{all_up_to}
 use Rattle.num.proofs.SearchLaws.{all-next}
-use Rattle.settings.specs.Form.Numbers.{numbers_right}
 use borrow.Author.Rules.{rules}
 use Rattle.settings.proofs.ranges.figures_right.Goals as goal
 

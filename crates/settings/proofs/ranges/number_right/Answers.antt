@@ -4,7 +4,6 @@ use native.Mathlib.Omega.{arith}
 use Rattle.settings.specs.Settings.{lows, highs}
 use Rattle.settings.specs.Form.Numbers.{leasts, mosts}
 use Rattle.settings.proofs.NumberLaws.{least_fits, most-fits}
-use borrow.Author.Rules.{rules}
 use Rattle.settings.proofs.ranges.number_right.Goals as goal
 
 pub returns : goal.returns

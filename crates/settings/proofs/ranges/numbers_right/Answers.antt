@@ -1,7 +1,7 @@
 -- `settings::ranges::numbers_right` meets its contract: right says whether each number passed so far is in its range; the last one is, as
 -- every number of two bytes.
 use mathlib.Core.Path.{◌≡◌, refl, sym, ◌∙◌}
-use Prim.Native.Nat.{◌-◌, ◌≤◌}
+use Prim.Native.Nat.{◌-◌}
 use native.Mathlib.Omega.{arith}
 use borrow.Author.Tests.{eq-eqb, ne_eqb}
 use Rattle.num.specs.Search.{all_up_to}

@@ -1,15 +1,9 @@
 -- `settings::ranges::numbers_right` meets its contract: right says whether each number passed so far is in its range; the last one is, as
 -- every number of two bytes.
-use mathlib.Core.Path.{◌≡◌, refl, sym, ◌∙◌}
+use mathlib.Core.Path.{◌≡◌}
 use Prim.Native.Nat.{◌-◌, ◌≤◌}
-use native.Mathlib.Omega.{arith}
-use borrow.Author.Tests.{eq-eqb, ne_eqb}
-use Rattle.num.specs.Search.{all_up_to}
-use Rattle.num.proofs.SearchLaws.{all-next}
-use Rattle.settings.specs.Settings.{lows, highs, half}
-use Rattle.settings.specs.Form.Numbers.{leasts, mosts, numbers_right}
-use Rattle.settings.proofs.NumberLaws.{last-right}
-use borrow.Author.Rules.{rules}
+use Rattle.settings.specs.Settings.{half}
+use Rattle.settings.specs.Form.Numbers.{numbers_right}
 use Rattle.settings.proofs.ranges.numbers_right.Given as goal
 
 abbrev pub invariant-loop-i : goal.invariant-loop-i

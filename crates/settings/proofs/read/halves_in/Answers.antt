@@ -1,11 +1,10 @@
 -- `settings::halves_in` meets its contract: after i turns the first i numbers are read.
 use mathlib.Core.Path.{◌≡◌, refl, ◌∙◌}
-use Prim.Native.Nat.{ℕ, ◌-◌, ◌≤◌, ◌<◌}
+use Prim.Native.Nat.{◌-◌, ◌<◌}
 use native.Mathlib.Omega.{arith}
 use borrow.Author.Count.{below_more}
-use lib.ListN.{length, get_or, length-set}
+use lib.ListN.{length, length-set}
 use lib.Seq.{get_or-set_same, get_or-set_other}
-use Rattle.settings.specs.Settings.{half}
 use borrow.Author.Rules.{rules}
 use Rattle.settings.proofs.read.halves_in.Goals as goal
 

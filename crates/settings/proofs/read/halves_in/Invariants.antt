@@ -1,12 +1,8 @@
 -- `settings::halves_in` meets its contract: after i turns the first i numbers are read.
-use mathlib.Core.Path.{◌≡◌, refl, ◌∙◌}
+use mathlib.Core.Path.{◌≡◌}
 use Prim.Native.Nat.{ℕ, ◌-◌, ◌≤◌, ◌<◌}
-use native.Mathlib.Omega.{arith}
-use borrow.Author.Count.{below_more}
-use lib.ListN.{length, get_or, length-set}
-use lib.Seq.{get_or-set_same, get_or-set_other}
+use lib.ListN.{length, get_or}
 use Rattle.settings.specs.Settings.{half}
-use borrow.Author.Rules.{rules}
 use Rattle.settings.proofs.read.halves_in.Given as goal
 
 abbrev pub invariant-loop-i : goal.invariant-loop-i

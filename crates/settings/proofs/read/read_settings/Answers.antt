@@ -1,7 +1,7 @@
 -- `settings::read_settings` meets its contract: the settings are those of the sixteen numbers, and the tests are the definition's.
 use mathlib.Core.Path.{◌≡◌, sym, ◌∙◌, ap}
 use mathlib.Core.Bool.{Bool, true, false, ◌&&◌}
-use borrow.Author.Tests.{eqb-true, not-true, not-false}
+use borrow.Author.Tests.{eqb-true}
 use lib.Dec.{eqb}
 use lib.ListN.{length}
 use Rattle.settings.specs.declared.Settings.{Settings}
@@ -10,7 +10,6 @@ use Rattle.settings.specs.Settings.{half, settings_in}
 use Rattle.settings.specs.Form.Numbers.{numbers_right, rest_right}
 use Rattle.settings.proofs.SettingsLaws.{settings_of, settings-same, both_true}
 use Rattle.settings.proofs.NumberLaws.{read-numbers}
-use borrow.Author.Rules.{rules}
 use Rattle.settings.proofs.read.read_settings.Goals as goal
 
 abbrev rest_of : Settings → Bool

@@ -1,6 +1,5 @@
 -- `state_bytes::fresh::put_fresh_model` meets its contract: zeros.
 use Rattle.state_bytes.proofs.fresh.FreshLaws.{model-put}
-use borrow.Author.Rules.{rules}
 use Rattle.state_bytes.proofs.fresh.put_fresh_model.Goals as goal
 
 pub returns : goal.returns

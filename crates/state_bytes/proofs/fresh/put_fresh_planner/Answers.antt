@@ -1,6 +1,5 @@
 -- `state_bytes::fresh::put_fresh_planner` meets its contract: zeros, then now.
 use Rattle.state_bytes.proofs.fresh.FreshLaws.{planner-put}
-use borrow.Author.Rules.{rules}
 use Rattle.state_bytes.proofs.fresh.put_fresh_planner.Goals as goal
 
 pub returns : goal.returns

@@ -2,7 +2,6 @@
 use mathlib.Core.Path.{sym}
 use native.Mathlib.Omega.{arith}
 use Rattle.state_bytes.proofs.RightLaws.{model-tested, model-length-wrong}
-use borrow.Author.Rules.{rules}
 use Rattle.state_bytes.proofs.models.model_right.Goals as goal
 
 pub returns-then-b-ne-MODEL_BYTES : goal.returns-then-b-ne-MODEL_BYTES

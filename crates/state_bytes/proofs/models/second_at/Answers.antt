@@ -1,6 +1,5 @@
 -- `state_bytes::models::second_at` meets its contract: each half is the one read.
 use Rattle.spec_model.specs.ModelBytes.{model_in}
-use borrow.Author.Rules.{rules}
 use Rattle.state_bytes.proofs.models.second_at.Goals as goal
 
 pub returns : goal.returns

@@ -1,5 +1,4 @@
 -- `state_bytes::planners::fields_right` meets its contract: its tests are those of the definition.
-use borrow.Author.Rules.{rules}
 use Rattle.state_bytes.proofs.planners.fields_right.Goals as goal
 
 pub returns : goal.returns

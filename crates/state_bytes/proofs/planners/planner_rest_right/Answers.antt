@@ -1,7 +1,6 @@
 -- `state_bytes::planners::planner_rest_right` meets its contract: what is left of the tests of a planner's bytes.
 use native.Mathlib.Omega.{arith}
 use Rattle.state_bytes.proofs.RightLaws.{planner-rest}
-use borrow.Author.Rules.{rules}
 use Rattle.state_bytes.proofs.planners.planner_rest_right.Goals as goal
 
 pub returns : goal.returns

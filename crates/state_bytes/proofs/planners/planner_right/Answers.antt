@@ -2,7 +2,6 @@
 use mathlib.Core.Path.{sym}
 use native.Mathlib.Omega.{arith}
 use Rattle.state_bytes.proofs.RightLaws.{planner-tested, planner-length-wrong}
-use borrow.Author.Rules.{rules}
 use Rattle.state_bytes.proofs.planners.planner_right.Goals as goal
 
 pub returns-then-b-ne-PLANNER_BYTES : goal.returns-then-b-ne-PLANNER_BYTES

@@ -1,7 +1,6 @@
 -- `state_bytes::reads::bank_of` meets its contract: each way out decides the tests.
 use borrow.Author.Tests.{eq-eqb, ne_eqb}
 use Rattle.spec_state.specs.ChannelBytes.{bank_in}
-use borrow.Author.Rules.{rules}
 use Rattle.state_bytes.proofs.reads.bank_of.Goals as goal
 
 pub returns-then-tag-eq0 : goal.returns-then-tag-eq0

@@ -2,7 +2,6 @@
 use borrow.Author.Tests.{eq-eqb, ne_eqb}
 use lib.ListN.{get_or}
 use Rattle.spec_state.specs.ChannelBytes.{buffer_in}
-use borrow.Author.Rules.{rules}
 use Rattle.state_bytes.proofs.reads.buffer_at.Goals as goal
 
 pub returns-then-b-eq0 : goal.returns-then-b-eq0

@@ -1,6 +1,5 @@
 -- `state_bytes::reads::due_at` meets its contract: the byte is the one read.
 use mathlib.Core.Path.{refl}
-use borrow.Author.Rules.{rules}
 use Rattle.state_bytes.proofs.reads.due_at.Goals as goal
 
 pub returns : goal.returns

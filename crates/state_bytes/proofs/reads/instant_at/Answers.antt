@@ -1,7 +1,6 @@
 -- `state_bytes::reads::instant_at` meets its contract: 0 stands for none, any other number for an instant of 3 more.
 use native.Mathlib.Omega.{arith}
 use borrow.Author.Tests.{eq-eqb, ne_eqb}
-use borrow.Author.Rules.{rules}
 use Rattle.state_bytes.proofs.reads.instant_at.Goals as goal
 
 pub overflow_add-result : goal.overflow_add-result

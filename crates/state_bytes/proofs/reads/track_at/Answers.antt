@@ -2,7 +2,6 @@
 use native.Mathlib.Omega.{arith}
 use Rattle.spec_state.specs.ChannelBytes.{track_in}
 use Rattle.state_bytes.proofs.RangeLaws.{bank-in-range}
-use borrow.Author.Rules.{rules}
 use Rattle.state_bytes.proofs.reads.track_at.Goals as goal
 
 pub instant_at-requires : goal.instant_at-requires

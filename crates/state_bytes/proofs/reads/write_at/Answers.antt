@@ -1,5 +1,4 @@
 -- `state_bytes::reads::write_at` meets its contract: each number is the one read.
-use borrow.Author.Rules.{rules}
 use Rattle.state_bytes.proofs.reads.write_at.Goals as goal
 
 pub returns : goal.returns

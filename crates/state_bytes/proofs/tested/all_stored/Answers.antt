@@ -1,10 +1,9 @@
 -- `state_bytes::tested::all_stored` meets its contract: right says whether each instant passed so far is in range.
 use mathlib.Core.Path.{◌≡◌, refl, sym}
-use Prim.Native.Nat.{◌-◌, ◌≤◌}
+use Prim.Native.Nat.{◌-◌}
 use native.Mathlib.Omega.{arith}
 use Rattle.num.specs.Search.{all_up_to}
 use Rattle.num.proofs.SearchLaws.{all-next}
-use Rattle.state_bytes.specs.Form.Tested.{all_stored}
 use borrow.Author.Rules.{rules}
 use Rattle.state_bytes.proofs.tested.all_stored.Goals as goal
 

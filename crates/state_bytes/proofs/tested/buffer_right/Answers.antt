@@ -1,7 +1,6 @@
 -- `state_bytes::tested::buffer_right` meets its contract: each number is the one read.
 use borrow.Author.Tests.{ne_eqb}
 use Rattle.state_bytes.specs.Form.Tested.{buffer_right}
-use borrow.Author.Rules.{rules}
 use Rattle.state_bytes.proofs.tested.buffer_right.Goals as goal
 
 pub returns-then-count-eq0 : goal.returns-then-count-eq0

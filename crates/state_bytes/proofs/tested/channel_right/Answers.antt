@@ -1,6 +1,5 @@
 -- `state_bytes::tested::channel_right` meets its contract: its parts are those of the definition.
 use Rattle.state_bytes.specs.Form.Tested.{channel_tested}
-use borrow.Author.Rules.{rules}
 use Rattle.state_bytes.proofs.tested.channel_right.Goals as goal
 
 pub returns : goal.returns

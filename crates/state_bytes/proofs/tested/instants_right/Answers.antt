@@ -11,7 +11,6 @@ use Rattle.num.proofs.SearchLaws.{all-intro}
 use Rattle.state_bytes.specs.Form.Stored.{latest}
 use Rattle.state_bytes.specs.Form.Tested.{all_stored}
 use Rattle.state_bytes.proofs.OrLaws.{or_left, or_right}
-use borrow.Author.Rules.{rules}
 use Rattle.state_bytes.proofs.tested.instants_right.Goals as goal
 
 all-below : (b : List ℕ) (at n top : ℕ) → ((k : ℕ) → k < n → number (part b (at + 4 * k) 4) ≤ top) → top ≤ latest → all_stored b at n ≡ true

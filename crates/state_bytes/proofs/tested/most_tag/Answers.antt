@@ -1,6 +1,5 @@
 -- `state_bytes::tested::most_tag` meets its contract: the test decides.
 use borrow.Author.Tests.{lt-ltb, le-ltb}
-use borrow.Author.Rules.{rules}
 use Rattle.state_bytes.proofs.tested.most_tag.Goals as goal
 
 pub returns-then-rows-lt65535 : goal.returns-then-rows-lt65535

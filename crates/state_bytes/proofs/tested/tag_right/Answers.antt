@@ -1,5 +1,4 @@
 -- `state_bytes::tested::tag_right` meets its contract: the tests are those of the definition.
-use borrow.Author.Rules.{rules}
 use Rattle.state_bytes.proofs.tested.tag_right.Goals as goal
 
 pub returns : goal.returns

@@ -1,11 +1,9 @@
 -- `state_bytes::tested::tags_right` meets its contract: right says whether each tag passed so far is right.
 use mathlib.Core.Path.{◌≡◌, refl, sym}
-use Prim.Native.Nat.{◌+◌, ◌*◌, ◌-◌, ◌≤◌}
+use Prim.Native.Nat.{◌-◌}
 use native.Mathlib.Omega.{arith}
-use Rattle.num.specs.Bytes.{number, part}
 use Rattle.num.specs.Search.{all_up_to}
 use Rattle.num.proofs.SearchLaws.{all-next}
-use Rattle.state_bytes.specs.Form.Tested.{tag_right}
 use borrow.Author.Rules.{rules}
 use Rattle.state_bytes.proofs.tested.tags_right.Goals as goal
 

@@ -1,5 +1,5 @@
 -- `state_bytes::tested::tops` meets its contract: top is no less than each instant passed so far.
-use Prim.Native.Nat.{ℕ, ◌+◌, ◌*◌, ◌-◌, ◌≤◌, ◌<◌}
+use Prim.Native.Nat.{◌+◌, ◌*◌, ◌-◌}
 use native.Mathlib.Omega.{arith}
 use Rattle.num.specs.Bytes.{number, part}
 use Rattle.state_bytes.proofs.OrLaws.{or-next}

@@ -1,9 +1,6 @@
 -- `state_bytes::tested::tops` meets its contract: top is no less than each instant passed so far.
 use Prim.Native.Nat.{ℕ, ◌+◌, ◌*◌, ◌-◌, ◌≤◌, ◌<◌}
-use native.Mathlib.Omega.{arith}
 use Rattle.num.specs.Bytes.{number, part}
-use Rattle.state_bytes.proofs.OrLaws.{or-next}
-use borrow.Author.Rules.{rules}
 use Rattle.state_bytes.proofs.tested.tops.Given as goal
 
 abbrev pub invariant-loop-i : goal.invariant-loop-i

@@ -1,6 +1,5 @@
 -- `state_bytes::tested::write_right` meets its contract: each number is the one read.
 use Rattle.state_bytes.specs.Form.Tested.{write_right}
-use borrow.Author.Rules.{rules}
 use Rattle.state_bytes.proofs.tested.write_right.Goals as goal
 
 pub returns : goal.returns

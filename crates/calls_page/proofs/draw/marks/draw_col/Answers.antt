@@ -1,6 +1,5 @@
 -- `draw_col` meets its contract: the packet is marked, and of an RD its data.
 use Rattle.calls_page.proofs.draw.PaintLaws.{nocop-drawn, write-drawn, read-drawn}
-use borrow.Author.Rules.{rules}
 use Rattle.calls_page.proofs.draw.marks.draw_col.Goals as goal
 
 pub returns-in-Nocop : goal.returns-in-Nocop

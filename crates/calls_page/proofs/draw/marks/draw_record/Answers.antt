@@ -1,6 +1,5 @@
 -- `draw_record` meets its contract: each arm is a case of the definition.
 use Rattle.calls_page.proofs.draw.PaintLaws.{row-drawn, data-drawn}
-use borrow.Author.Rules.{rules}
 use Rattle.calls_page.proofs.draw.marks.draw_record.Goals as goal
 
 pub returns-in-RowAt : goal.returns-in-RowAt

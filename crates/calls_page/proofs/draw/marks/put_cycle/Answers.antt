@@ -2,7 +2,6 @@
 use Prim.Native.Nat.{◌+◌, ◌-◌, ◌*◌}
 use native.Mathlib.Omega.{arith}
 use Rattle.calls_page.proofs.draw.PaintLaws.{paint-past, paint-one, paint-late}
-use borrow.Author.Rules.{rules}
 use Rattle.calls_page.proofs.draw.marks.put_cycle.Goals as goal
 
 pub returns-then-t-start : goal.returns-then-t-start

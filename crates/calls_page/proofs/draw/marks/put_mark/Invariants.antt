@@ -1,10 +1,6 @@
 -- `put_mark` meets its contract: after j turns the first j of the four cycles have the letter.
-use mathlib.Core.Path.{◌≡◌}
 use Prim.Native.Nat.{◌-◌, ◌≤◌}
-use native.Mathlib.Omega.{arith}
 use Rattle.calls_page.specs.Form.Paint.{Painted}
-use Rattle.calls_page.proofs.draw.PaintLaws.{paint-none, paint-more}
-use borrow.Author.Rules.{rules}
 use Rattle.calls_page.proofs.draw.marks.put_mark.Given as goal
 
 abbrev pub invariant-loop-j : goal.invariant-loop-j

@@ -1,6 +1,6 @@
 -- `latest_start` meets its contract. The loop's invariant: no start after i has the property; and where the flag says so, the run after i
 -- is refused before record j. The measure is i.
-use Prim.Native.Nat.{ℕ, ◌<◌, ◌≤◌}
+use Prim.Native.Nat.{ℕ, ◌<◌}
 use mathlib.Core.Path.{◌≡◌, refl, sym, ap, ◌∙◌}
 use mathlib.Core.Bool.{Bool, true, false}
 use mathlib.Core.List.{List}
@@ -14,8 +14,7 @@ use Rattle.spec_check.specs.Shortest.{still_breaks, last_true, shortest_start}
 use Rattle.check_list.specs.declared.shortest.Tried.{Tried}
 use Rattle.check_list.specs.Form.Tried.{tried_at}
 use Rattle.check_list.proofs.shortest.RunLaws.{length-records}
-use Rattle.check_list.proofs.shortest.StartLaws.{last-here, Searched, turn-tried, turn-skipped}
-use borrow.Author.Rules.{rules}
+use Rattle.check_list.proofs.shortest.StartLaws.{last-here, turn-tried, turn-skipped}
 use Rattle.check_list.proofs.shortest.starts.latest_start.Goals as goal
 use Rattle.check_list.proofs.shortest.starts.latest_start.Goals.{then-to_try+else-t, else-to_try}
 
@@ -49,7 +48,7 @@ loop-i-preserved c =
     let in_list : a.j < length rs = rw (length-records a.s a.list.now) c.requires.j_bound in (
       omega arith,
       elim c.if-to_try.branch [
-        then-to_try+else-t w ↦ rw w.early-is (turn-tried cx rs a.rule a.j m k.i k.early w.try_from-t.result c.loop-i-test.true k.invariant.1 w.try_from-t.ensures w.if-t.false)
+        | then-to_try+else-t w ↦ rw w.early-is (turn-tried cx rs a.rule a.j m k.i k.early w.try_from-t.result c.loop-i-test.true k.invariant.1 w.try_from-t.ensures w.if-t.false)
         | else-to_try w ↦ rw w.early-is (turn-skipped cx rs a.rule a.j m k.i k.early c.loop-i-test.true in_list k.invariant.1 (sym c.to_try.ensures ∙ w.if-to_try.false))
       ],
     )

@@ -3,7 +3,6 @@ use mathlib.Core.Path.{sym, ◌∙◌}
 use Rattle.spec_rules.specs.Packets.{traits}
 use Rattle.spec_check.specs.Check.{known}
 use Rattle.check_list.proofs.shortest.RunLaws.{record-known}
-use borrow.Author.Rules.{rules}
 use Rattle.check_list.proofs.shortest.starts.opens_at.Goals as goal
 
 pub returns-in-NoRecord : goal.returns-in-NoRecord

@@ -1,5 +1,4 @@
 -- `to_try` meets its contract: by the flag.
-use borrow.Author.Rules.{rules}
 use Rattle.check_list.proofs.shortest.starts.to_try.Goals as goal
 
 pub returns-then-early : goal.returns-then-early

@@ -3,7 +3,6 @@ use native.Mathlib.Omega.{arith}
 use Rattle.spec_rules.specs.Neighbour.{context_of}
 use Rattle.spec_rules.proofs.NeighbourLaws.{core-neighbours}
 use Rattle.check_list.proofs.shortest.RunLaws.{run-within, records-formed, tried-right}
-use borrow.Author.Rules.{rules}
 use Rattle.check_list.proofs.shortest.starts.try_from.Goals as goal
 
 pub walk-stop-requires : goal.walk-stop-requires

@@ -1,6 +1,5 @@
 -- `state_bytes::stores::cols::store_beside` meets its contract: the stores, from the last to the first.
 use Rattle.spec_state.specs.Form.Stores.{beside_stored}
-use borrow.Author.Rules.{rules}
 use Rattle.state_bytes.proofs.stores.cols.store_beside.Goals as goal
 
 pub returns : goal.returns

@@ -1,6 +1,5 @@
 -- `state_bytes::stores::cols::store_write` meets its contract: the stores, from the last to the first.
 use Rattle.spec_state.specs.Form.Stores.{write_stored}
-use borrow.Author.Rules.{rules}
 use Rattle.state_bytes.proofs.stores.cols.store_write.Goals as goal
 
 pub returns : goal.returns

@@ -1,6 +1,5 @@
 -- `state_bytes::stores::rows::store_refa` meets its contract: the stores, from the last to the first.
 use Rattle.spec_state.specs.Form.Stores.{refa_stored}
-use borrow.Author.Rules.{rules}
 use Rattle.state_bytes.proofs.stores.rows.store_refa.Goals as goal
 
 pub returns : goal.returns

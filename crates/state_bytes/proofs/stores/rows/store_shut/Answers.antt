@@ -1,6 +1,5 @@
 -- `state_bytes::stores::rows::store_shut` meets its contract: the stores, from the last to the first.
 use Rattle.spec_state.specs.Form.Stores.{shut_stored}
-use borrow.Author.Rules.{rules}
 use Rattle.state_bytes.proofs.stores.rows.store_shut.Goals as goal
 
 pub returns : goal.returns

@@ -4,7 +4,6 @@ use mathlib.Core.Path.{◌∙◌, sym}
 use borrow.Author.Tests.{le-ltb, lt-ltb, eq-eqb, ne_eqb}
 use Rattle.num.specs.Bytes.{number, part}
 use Rattle.spec_state.specs.Form.Stores.{side_stored}
-use borrow.Author.Rules.{rules}
 use Rattle.state_bytes.proofs.stores.rows.store_side.Goals as goal
 
 pub returns-then-x-ge32 : goal.returns-then-x-ge32
