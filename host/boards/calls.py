@@ -26,7 +26,7 @@ def structs():
     """{name: [(field, type)]} of all #[repr(C)] structs; an array's type is (type, length)."""
     found = {}
     for text in sources("crates/*/src/**/*.rt") + sources("crates/*/src/*.rt"):
-        for name, body in re.findall(r"#\[repr\(C\)\]\s*pub struct (\w+) \{(.*?)\n\}", text, re.S):
+        for name, body in re.findall(r"#\[repr\(C\)\]\s*(?:#\[derive\([\w, ]*\)\]\s*)?pub struct (\w+) \{(.*?)\n\}", text, re.S):
             fields = []
             for field, kind in re.findall(r"pub (\w+): ([^,\n]+),", body):
                 array = re.fullmatch(r"\[(\w+); (\d+)\]", kind)
@@ -52,7 +52,7 @@ def calls():
     for text in sources("crates/rdram/src/*.rt"):
         for name, inside, answer in re.findall(r'pub extern "C" fn (\w+)\((.*?)\)\s*->\s*(\w+)', text, re.S):
             found.append((name, [(a, b.strip()) for a, b in re.findall(r"(\w+): ([^,\n]+)", inside)], answer))
-        exports = text.count("#[no_mangle]")
+        exports = text.count("#[unsafe(no_mangle)]")
         if exports != len(re.findall(r'pub extern "C" fn \w+\(.*?\)\s*->\s*\w+', text, re.S)):
             raise SystemExit("calls.py: an export of crates/rdram/src has a form that is not read here")
     return found
