@@ -6,12 +6,16 @@ import calls
 TOKEN = re.compile(r"""(?P<space>\s+|//[^\n]*) | (?P<quoted>b?"(?:\\.|[^"\\])*" | b?'(?:\\.|[^'\\])') | (?P<lifetime>'[a-z]\w*)
     | (?P<number>\d\w*(?:\.\d\w*)?) | (?P<word>[A-Za-z_]\w*) | (?P<mark>::|->|=>|[!-~])""", re.X | re.A)
 CLAUSES = ("requires", "ensures")
+# the line of a root file that has the check try its tactics
+TACTICS = "#![tactic(auto)]"
 KNOWN = set("""as break const continue crate else enum extern false fn for if impl in let loop match mod mut pub return self struct true use
     while""".split())
 # The other words of Rust, and those that Rattle could have of its own: none of them is known to mean the same in both.
 UNKNOWN = set("""Self abstract async await become box decreases do dyn final ghost invariant macro measure move override priv proof ref static
-    super trait try type typeof union unsafe unsized virtual where yield""".split())
-ITEMS = {"": ("mod", "use", "const", "struct", "enum", "impl", "fn"), "repr": ("struct",), "no_mangle": ("fn",)}
+    super trait try type typeof union unsized virtual where yield""".split())
+# What stands in an attribute's brackets, and the items that may have it.
+ATTRIBUTES = {"repr": "(C)", "derive": "(Clone,Copy)", "unsafe": "(no_mangle)"}
+ITEMS = {"": ("mod", "use", "const", "struct", "enum", "impl", "fn"), "repr": ("struct",), "derive": ("struct", "enum"), "unsafe": ("fn",)}
 NUMBERS = ("u8", "u16", "u32", "u64", "usize")
 VALUES = {"self", "true", "false"}
 BITS = ("count_ones", "leading_zeros", "trailing_zeros")
@@ -41,14 +45,16 @@ class File:
         raise SystemExit("%s:%d: %s has no form here" % (self.path, line, why))
 
     def lexed(self, text):
-        """Clauses and `ghost use` items are one token each, since their text is not Rattle's."""
+        """Clauses and `ghost use` items are one token each, since their text is not Rattle's; the line of the tactics goes too."""
         found, at, line = [], 0, 1
         while at < len(text):
             match = TOKEN.match(text, at)
             if not match:
                 self.refuse(line, "the character %r" % text[at])
             kind, part = match.lastgroup, match[0]
-            if kind == "word" and part in CLAUSES:
+            if text.startswith(TACTICS, at) and all(token.kind == "space" for token in found):
+                kind, part = "space", TACTICS
+            elif kind == "word" and part in CLAUSES:
                 kind, part = "clause", self.clause(text, at, line)
             elif kind == "word" and part == "ghost":
                 use = re.compile(r"ghost use [^;]*;").match(text, at)
@@ -64,7 +70,7 @@ class File:
         return found
 
     def clause(self, text, start, line):
-        opened = re.compile(r"\w+\s*\{").match(text, start)
+        opened = re.compile(r"\w+(?: \w+)? \{").match(text, start)
         if not opened:
             self.refuse(line, "a clause without braces")
         at, depth = opened.end(), 1
@@ -91,33 +97,33 @@ class File:
         self.at += 1
         return token
 
-    def attribute(self):
-        """`repr` or `no_mangle` where an attribute starts here, else nothing."""
-        if self.here().text != "#":
-            return ""
-        self.take("#")
-        self.take("[")
-        name = self.take("repr", "no_mangle").text
-        for text in "(C)" if name == "repr" else "":
-            self.take(text)
-        self.take("]")
-        return name
+    def attributes(self):
+        """The first words of the attributes that stand here."""
+        found = []
+        while self.here().text == "#":
+            self.take("#")
+            self.take("[")
+            found.append(self.take(*ATTRIBUTES).text)
+            for text in re.findall(r"\w+|\W", ATTRIBUTES[found[-1]]):
+                self.take(text)
+            self.take("]")
+        return found
 
     def item(self):
         start = self.at
-        attribute = self.attribute()
+        attributes = self.attributes()
+        end = self.at
         if self.here().text == "pub":
             self.take("pub")
             if self.here().text == "(":
                 self.take("(")
                 self.take("crate").out = "in crate::" + self.crate
                 self.take(")")
-        if attribute == "no_mangle":
-            self.exported(start)
-        token = self.take(*ITEMS[attribute])
+        if "unsafe" in attributes:
+            self.exported(self.code[start:end])
+        token = self.take(*[it for it in ITEMS[""] if all(it in ITEMS[x] for x in attributes)])
         if token.text in ("struct", "enum"):
-            self.code[start].out = "#[derive(Clone, Copy)] " + self.code[start].out
-            if attribute == "repr":
+            if "repr" in attributes:
                 self.structs.append(self.here().text)
             self.through(";", "}")
         elif token.text == "fn":
@@ -131,11 +137,11 @@ class File:
         else:
             self.through(";")
 
-    def exported(self, start):
+    def exported(self, attribute):
         """A call of crate rdram: here a plain function, over which `exports` puts the C call."""
         if self.crate != "rdram":
             self.refuse(self.here().line, "an export of another crate than rdram")
-        for token in self.code[start:start + len("#[x]")] + [self.take("extern"), self.take('"C"')]:
+        for token in attribute + [self.take("extern"), self.take('"C"')]:
             token.out = ""
 
     def function(self):
@@ -178,7 +184,7 @@ class File:
         """One token of a body, a head or a type, written as Rust has it."""
         token, at = self.take(), self.at - 1
         after = [word.text for word in self.code[self.at:self.at + 4]] + [""] * 4
-        if token.text in ("#", "fn", "struct", "enum", "impl", "use", "mod", "extern", ")", "]", "}"):
+        if token.text in ("#", "fn", "struct", "enum", "impl", "use", "mod", "extern", "unsafe", ")", "]", "}"):
             self.refuse(token.line, "`%s` inside an item" % token.text)
         if token.kind != "word":
             return
