@@ -40,7 +40,7 @@ fn main() {
         None => {
             let tried: Vec<String> = folders.iter().map(|f| f.display().to_string()).collect();
             println!(
-                "cargo:warning=librdram.a for {target} is missing (looked in {}): set RDRAM_LIB_DIR to its folder, or run `rt staticlib rdram`",
+                "cargo:warning=librdram.a for {target} is missing (looked in {}): set RDRAM_LIB_DIR to its folder, or run `host/built archive`",
                 tried.join(" and in ")
             );
         }
