@@ -3,19 +3,21 @@ import re
 
 import calls
 
-TOKEN = re.compile(r"""(?P<space>\s+|//[^\n]*) | (?P<quoted>b?"(?:\\.|[^"\\])*" | b?'(?:\\.|[^'\\])') | (?P<lifetime>'[a-z]\w*)
+TOKEN = re.compile(r"""(?P<space>\s+|//[^\n]*) | (?P<quoted>b?"(?:\\.|[^"\\])*" | b?'(?:\\.|[^'\\])') | (?P<lifetime>'[a-z_]\w*)
     | (?P<number>\d\w*(?:\.\d\w*)?) | (?P<word>[A-Za-z_]\w*) | (?P<mark>::|->|=>|[!-~])""", re.X | re.A)
 CLAUSES = ("requires", "ensures")
 # the line of a root file that has the check try its tactics
 TACTICS = "#![tactic(auto)]"
-KNOWN = set("""as break const continue crate else enum extern false fn for if impl in let loop match mod mut pub return self struct true use
+KNOWN = set("""as break const continue crate else enum extern false fn for if impl in let loop match mod move mut pub return self struct true type use
     while""".split())
 # The other words of Rust, and those that Rattle could have of its own: none of them is known to mean the same in both.
-UNKNOWN = set("""Self abstract async await become box decreases do dyn final ghost invariant macro measure move override priv proof ref static
-    super trait try type typeof union unsized virtual where yield""".split())
+UNKNOWN = set("""Self abstract async await become box decreases do dyn final ghost invariant macro measure override priv proof ref static
+    super trait try typeof union unsized virtual where yield""".split())
+# The macros of Rattle that are Rust's.
+MACROS = ("matches",)
 # What stands in an attribute's brackets, and the items that may have it.
 ATTRIBUTES = {"repr": "(C)", "derive": "(Clone,Copy)", "unsafe": "(no_mangle)"}
-ITEMS = {"": ("mod", "use", "const", "struct", "enum", "impl", "fn"), "repr": ("struct",), "derive": ("struct", "enum"), "unsafe": ("fn",)}
+ITEMS = {"": ("mod", "use", "const", "type", "struct", "enum", "impl", "fn"), "repr": ("struct",), "derive": ("struct", "enum"), "unsafe": ("fn",)}
 NUMBERS = ("u8", "u16", "u32", "u64", "usize")
 VALUES = {"self", "true", "false"}
 BITS = ("count_ones", "leading_zeros", "trailing_zeros")
@@ -57,10 +59,13 @@ class File:
             elif kind == "word" and part in CLAUSES:
                 kind, part = "clause", self.clause(text, at, line)
             elif kind == "word" and part == "ghost":
-                use = re.compile(r"ghost use [^;]*;").match(text, at)
-                if not use:
-                    self.refuse(line, "a ghost item that is no `ghost use`")
-                kind, part = "space", use[0]
+                kind, part = "space", self.ghost(text, at, line)
+                # a ghost field may be public: the word goes with it
+                for before in reversed(found):
+                    if before.kind != "space":
+                        if before.text == "pub":
+                            before.kind, before.out = "space", ""
+                        break
             elif kind == "word" and part in UNKNOWN:
                 self.refuse(line, "the word `%s`" % part)
             found.append(Token(kind, part, line))
@@ -69,17 +74,30 @@ class File:
             at, line = at + len(part), line + part.count("\n")
         return found
 
+    def ghost(self, text, start, line):
+        """A `ghost use` item, or a ghost field or member with the mark that ends it."""
+        use = re.compile(r"ghost use [^;]*;").match(text, start)
+        if use:
+            return use[0]
+        part = self.braced(text, start, line, r"ghost \w+(?::| =) \{", "a ghost item")
+        if text[start + len(part)] not in ",;":
+            self.refuse(line, "a ghost item without an end")
+        return part + text[start + len(part)]
+
     def clause(self, text, start, line):
-        opened = re.compile(r"\w+(?: \w+)? \{").match(text, start)
+        return self.braced(text, start, line, r"\w+(?: \w+)? \{", "a clause")
+
+    def braced(self, text, start, line, head, what):
+        opened = re.compile(head).match(text, start)
         if not opened:
-            self.refuse(line, "a clause without braces")
+            self.refuse(line, what + " without braces")
         at, depth = opened.end(), 1
         while depth and at < len(text):
             depth += {"{": 1, "}": -1}.get(text[at], 0)
             at += 1
         part = text[start:at]
         if depth or '"' in part or "//" in part:
-            self.refuse(line, "a clause with open braces, a text or a comment")
+            self.refuse(line, what + " with open braces, a text or a comment")
         return part
 
     def here(self):
@@ -101,6 +119,9 @@ class File:
         """The first words of the attributes that stand here."""
         found = []
         while self.here().text == "#":
+            if self.code[self.at + 2].text == "tactic":
+                self.tactic()
+                continue
             self.take("#")
             self.take("[")
             found.append(self.take(*ATTRIBUTES).text)
@@ -108,6 +129,14 @@ class File:
                 self.take(text)
             self.take("]")
         return found
+
+    def tactic(self):
+        """The attribute that says how the check proves an item is no Rust."""
+        while True:
+            token = self.take()
+            token.out = ""
+            if token.text == "]":
+                return
 
     def item(self):
         start = self.at
@@ -129,13 +158,24 @@ class File:
         elif token.text == "fn":
             self.function()
         elif token.text == "impl":
-            self.take()
+            self.head()
+            if self.here().text == "for":
+                self.take("for")
+                self.head()
             self.take("{")
             while self.here().text != "}":
                 self.item()
             self.take("}")
         else:
             self.through(";")
+
+    def head(self):
+        """A type in the head of an `impl`."""
+        while self.here().text not in ("for", "{"):
+            if self.here().text in ("(", "["):
+                self.block()
+            else:
+                self.word()
 
     def exported(self, attribute):
         """A call of crate rdram: here a plain function, over which `exports` puts the C call."""
@@ -188,11 +228,11 @@ class File:
             self.refuse(token.line, "`%s` inside an item" % token.text)
         if token.kind != "word":
             return
-        if after[0] == "!" and after[1] != "=" and token.text not in KNOWN:
+        if after[0] == "!" and after[1] != "=" and token.text not in KNOWN and token.text not in MACROS:
             self.refuse(token.line, "the macro `%s!`" % token.text)
         if token.text == "as":
             self.cast(at)
-        elif after[0] == "::" and self.code[at - 1].text != "::":
+        elif after[0] == "::" and self.code[at - 1].text not in ("::", "."):
             self.path_start(token, after)
 
     def path_start(self, token, after):
@@ -210,7 +250,7 @@ class File:
             for i in range(3):
                 self.take().out = "::" if i == 0 else ""
             self.take().out = "wrapping_" + wrapping[1]
-        elif not (token.text[0].isupper() or token.text in NUMBERS and after[1] in BITS):
+        elif not (token.text[0].isupper() or token.text in NUMBERS and after[1] in BITS + ("from",)):
             self.refuse(token.line, "a path from `%s`" % token.text)
 
     def cast(self, at):

@@ -1,5 +1,6 @@
 -- The promises of the calls on an index.
 -- Assumes nothing.
+use Rattle.std.specs.Prelude.{Err, None, Ok, Option, Result, Some}
 use Prim.Native.Nat.{ℕ, zero, suc, ◌+◌, ◌*◌, ◌%◌, ◌<◌, ◌≤◌}
 use mathlib.Core.Path.{◌≡◌, refl, sym, ap, ◌∙◌}
 use mathlib.Core.List.{List, ◌++◌}
@@ -12,15 +13,11 @@ use lib.ListN.{length, take, drop}
 use Rattle.num.specs.Bytes.{bytes, part, splice, Bytes}
 use Rattle.num.proofs.PartLaws.{part_left, part-all}
 use Rattle.settings.specs.declared.Settings.{Settings}
-use Rattle.settings.specs.declared.SettingsRead.{SettingsRead}
-use Rattle.settings.specs.declared.SettingsRead.TheVariants as read
 use Rattle.settings.specs.Settings.{settings_read}
 use Rattle.record.specs.declared.Refusal.TheVariants as refusal
 use Rattle.record.proofs.RefusalLaws.{refused-number}
 use Rattle.log_block.specs.Block.{blocks_in, block_at}
 use Rattle.spec_calls.specs.Settings.{by_settings, under_settings}
-use Rattle.spec_index.specs.declared.Indexed.{Indexed}
-use Rattle.spec_index.specs.declared.Indexed.TheVariants.{Refused, Differs, Count}
 use Rattle.spec_index.specs.Touched.{touched_word}
 use Rattle.num.specs.Marks.{count_up_to}
 use Rattle.spec_index.specs.Index.{index_words, words_up_to, index_of}
@@ -33,25 +30,27 @@ use Rattle.log_index.proofs.make.MakeLaws.{fifteen, pick, added}
 use Rattle.log_index.proofs.query.QueryLaws.{Queried, query-passed, beside-passed}
 use Rattle.calls_index.specs.Results.{index_answer, IndexResult, index_by, index_add_call, index_query_call, checked_answer, index_check_call}
 use Rattle.calls_index.specs.Theorems.{RefusedIndexCalls, IndexCalls}
+use Rattle.spec_index.specs.declared.IndexRefusal.TheVariants.{Differs, Refused}
+use Rattle.spec_index.specs.declared.IndexRefusal.{IndexRefusal}
 
 -- ---- refused calls
 
-pub kept_by : (lent new : List ℕ) (x : Indexed) → ((index_answer x).number ≡ 0 → ⊥) → lent_after x new lent ≡ lent
+pub kept_by : (lent new : List ℕ) (x : Result ℕ IndexRefusal) → ((index_answer x).number ≡ 0 → ⊥) → lent_after x new lent ≡ lent
 unfolding index_answer lent_after
-kept_by lent new (Refused why) n = refl
-kept_by lent new (Differs k) n = refl
-kept_by lent new (Count k) n = absurd (n refl)
+kept_by lent new (Err (Refused why)) n = refl
+kept_by lent new (Err (Differs k)) n = refl
+kept_by lent new (Ok k) n = absurd (n refl)
 
-kept_under : (settings lent : List ℕ) (answer : Settings → Indexed) (new : Settings → List ℕ)
-    → let x : IndexResult = under_settings settings (λ why. index_by lent (Refused why) lent) (λ s. index_by lent (answer s) (new s)) in
+kept_under : (settings lent : List ℕ) (answer : Settings → Result ℕ IndexRefusal) (new : Settings → List ℕ)
+    → let x : IndexResult = under_settings settings (λ why. index_by lent (Err (Refused why)) lent) (λ s. index_by lent (answer s) (new s)) in
     (x.answer.number ≡ 0 → ⊥) → x.lent ≡ lent
 unfolding under_settings
 kept_under settings lent answer new = go (settings_read settings)
   where
-    go : (r : SettingsRead) → let x : IndexResult = by_settings r (λ why. index_by lent (Refused why) lent) (λ s. index_by lent (answer s) (new s)) in
+    go : (r : Option Settings) → let x : IndexResult = by_settings r (λ why. index_by lent (Err (Refused why)) lent) (λ s. index_by lent (answer s) (new s)) in
         (x.answer.number ≡ 0 → ⊥) → x.lent ≡ lent
-    go read.Refused n = kept_by lent lent (Refused refusal.Settings) n
-    go (read.Accepted s) n = kept_by lent (new s) (answer s) n
+    go None n = kept_by lent lent (Err (Refused refusal.Settings)) n
+    go (Some s) n = kept_by lent (new s) (answer s) n
 
 pub refused-index-calls : RefusedIndexCalls
 unfolding index_add_call index_query_call
@@ -63,11 +62,11 @@ refused-index-calls =
 
 -- ---- accepted calls
 
-counted : (x : Indexed) → (index_answer x).number ≡ 0 → (n : ℕ) × (x ≡ Count n)
+counted : (x : Result ℕ IndexRefusal) → (index_answer x).number ≡ 0 → (n : ℕ) × (x ≡ Ok n)
 unfolding index_answer
-counted (Refused why) e = absurd (refused-number why e)
-counted (Differs k) e = absurd (omega arith)
-counted (Count n) e = (n, refl)
+counted (Err (Refused why)) e = absurd (refused-number why e)
+counted (Err (Differs k)) e = absurd (omega arith)
+counted (Ok n) e = (n, refl)
 
 -- the first words of an index are those of the first blocks
 words-front : (word : List ℕ → ℕ) (log : List ℕ) (n k : ℕ) → k ≤ n → part (words_up_to word log n) 0 (4 * k) ≡ words_up_to word log k
@@ -85,7 +84,7 @@ queried-length : (index : List ℕ) (bank : ℕ) → length (queried index bank)
 unfolding queried
 queried-length index bank = length-listed (has_bit index bank) (index_words index)
 
-module _ (settings : List ℕ) (s : Settings) (says : settings_read settings ≡ read.Accepted s) where
+module _ (settings : List ℕ) (s : Settings) (says : settings_read settings ≡ Some s) where
   add_is : (log : List ℕ) (kept : ℕ) (index : List ℕ) → index_add_call settings log kept index ≡ index_by index (add_answer s log kept index) (index_of s log)
   unfolding index_add_call under_settings
   add_is log kept index = rw says
@@ -116,7 +115,7 @@ module _ (settings : List ℕ) (s : Settings) (says : settings_read settings ≡
       ∙ sym (kept-are s log index kept w a.same)
 
   asked : (log index : List ℕ) (bank : ℕ) (out : List ℕ) → (index_query_call settings log index bank out).answer.number ≡ 0
-      → (n : ℕ) × (query_answer s log index bank (length out) ≡ Count n)
+      → (n : ℕ) × (query_answer s log index bank (length out) ≡ Ok n)
   asked log index bank out e = counted (query_answer s log index bank (length out)) (rw (query-is log index bank out) at e)
 
   scan : (log index : List ℕ) (bank : ℕ) (out : List ℕ) → Bytes index → (index_query_call settings log index bank out).answer.number ≡ 0

@@ -1,9 +1,8 @@
 -- What the calls on an index promise together (document 02, request b), of settings bytes that say s.
 -- Assumes nothing.
-use Rattle.std.specs.Prelude.{ℕ, ◌*◌, ◌<◌, ◌≡◌, List, length, take}
+use Rattle.std.specs.Prelude.{ℕ, ◌*◌, ◌<◌, ◌≡◌, List, length, take, Some}
 use Rattle.num.specs.Bytes.{splice, Bytes}
 use Rattle.settings.specs.declared.Settings.{Settings}
-use Rattle.settings.specs.declared.SettingsRead.TheVariants.{Accepted}
 use Rattle.settings.specs.Settings.{settings_read}
 use Rattle.log_block.specs.Block.{blocks_in, block_at}
 use Rattle.num.specs.Marks.{bit, count_up_to}
@@ -21,7 +20,7 @@ pub record RefusedIndexCalls : Type 0 where
   pub query : (settings log index : List ℕ) (bank : ℕ) (out : List ℕ)
       → ((index_query_call settings log index bank out).answer.number ≡ 0 → ⊥) → (index_query_call settings log index bank out).lent ≡ out
 
-module _ (settings : List ℕ) (s : Settings) (says : settings_read settings ≡ Accepted s) where
+module _ (settings : List ℕ) (s : Settings) (says : settings_read settings ≡ Some s) where
   pub record IndexCalls : Type 0 where
     -- what rdram_index_add leaves at the start of the buffer is the index of the log, whatever words were kept
     pub made : (log : List ℕ) (kept : ℕ) (index : List ℕ) → (index_add_call settings log kept index).answer.number ≡ 0

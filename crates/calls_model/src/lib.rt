@@ -6,19 +6,20 @@ ghost use Rattle.settings.specs.Settings.{valid};
 ghost use Rattle.spec_calls.specs.Models.{model_fresh, stepped_answer, step_under, step_call};
 
 use record::Refusal;
-use settings::{Settings, SettingsRead};
+use settings::Settings;
+use settings::read::read_settings;
 use spec_calls::StepAnswer;
-use spec_model::{MODEL_BYTES, Stepped};
+use spec_model::{Event, MODEL_BYTES};
 
 // Puts a fresh model into a buffer of its length.
 pub fn model_fresh(model: &mut [u8]) -> u32
     ensures value { result ≡ (model_fresh model.old).number }
     ensures model_after { model.new ≡ (model_fresh model.old).state }
 {
-    if model.len() != MODEL_BYTES {
+    let Some(fresh) = model.as_mut_array::<MODEL_BYTES>() else {
         return 1;
-    }
-    state_bytes::fresh::put_fresh_model(model);
+    };
+    state_bytes::fresh::put_fresh_model(fresh);
     0
 }
 
@@ -34,11 +35,11 @@ fn event(event: u32, bytes: u32) -> StepAnswer
     }
 }
 
-fn answer(a: Stepped) -> StepAnswer
+fn answer(a: Result<Event, Refusal>) -> StepAnswer
     ensures { result ≡ stepped_answer a }
 {
     match a {
-        Stepped::Refused(r) => {
+        Err(r) => {
             let why = r.answer();
             StepAnswer {
                 number: why.number,
@@ -47,9 +48,9 @@ fn answer(a: Stepped) -> StepAnswer
                 bytes: 0,
             }
         }
-        Stepped::Read => event(1, 0),
-        Stepped::Retired(n) => event(2, n),
-        Stepped::Neither => event(0, 0),
+        Ok(Event::Read) => event(1, 0),
+        Ok(Event::Retired(n)) => event(2, n),
+        Ok(Event::Neither) => event(0, 0),
     }
 }
 
@@ -67,10 +68,13 @@ fn step_under(
     ensures store_after { store.new ≡ (step_under model.old store.old given.now room.old s).store }
     ensures room_after { room.new ≡ (step_under model.old store.old given.now room.old s).room }
 {
-    if !state_bytes::models::model_right(s, model) {
-        return answer(Stepped::Refused(Refusal::Settings));
+    let Some(bytes) = model.as_mut_array::<MODEL_BYTES>() else {
+        return answer(Err(Refusal::Settings));
+    };
+    if !state_bytes::models::model_right(s, bytes) {
+        return answer(Err(Refusal::Settings));
     }
-    answer(model_step::step(s, model, store, given, room))
+    answer(model_step::step(s, bytes, store, given, room))
 }
 
 // One record: an RD puts its dualoct at the start of room, a retire writes to the store.
@@ -86,8 +90,8 @@ pub fn step_call(
     ensures store_after { store.new ≡ (step_call settings.now model.old store.old given.now room.old).store }
     ensures room_after { room.new ≡ (step_call settings.now model.old store.old given.now room.old).room }
 {
-    match settings::read::read_settings(settings) {
-        SettingsRead::Refused => answer(Stepped::Refused(Refusal::Settings)),
-        SettingsRead::Accepted(s) => step_under(s, model, store, given, room),
-    }
+    let Some(s) = read_settings(settings) else {
+        return answer(Err(Refusal::Settings));
+    };
+    step_under(s, model, store, given, room)
 }

@@ -1,5 +1,6 @@
 -- What an accepted call for a page says of its list, start and room.
 -- Assumes nothing.
+use Rattle.std.specs.Prelude.{Err, Ok, Result}
 use Prim.Native.Nat.{ℕ, ◌%◌, ◌≤◌}
 use mathlib.Core.Path.{◌≡◌, refl, sym, ap, ◌∙◌}
 use mathlib.Core.Bool.{Bool, true, false, cond}
@@ -18,34 +19,32 @@ use Rattle.record.specs.Record.{records_in, first_bad}
 use Rattle.spec_rules.specs.Neighbour.{Context, context_of}
 use Rattle.spec_rules.specs.Broken.{rule_at, first_broken, every_rule}
 use Rattle.spec_rules.proofs.Bools.{not-both}
-use Rattle.spec_check.specs.declared.Judged.{Judged}
-use Rattle.spec_check.specs.declared.Judged.TheVariants.{Passed, Refused}
 use Rattle.spec_check.specs.Check.{records_of, rule_answer, records_answer, list_answer}
 use Rattle.spec_check.proofs.PassLaws.{is_passed}
 use Rattle.spec_page.specs.Page.{page_bytes}
 use Rattle.calls_page.specs.Results.{room_for, page_answer}
 
 -- an answer that passes only where a test does
-if-passed : (b : Bool) (x : Judged) (why : Refusal) → cond b x (Refused why) ≡ Passed → (b ≡ true) × (x ≡ Passed)
+if-passed : (b : Bool) (x : Result (Unit {0}) Refusal) (why : Refusal) → cond b x (Err why) ≡ (Ok tt) → (b ≡ true) × (x ≡ (Ok tt))
 if-passed true x why e = (refl, e)
 if-passed false x why e = not-both false (ap is_passed e) refl
 
-room-passed : (room : ℕ) (x : Judged) → room_for room x ≡ Passed → (leb page_bytes room ≡ true) × (x ≡ Passed)
+room-passed : (room : ℕ) (x : Result (Unit {0}) Refusal) → room_for room x ≡ (Ok tt) → (leb page_bytes room ≡ true) × (x ≡ (Ok tt))
 unfolding room_for
-room-passed room Passed e = if-passed (leb page_bytes room) Passed Full e
-room-passed room (Refused why) e = not-both false (ap is_passed e) refl
+room-passed room (Ok tt) e = if-passed (leb page_bytes room) (Ok tt) Full e
+room-passed room (Err why) e = not-both false (ap is_passed e) refl
 
 pub record Accepts (s : Settings) (list : List ℕ) (start room : ℕ) : Type 0 where
   pub whole : length list % 32 ≡ 0
   pub in-time : start ≤ horizon
   pub fits : page_bytes ≤ room
   pub formed : first_bad s list ≡ records_in list
-  pub judged : list_answer (context_of s) list ≡ Passed
+  pub judged : list_answer (context_of s) list ≡ (Ok tt)
   pub passes : every_rule (context_of s) (records_of s list) ≡ true
 
 -- of a list of whole records
-module _ (cx : Context) (list : List ℕ) (e : records_answer cx list ≡ Passed) where
-  records-passed : (eqb (first_bad cx.settings list) (records_in list) ≡ true) × (rule_answer cx (records_of cx.settings list) ≡ Passed)
+module _ (cx : Context) (list : List ℕ) (e : records_answer cx list ≡ (Ok tt)) where
+  records-passed : (eqb (first_bad cx.settings list) (records_in list) ≡ true) × (rule_answer cx (records_of cx.settings list) ≡ (Ok tt))
   unfolding records_answer
   records-passed = if-passed (eqb (first_bad cx.settings list) (records_in list)) _ (Word (first_bad cx.settings list)) e
 
@@ -53,9 +52,9 @@ module _ (cx : Context) (list : List ℕ) (e : records_answer cx list ≡ Passed
   unfolding rule_answer first_broken every_rule
   rules-passed =
       let rs : List Record = records_of cx.settings list in
-      sym (first-all _ (length rs)) ∙ (if-passed (eqb (first_broken cx rs) (length rs)) Passed (Rule (rule_at cx rs (first_broken cx rs)) (first_broken cx rs)) records-passed.1).0
+      sym (first-all _ (length rs)) ∙ (if-passed (eqb (first_broken cx rs) (length rs)) (Ok tt) (Rule (rule_at cx rs (first_broken cx rs)) (first_broken cx rs)) records-passed.1).0
 
-pub page-accepts : (s : Settings) (list : List ℕ) (start room : ℕ) → page_answer s list start room ≡ Passed → Accepts s list start room
+pub page-accepts : (s : Settings) (list : List ℕ) (start room : ℕ) → page_answer s list start room ≡ (Ok tt) → Accepts s list start room
 unfolding page_answer list_answer context_of
 page-accepts s list start room e =
     let a = if-passed (eqb (length list % 32) 0) _ Length e in
@@ -71,12 +70,12 @@ page-accepts s list start room e =
     }
 
 -- a list of whole records is judged for 10 and 11
-pub whole-list : (cx : Context) (list : List ℕ) {x : Judged} → length list % 32 ≡ 0 → list_answer cx list ≡ x → records_answer cx list ≡ x
+pub whole-list : (cx : Context) (list : List ℕ) {x : Result (Unit {0}) Refusal} → length list % 32 ≡ 0 → list_answer cx list ≡ x → records_answer cx list ≡ x
 unfolding list_answer
 whole-list cx list z e = rw (eq-eqb _ 0 z) at e
 
 -- and has whole records where it passes
-pub list-passed : (cx : Context) (list : List ℕ) → list_answer cx list ≡ Passed → length list % 32 ≡ 0
+pub list-passed : (cx : Context) (list : List ℕ) → list_answer cx list ≡ (Ok tt) → length list % 32 ≡ 0
 unfolding list_answer
 list-passed cx list e = eqb-true _ 0 (if-passed (eqb (length list % 32) 0) (records_answer cx list) Length e).0
 

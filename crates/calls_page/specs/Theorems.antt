@@ -1,8 +1,7 @@
 -- What rdram_page promises (document 02, request k), of any bytes and lengths.
 -- Assumes nothing.
-use Rattle.std.specs.Prelude.{ℕ, ◌≤◌, ◌≡◌, List, ◌++◌, ◌≢◌, ◌↔◌, length, drop}
+use Rattle.std.specs.Prelude.{ℕ, ◌≤◌, ◌≡◌, List, ◌++◌, ◌≢◌, ◌↔◌, length, drop, Some}
 use Rattle.settings.specs.declared.Settings.{Settings}
-use Rattle.settings.specs.declared.SettingsRead.TheVariants.{Accepted}
 use Rattle.settings.specs.Instants.{horizon}
 use Rattle.settings.specs.Settings.{settings_read}
 use Rattle.spec_check.specs.Check.{records_of}
@@ -19,8 +18,8 @@ pub record PageCalls : Type 0 where
   -- "changes no lent buffer"
   pub refused : (settings list : List ℕ) (start : ℕ) (room : List ℕ) → (page_call settings list start room).answer.number ≢ 0 → (page_call settings list start room).lent ≡ room
   -- an accepted call writes the first 292 bytes of the room, and leaves the others
-  pub written : (settings : List ℕ) (s : Settings) → settings_read settings ≡ Accepted s → (list : List ℕ) (start : ℕ) (room : List ℕ)
+  pub written : (settings : List ℕ) (s : Settings) → settings_read settings ≡ Some s → (list : List ℕ) (start : ℕ) (room : List ℕ)
       → (page_call settings list start room).answer.number ≡ 0 → (page_call settings list start room).lent ≡ page s (records_of s list) start ++ drop page_bytes room
   -- and no two marks of its list meet
-  pub one-mark : (settings : List ℕ) (s : Settings) → settings_read settings ≡ Accepted s → (list : List ℕ) (start : ℕ) (room : List ℕ)
+  pub one-mark : (settings : List ℕ) (s : Settings) → settings_read settings ≡ Some s → (list : List ℕ) (start : ℕ) (room : List ℕ)
       → (page_call settings list start room).answer.number ≡ 0 → OneMark s (records_of s list)

@@ -1,7 +1,7 @@
 // Draws a page of the channel (document 02, request k): a blank one, then the marks of each record that lie inside.
 pub mod marks;
 
-ghost use Rattle.std.specs.Prelude.{◌≡◌, [], ◌<◌, ◌^◌, length};
+ghost use Rattle.std.specs.Prelude.{◌≡◌, [], ◌<◌};
 ghost use Rattle.settings.specs.declared.Settings.{Settings};
 ghost use Rattle.record.specs.Record.{first_bad, records_in};
 ghost use Rattle.spec_check.specs.Check.{records_of};
@@ -9,16 +9,17 @@ ghost use Rattle.spec_page.specs.Page.{page, page_bytes};
 ghost use Rattle.spec_page.specs.Form.Bytes.{byte_by};
 ghost use Rattle.calls_page.specs.Form.Paint.{blank};
 
+use crate::PageBytes;
 use crate::draw::marks::draw_record;
-use record::RecordRead;
 use record_bytes::read_record;
 use settings::Settings;
 
 // Byte i of a page without records.
-fn blank_byte(start: u64, i: usize) -> u8
-    requires { (i < page_bytes) × (start < 2 ^ 32) }
+fn blank_byte(start: u32, i: usize) -> u8
+    requires { i < page_bytes }
     ensures { result ≡ byte_by blank start i }
 {
+    let start = u64::from(start);
     let n = i / 73;
     let k = i % 73;
     if k < 8 {
@@ -38,30 +39,24 @@ fn blank_byte(start: u64, i: usize) -> u8
 }
 
 // A page without records.
-fn put_blank(out: &mut [u8], start: u64)
-    requires { (length out.old ≡ page_bytes) × (start < 2 ^ 32) }
+fn put_blank(out: &mut PageBytes, start: u32)
     ensures { (s : Settings) → out.new ≡ page s [] start }
 {
-    let mut i = 0;
-    while i < 292 {
-        out[i] = blank_byte(start, i);
-        i += 1;
+    for (i, byte) in out.iter_mut().enumerate() {
+        *byte = blank_byte(start, i);
     }
 }
 
 // The page of a list of well formed records from cycle `start` on. Records are taken from the last to the first, in one pass.
-pub fn draw(s: Settings, list: &[u8], start: u64, out: &mut [u8])
-    requires out_len { (length out.old ≡ page_bytes) × (start < 2 ^ 32) }
+pub fn draw(s: Settings, list: &[u8], start: u32, out: &mut PageBytes)
     requires list_value { first_bad s list.now ≡ records_in list.now }
     ensures { out.new ≡ page s (records_of s list.now) start }
 {
     put_blank(out, start);
-    let mut i = list.len() / 32;
-    while 0 < i {
-        i -= 1;
+    for i in (0..list.len() / 32).rev() {
         match read_record(s, list, 32 * i) {
-            RecordRead::NoRecord => {}
-            RecordRead::Known(r) => draw_record(s, out, start, r),
+            None => {}
+            Some(r) => draw_record(s, out, start, r),
         }
     }
 }

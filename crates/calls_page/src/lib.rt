@@ -8,54 +8,51 @@ ghost use Rattle.spec_check.specs.Check.{records_of};
 ghost use Rattle.spec_page.specs.Page.{page};
 ghost use Rattle.calls_page.specs.Results.{page_answer, page_lent, page_call};
 
-use calls_list::checks::check_answer;
 use record::Refusal;
-use settings::{HORIZON, Settings, SettingsRead};
+use settings::read::read_settings;
+use settings::{HORIZON, Settings};
 use spec_calls::CheckAnswer;
-use spec_check::Judged;
 
 // The bytes of a page.
 const PAGE: usize = 292;
 
+pub(crate) type PageBytes = [u8; PAGE];
+
 // What a call answers whose room has so many bytes: 13, 7, 10, 11, 8.
-fn page_answer(s: Settings, list: &[u8], start: u32, room: usize) -> Judged
+fn page_answer(s: Settings, list: &[u8], start: u32, room: usize) -> Result<(), Refusal>
     ensures { result ≡ page_answer s list.now start room }
 {
     if list.len() % 32 != 0 {
-        return Judged::Refused(Refusal::Length);
+        return Err(Refusal::Length);
     }
     if start > HORIZON {
-        return Judged::Refused(Refusal::Horizon);
+        return Err(Refusal::Horizon);
     }
-    match check_list::check_list(s, list) {
-        Judged::Refused(why) => Judged::Refused(why),
-        Judged::Passed => {
-            if room < PAGE {
-                return Judged::Refused(Refusal::Full);
-            }
-            Judged::Passed
-        }
+    check_list::check_list(s, list)?;
+    if room < PAGE {
+        return Err(Refusal::Full);
     }
+    Ok(())
 }
 
 // The page of a list from cycle `start` on, to the start of the room.
-fn put_page(s: Settings, list: &[u8], start: u32, room: &mut [u8]) -> Judged
+fn put_page(s: Settings, list: &[u8], start: u32, room: &mut [u8]) -> Result<(), Refusal>
     ensures { (result ≡ page_answer s list.now start (length room.old)) × (room.new ≡ page_lent result (page s (records_of s list.now) start) room.old) }
 {
-    let answer = page_answer(s, list, start, room.len());
-    match answer {
-        Judged::Refused(_) => {}
-        Judged::Passed => crate::draw::draw(s, list, num::wide32(start), &mut room[..PAGE]),
-    }
-    answer
+    page_answer(s, list, start, room.len())?;
+    let Some(page) = room.first_chunk_mut::<PAGE>() else {
+        return Err(Refusal::Full);
+    };
+    crate::draw::draw(s, list, start, page);
+    Ok(())
 }
 
 // The page of a list of records, of settings as bytes.
 pub fn page_by(settings: &[u8], list: &[u8], start: u32, room: &mut [u8]) -> CheckAnswer
     ensures { (result ≡ (page_call settings.now list.now start room.old).answer) × (room.new ≡ (page_call settings.now list.now start room.old).lent) }
 {
-    match settings::read::read_settings(settings) {
-        SettingsRead::Refused => check_answer(Judged::Refused(Refusal::Settings)),
-        SettingsRead::Accepted(s) => check_answer(put_page(s, list, start, room)),
-    }
+    let Some(s) = read_settings(settings) else {
+        return CheckAnswer::from(Err(Refusal::Settings));
+    };
+    CheckAnswer::from(put_page(s, list, start, room))
 }

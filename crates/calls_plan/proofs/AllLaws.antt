@@ -1,5 +1,6 @@
 -- Many requests in turn on the lent bytes: the request at a place on the rest of the room, and what the turns so far say of both.
 -- Assumes nothing.
+use Rattle.std.specs.Prelude.{Err, Ok, Result}
 use Prim.Native.Nat.{ℕ, zero, suc, ◌+◌, ◌-◌, ◌*◌, ◌/◌, ◌≤◌, ◌<◌, max}
 use mathlib.Core.Path.{◌≡◌, refl, sym, ap, ◌∙◌, subst}
 use mathlib.Core.Bool.{Bool, true, false, cond}
@@ -18,8 +19,6 @@ use Rattle.settings.specs.Settings.{valid}
 use Rattle.record.specs.declared.Refusal.TheVariants as refusal
 use Rattle.spec_rules.specs.Neighbour.{context_of}
 use Rattle.spec_plan.specs.declared.PlannerState.{PlannerState}
-use Rattle.spec_plan.specs.declared.Outcome.{Outcome}
-use Rattle.spec_plan.specs.declared.Outcome.TheVariants.{Refused, Made}
 use Rattle.spec_plan.specs.Planner.{planner_valid}
 use Rattle.spec_plan.specs.PlannerBytes.{planner_in, planner_right}
 use Rattle.spec_plan.specs.Call.{plan_outcome}
@@ -32,10 +31,11 @@ use Rattle.spec_calls.specs.declared.PlanAnswer.{PlanAnswer}
 use Rattle.spec_calls.specs.declared.PlanAllAnswer.{PlanAllAnswer}
 use Rattle.spec_calls.specs.Plans.{plan_answer, PlanResult, plan_refused, plan_by, plan_under}
 use Rattle.spec_calls.specs.PlanAll.{PlanAllResult, request_at, one_more, in_turn, none_yet}
-use Rattle.spec_calls.proofs.OneCall.{right-length, right_valid, under}
+use Rattle.spec_calls.proofs.OneCall.{right_valid, under}
 use Rattle.calls_plan.proofs.CallLaws.{Leaves}
 use Rattle.calls_plan.proofs.HighLaws.{rested-bytes, call-rises}
 use Rattle.spec_calls.proofs.PlanAllLaws.{size_is, records-within, still-right, left_by, Reached, reached}
+use Rattle.record.specs.declared.Refusal.{Refusal}
 
 -- ---- a part of the room up to its end
 
@@ -68,10 +68,10 @@ refused_none : (planner request room : List ℕ) (s : Settings) → (plan_under 
 unfolding plan_under plan_answer
 refused_none planner request room s = go (planner_right (context_of s) planner) (plan_outcome (context_of s) (planner_in planner) request (length room))
   where
-    go : (t : Bool) (o : Outcome) → (cond t (plan_by planner request room (context_of s) (planner_in planner) o) (plan_refused planner request room refusal.Settings)).answer.number ≢ 0
+    go : (t : Bool) (o : Result ℕ Refusal) → (cond t (plan_by planner request room (context_of s) (planner_in planner) o) (plan_refused planner request room refusal.Settings)).answer.number ≢ 0
         → (cond t (plan_by planner request room (context_of s) (planner_in planner) o) (plan_refused planner request room refusal.Settings)).answer.records ≡ 0
-    go true (Refused why) e = refl
-    go true (Made n) e = absurd (e refl)
+    go true (Err why) e = refl
+    go true (Ok n) e = absurd (e refl)
     go false o e = refl
 
 -- what a call answers and leaves, by its result
@@ -141,9 +141,6 @@ module _ {s : Settings} {planner₀ requests room₀ : List ℕ} (g : Lent s pla
   -- the state is not refused, and the records have their place in the room
   pub right-now : planner_right (context_of s) planner ≡ true
   right-now = rw k.planner-is (still-right s g.settings-valid p room₀ x _ at.stands)
-
-  pub planner-kept : length planner ≡ length planner₀
-  planner-kept = right-length (context_of s) planner right-now ∙ sym (right-length (context_of s) planner₀ g.planner-right)
 
   pub room-kept : length room ≡ length room₀
   room-kept = ap length k.room-is ∙ size_is s g.settings-valid p room₀ x _ at.stands

@@ -1,5 +1,6 @@
 -- How far the stored instants of a planner's bytes rise by a plan call that is accepted.
 -- Assumes nothing.
+use Rattle.std.specs.Prelude.{Err, Ok, Result}
 use Prim.Native.Nat.{ℕ, ◌+◌, ◌/◌, ◌≤◌, max}
 use mathlib.Core.Path.{◌≡◌, refl, sym, ap, ◌∙◌}
 use mathlib.Core.Bool.{Bool, true, false, cond}
@@ -12,8 +13,6 @@ use Rattle.settings.specs.Settings.{valid}
 use Rattle.record.specs.declared.Request.{Request}
 use Rattle.record.specs.declared.Refusal.{Refusal}
 use Rattle.record.specs.declared.Refusal.TheVariants as refusal
-use Rattle.record.specs.declared.RequestRead.{RequestRead}
-use Rattle.record.specs.declared.RequestRead.TheVariants.{Refused as RefusedRequest, Accepted}
 use Rattle.record.specs.Request.{request_read}
 use Rattle.record.proofs.RefusalLaws.{refused-number}
 use Rattle.record.proofs.RequestLaws.{InRange, accepted-range}
@@ -22,8 +21,6 @@ use Rattle.spec_rules.proofs.Bools.{and_left}
 use Rattle.spec_state.specs.Valid.{channel_valid}
 use Rattle.spec_state.proofs.RoundTrip.{valid-kept}
 use Rattle.spec_plan.specs.declared.PlannerState.{PlannerState}
-use Rattle.spec_plan.specs.declared.Outcome.{Outcome}
-use Rattle.spec_plan.specs.declared.Outcome.TheVariants.{Refused, Made}
 use Rattle.spec_plan.specs.Planner.{planner_valid}
 use Rattle.spec_plan.specs.PlannerBytes.{planner_bytes, planner_in, planner_right}
 use Rattle.spec_plan.specs.Plan.{Draft, planned}
@@ -60,19 +57,19 @@ module _ (s : Settings) (planner room : List ℕ) (top : ℕ) (k : Rested s top 
   Rises x = x.answer.number ≡ 0 → Below (max (top + 9700) (word x.planner 752)) x.planner
 
   -- of what a request says, where it is in range
-  said-rises : (x : RequestRead) → ((q : Request) → x ≡ Accepted q → InRange s q) → Rises (served (context_of s) planner x room)
+  said-rises : (x : Result Request Refusal) → ((q : Request) → x ≡ Ok q → InRange s q) → Rises (served (context_of s) planner x room)
   unfolding served outcome_by outcome_of draft_by plan_answer
-  said-rises (RefusedRequest why) i = λ n. absurd (refused-number why n)
-  said-rises (Accepted q) i = go (unretired q (planner_in planner)) (timely (context_of s) (planner_in planner) d) (leb (length d.records) (length room / 32)) refl
+  said-rises (Err why) i = λ n. absurd (refused-number why n)
+  said-rises (Ok q) i = go (unretired q (planner_in planner)) (timely (context_of s) (planner_in planner) d) (leb (length d.records) (length room / 32)) refl
     where
       d : Draft
       d = planned (context_of s) q (planner_in planner)
 
       banks : ℕ
-      banks = looked_by (planner_in planner) (Accepted q)
+      banks = looked_by (planner_in planner) (Ok q)
 
       go : (u t f : Bool) → timely (context_of s) (planner_in planner) d ≡ t
-          → Rises (served_by (context_of s) planner banks d room (cond u (Refused refusal.Unretired) (cond t (cond f (Made (length d.records)) (Refused refusal.Full)) (Refused refusal.Horizon))))
+          → Rises (served_by (context_of s) planner banks d room (cond u (Err refusal.Unretired) (cond t (cond f (Ok (length d.records)) (Err refusal.Full)) (Err refusal.Horizon))))
       go true t f e n = absurd (refused-number refusal.Unretired n)
       go false true true e n = rises s top planner k l q (i q refl) e (planner_bytes d.planner) refl
       go false true false e n = absurd (refused-number refusal.Full n)

@@ -11,17 +11,17 @@ ghost use Rattle.spec_calls.proofs.OneCall.{under};
 use crate::ways::asked;
 use num::u32_at;
 use plan_bytes::calm::highest;
-use plan_bytes::latest;
 use record::Refusal;
-use settings::{Settings, SettingsRead};
+use settings::Settings;
+use settings::read::read_settings;
 use spec_calls::{PlanAllAnswer, PlanAnswer};
-use spec_plan::PLANNER_BYTES;
+use spec_plan::{PLANNER_BYTES, PlannerBytes};
 use state_bytes::planners::planner_right;
 
 // The request at a place, where so many records stand in the room.
 fn plan_at(
     s: Settings,
-    planner: &mut [u8],
+    planner: &mut PlannerBytes,
     quick: bool,
     requests: &[u8],
     place: usize,
@@ -55,19 +55,23 @@ fn planned_to(number: u32, place: usize, records: usize) -> PlanAllAnswer
 }
 
 // A bound of the stored instants after a request that was planned, by one before it: it adds at most 9,700, or it leaves this now.
-fn risen(planner: &[u8], top: u32) -> u32
-    requires planner_len { length planner.now ≡ 768 }
+fn risen(planner: &PlannerBytes, top: u32) -> u32
     requires below { top ≤ 999990000 → Below (max (top + 9700) (word planner.now 752)) planner.now }
     ensures { Below result planner.now }
 {
     if top <= 999990000 {
-        return latest(top + 9700, u32_at(planner, 752));
+        return (top + 9700).max(u32_at(planner, 752));
     }
     highest(planner)
 }
 
 // Every request in turn, from a state that is not refused, up to the first that is refused.
-fn plan_each(s: Settings, planner: &mut [u8], requests: &[u8], room: &mut [u8]) -> PlanAllAnswer
+fn plan_each(
+    s: Settings,
+    planner: &mut PlannerBytes,
+    requests: &[u8],
+    room: &mut [u8],
+) -> PlanAllAnswer
     requires s_value { valid s ≡ true }
     requires planner_value { planner_right (context_of s) planner.old ≡ true }
     ensures value { result ≡ (in_turn (under s) requests.now (length requests.now / 24) (none_yet planner.old room.old)).answer }
@@ -75,20 +79,17 @@ fn plan_each(s: Settings, planner: &mut [u8], requests: &[u8], room: &mut [u8]) 
     ensures room_after { room.new ≡ (in_turn (under s) requests.now (length requests.now / 24) (none_yet planner.old room.old)).room }
 {
     let n = requests.len() / 24;
-    let mut place = 0;
     let mut records = 0;
     let mut top = highest(planner);
-    while place < n {
+    for place in 0..n {
         let made = plan_at(s, planner, top <= 999990000, requests, place, room, records);
-        let next = place + 1;
         if made.number != 0 {
             return planned_to(made.number, place, records);
         }
         top = risen(planner, top);
         records += made.records as usize;
-        place = next;
     }
-    planned_to(0, place, records)
+    planned_to(0, n, records)
 }
 
 // The answer of a call that is refused before any request is planned.
@@ -103,16 +104,6 @@ fn none_planned(why: Refusal) -> PlanAllAnswer
     }
 }
 
-// Whether a planner's bytes are a state that is not refused.
-fn right_state(s: Settings, planner: &[u8]) -> bool
-    ensures { result ≡ planner_right (context_of s) planner.now }
-{
-    if planner.len() != PLANNER_BYTES {
-        return false;
-    }
-    planner_right(s, planner)
-}
-
 // A call under settings that are accepted: 1 for the state, then 13.
 pub fn plan_all_under(
     s: Settings,
@@ -125,7 +116,10 @@ pub fn plan_all_under(
     ensures planner_after { planner.new ≡ (plan_all_under (under s) planner.old requests.now room.old s).planner }
     ensures room_after { room.new ≡ (plan_all_under (under s) planner.old requests.now room.old s).room }
 {
-    if !right_state(s, planner) {
+    let Some(planner) = planner.as_mut_array::<PLANNER_BYTES>() else {
+        return none_planned(Refusal::Settings);
+    };
+    if !planner_right(s, planner) {
         return none_planned(Refusal::Settings);
     }
     if requests.len() % 24 != 0 {
@@ -146,8 +140,8 @@ pub fn plan_all_call(
     ensures planner_after { planner.new ≡ (plan_all_call settings.now planner.old requests.now room.old).planner }
     ensures room_after { room.new ≡ (plan_all_call settings.now planner.old requests.now room.old).room }
 {
-    match settings::read::read_settings(settings) {
-        SettingsRead::Refused => none_planned(Refusal::Settings),
-        SettingsRead::Accepted(s) => plan_all_under(s, planner, requests, room),
-    }
+    let Some(s) = read_settings(settings) else {
+        return none_planned(Refusal::Settings);
+    };
+    plan_all_under(s, planner, requests, room)
 }

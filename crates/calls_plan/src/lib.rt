@@ -4,7 +4,7 @@
 pub mod all;
 mod ways;
 
-ghost use Rattle.std.specs.Prelude.{◌≡◌, true, length};
+ghost use Rattle.std.specs.Prelude.{◌≡◌, true};
 ghost use Rattle.settings.specs.Settings.{valid};
 ghost use Rattle.spec_rules.specs.Neighbour.{context_of};
 ghost use Rattle.spec_plan.specs.PlannerBytes.{planner_right};
@@ -13,26 +13,26 @@ ghost use Rattle.plan_bytes.specs.Form.Calm.{is_calm};
 
 use crate::ways::{answer, asked};
 use record::Refusal;
-use settings::{Settings, SettingsRead};
+use settings::Settings;
+use settings::read::read_settings;
 use spec_calls::PlanAnswer;
-use spec_plan::{Outcome, PLANNER_BYTES};
+use spec_plan::{PLANNER_BYTES, PlannerBytes};
 use state_bytes::planners::{planner_rest_right, planner_right};
 
-// Puts a fresh planner into a buffer of its length.
+// Puts a fresh planner into a buffer of its length. The number is that of the C call, which has no other result.
 pub fn planner_fresh(planner: &mut [u8]) -> u32
     ensures value { result ≡ (planner_fresh planner.old).number }
     ensures planner_after { planner.new ≡ (planner_fresh planner.old).state }
 {
-    if planner.len() != PLANNER_BYTES {
+    let Some(planner) = planner.as_mut_array::<PLANNER_BYTES>() else {
         return 1;
-    }
+    };
     state_bytes::fresh::put_fresh_planner(planner);
     0
 }
 
 // Whether refusal 1 has nothing against a planner's bytes, of which is known whether they are calm: then no instant is out of range.
-fn right(s: Settings, b: &[u8], quick: bool) -> bool
-    requires b_len { length b.now ≡ 768 }
+fn right(s: Settings, b: &PlannerBytes, quick: bool) -> bool
     requires quick_value { quick ≡ is_calm b.now }
     ensures { result ≡ planner_right (context_of s) b.now }
 {
@@ -49,12 +49,12 @@ fn plan_under(s: Settings, planner: &mut [u8], request: &[u8], room: &mut [u8]) 
     ensures planner_after { planner.new ≡ (plan_under planner.old request.now room.old s).planner }
     ensures room_after { room.new ≡ (plan_under planner.old request.now room.old s).room }
 {
-    if planner.len() != PLANNER_BYTES {
-        return answer(Outcome::Refused(Refusal::Settings), 0);
-    }
+    let Some(planner) = planner.as_mut_array::<PLANNER_BYTES>() else {
+        return answer(Err(Refusal::Settings), 0);
+    };
     let quick = plan_bytes::calm::calm(planner);
     if !right(s, planner, quick) {
-        return answer(Outcome::Refused(Refusal::Settings), 0);
+        return answer(Err(Refusal::Settings), 0);
     }
     asked(s, planner, quick, request, room)
 }
@@ -65,8 +65,8 @@ pub fn plan_call(settings: &[u8], planner: &mut [u8], request: &[u8], room: &mut
     ensures planner_after { planner.new ≡ (plan_call settings.now planner.old request.now room.old).planner }
     ensures room_after { room.new ≡ (plan_call settings.now planner.old request.now room.old).room }
 {
-    match settings::read::read_settings(settings) {
-        SettingsRead::Refused => answer(Outcome::Refused(Refusal::Settings), 0),
-        SettingsRead::Accepted(s) => plan_under(s, planner, request, room),
-    }
+    let Some(s) = read_settings(settings) else {
+        return answer(Err(Refusal::Settings), 0);
+    };
+    plan_under(s, planner, request, room)
 }

@@ -1,5 +1,6 @@
 -- What rdram_shortest promises of the answers of rdram_check.
 -- Assumes nothing.
+use Rattle.std.specs.Prelude.{Err, None, Ok, Option, Result, Some}
 use Prim.Native.Nat.{ℕ, ◌-◌, ◌≤◌}
 use mathlib.Core.Path.{◌≡◌, refl, sym, ap, ap₂, ◌∙◌}
 use mathlib.Core.List.{List}
@@ -7,15 +8,11 @@ use mathlib.Core.Logic.{◌↔◌}
 use native.Mathlib.Omega.{arith}
 use borrow.Author.Tests.{ne_eqb}
 use Rattle.settings.specs.declared.Settings.{Settings}
-use Rattle.settings.specs.declared.SettingsRead.{SettingsRead}
-use Rattle.settings.specs.declared.SettingsRead.TheVariants.{Refused as Unread, Accepted}
 use Rattle.settings.specs.Settings.{settings_read}
 use Rattle.record.specs.declared.Refusal.TheVariants as refusal
 use Rattle.record.specs.Refusal.{answer_of}
 use Rattle.spec_rules.specs.Neighbour.{Context, context_of}
 use Rattle.spec_rules.specs.Broken.{FirstBreach}
-use Rattle.spec_check.specs.declared.Judged.{Judged}
-use Rattle.spec_check.specs.declared.Judged.TheVariants.{Passed, Refused}
 use Rattle.spec_check.specs.Check.{records_of, list_answer, ListBreach}
 use Rattle.spec_check.proofs.BreachLaws.{list-names}
 use Rattle.spec_check.specs.declared.Shortest.{Shortest}
@@ -29,17 +26,18 @@ use Rattle.spec_calls.proofs.BreachLaws.{check-names}
 use Rattle.calls_shortest.specs.declared.ShortestAnswer.{ShortestAnswer}
 use Rattle.calls_shortest.specs.Results.{with_start, in_numbers, shortest_call}
 use Rattle.calls_shortest.specs.Theorems.{broken_at, ShortestFor, ShortestCalls}
+use Rattle.record.specs.declared.Refusal.{Refusal}
 
 -- the verdict is the checker's
 verdict : (settings list : List ℕ) → shortest_call settings list ≡ with_start (check_call settings list) (shortest_call settings list).start
 unfolding shortest_call check_call under_settings in_numbers shortest_answer
 verdict settings list = go (settings_read settings) refl
   where
-    go : (q : SettingsRead) → settings_read settings ≡ q → shortest_call settings list ≡ with_start (check_call settings list) (shortest_call settings list).start
-    go Unread e = rw e
-    go (Accepted s) e = rw e
+    go : (q : Option Settings) → settings_read settings ≡ q → shortest_call settings list ≡ with_start (check_call settings list) (shortest_call settings list).start
+    go None e = rw e
+    go (Some s) e = rw e
 
-module _ (settings list : List ℕ) (s : Settings) (a : settings_read settings ≡ Accepted s) (n j : ℕ) (b : ListBreach (context_of s) list n j) where
+module _ (settings list : List ℕ) (s : Settings) (a : settings_read settings ≡ Some s) (n j : ℕ) (b : ListBreach (context_of s) list n j) where
   abbrev cx : Context
   cx = context_of s
 
@@ -59,9 +57,9 @@ module _ (settings list : List ℕ) (s : Settings) (a : settings_read settings �
   start-names : (i : ℕ) → ((shortest_call settings list).start ≡ i) ↔ ShortestRun cx (records_of s list) n j i
   unfolding shortest_call under_settings in_numbers shortest_answer context_of
   start-names i =
-      let v : list_answer cx list ≡ Refused (refusal.Rule n j) = (list-names cx n j list).1 b in
+      let v : list_answer cx list ≡ Err (refusal.Rule n j) = (list-names cx n j list).1 b in
       let t = shortest-names cx list n j i in (
-        λ e. (t.0 (rw (v) (ap (λ (x : ℕ). record { judged = Refused (refusal.Rule n j); start = x }) (rw (a, v) at e)))).1,
+        λ e. (t.0 (rw (v) (ap (λ (x : ℕ). record { judged = Err (refusal.Rule n j); start = x }) (rw (a, v) at e)))).1,
         λ r. rw a (ap (λ (x : Shortest). x.start) (t.1 (b, r))),
       )
 
@@ -88,18 +86,18 @@ shortest settings list n j i = (there, back)
         verdict settings list ∙ ap₂ with_start f.listed r
 
 -- a verdict that names no rule
-no_start : (cx : Context) (l : List ℕ) (v : Judged) → ((check_answer v).number ≡ 11 → ⊥) → start_of cx (records_of cx.settings l) v ≡ 0
+no_start : (cx : Context) (l : List ℕ) (v : Result (Unit {0}) Refusal) → ((check_answer v).number ≡ 11 → ⊥) → start_of cx (records_of cx.settings l) v ≡ 0
 unfolding start_of check_answer
-no_start cx l Passed h = refl
-no_start cx l (Refused why) h = rw (ne_eqb (answer_of why).number 11 h)
+no_start cx l (Ok tt) h = refl
+no_start cx l (Err why) h = rw (ne_eqb (answer_of why).number 11 h)
 
 no_run : (settings list : List ℕ) → ((check_call settings list).number ≡ 11 → ⊥) → (shortest_call settings list).start ≡ 0
 unfolding shortest_call check_call under_settings in_numbers shortest_answer context_of
 no_run settings list = go (settings_read settings) refl
   where
-    go : (q : SettingsRead) → settings_read settings ≡ q → ((check_call settings list).number ≡ 11 → ⊥) → (shortest_call settings list).start ≡ 0
-    go Unread e h = rw e
-    go (Accepted s) e h = rw e (no_start (context_of s) list (list_answer (context_of s) list) (rw e at h))
+    go : (q : Option Settings) → settings_read settings ≡ q → ((check_call settings list).number ≡ 11 → ⊥) → (shortest_call settings list).start ≡ 0
+    go None e h = rw e
+    go (Some s) e h = rw e (no_start (context_of s) list (list_answer (context_of s) list) (rw e at h))
 
 pub shortest-calls : ShortestCalls
 shortest-calls = record { verdict = verdict; shortest = shortest; no_run = no_run }

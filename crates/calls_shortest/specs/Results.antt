@@ -1,8 +1,7 @@
 -- What the call rdram_shortest answers (document 02 l). It is lent no buffer to write.
 -- Assumes nothing.
-use Rattle.std.specs.Prelude.{ℕ, List}
+use Rattle.std.specs.Prelude.{ℕ, List, Err}
 use Rattle.spec_rules.specs.Neighbour.{context_of}
-use Rattle.spec_check.specs.declared.Judged.TheVariants.{Refused}
 use Rattle.spec_check.specs.declared.Shortest.{Shortest}
 use Rattle.spec_check.specs.Shortest.{shortest_answer}
 use Rattle.spec_calls.specs.declared.CheckAnswer.{CheckAnswer}
@@ -19,4 +18,4 @@ in_numbers x = with_start (check_answer x.judged) x.start
 
 -- 1, then 13, 10 and 11 of the list
 unfoldable pub shortest_call : List ℕ → List ℕ → ShortestAnswer
-shortest_call settings list = under_settings settings (λ why. in_numbers (record { judged = Refused why; start = 0 })) (λ s. in_numbers (shortest_answer (context_of s) list))
+shortest_call settings list = under_settings settings (λ why. in_numbers (record { judged = Err why; start = 0 })) (λ s. in_numbers (shortest_answer (context_of s) list))

@@ -5,8 +5,9 @@ ghost use Rattle.std.specs.Prelude.{◌≡◌};
 ghost use Rattle.calls_shortest.specs.Results.{in_numbers, shortest_call};
 
 use record::Refusal;
-use settings::SettingsRead;
-use spec_check::{Judged, Shortest};
+use settings::read::read_settings;
+use spec_calls::CheckAnswer;
+use spec_check::Shortest;
 
 // What is answered: number, rule and place as of the checker; and where number is 11, the record from which the run starts.
 #[repr(C)]
@@ -22,7 +23,7 @@ fn in_numbers(x: Shortest) -> ShortestAnswer
     ensures { result ≡ in_numbers x }
 {
     let judged = x.judged;
-    let a = calls_list::checks::check_answer(judged);
+    let a = CheckAnswer::from(judged);
     ShortestAnswer {
         number: a.number,
         rule: a.rule,
@@ -35,11 +36,11 @@ fn in_numbers(x: Shortest) -> ShortestAnswer
 pub fn shortest_by(settings: &[u8], list: &[u8]) -> ShortestAnswer
     ensures { result ≡ shortest_call settings.now list.now }
 {
-    match settings::read::read_settings(settings) {
-        SettingsRead::Refused => in_numbers(Shortest {
-            judged: Judged::Refused(Refusal::Settings),
+    let Some(s) = read_settings(settings) else {
+        return in_numbers(Shortest {
+            judged: Err(Refusal::Settings),
             start: 0,
-        }),
-        SettingsRead::Accepted(s) => in_numbers(check_list::shortest::check_shortest(s, list)),
-    }
+        });
+    };
+    in_numbers(check_list::shortest::check_shortest(s, list))
 }

@@ -1,5 +1,6 @@
 -- The calls on logs that carry their settings, together: round trips, the check and the index.
 -- Assumes nothing.
+use Rattle.std.specs.Prelude.{Err, None, Ok, Option, Result, Some}
 use Prim.Native.Nat.{ℕ, zero, suc, ◌+◌, ◌*◌, ◌/◌, ◌%◌, ◌^◌, ◌<◌, ◌≤◌}
 use mathlib.Core.Path.{◌≡◌, refl, sym, ◌∙◌, ap}
 use mathlib.Core.Bool.{cond}
@@ -11,8 +12,6 @@ use Rattle.num.specs.Bytes.{splice, Bytes}
 use Rattle.num.specs.Search.{first_false}
 use Rattle.num.proofs.SpliceLaws.{part-splice}
 use Rattle.settings.specs.declared.Settings.{Settings}
-use Rattle.settings.specs.declared.SettingsRead.{SettingsRead}
-use Rattle.settings.specs.declared.SettingsRead.TheVariants.{Refused, Accepted}
 use Rattle.settings.specs.Settings.{settings_read}
 use Rattle.record.specs.declared.Record.{Record}
 use Rattle.record.specs.declared.Refusal.TheVariants as refusal
@@ -21,18 +20,12 @@ use Rattle.record.proofs.RefusalLaws.{refused-number}
 use Rattle.log_block.specs.Block.{block_count, log_of, blocks_in, list_of}
 use Rattle.log_block.proofs.LogThenList.{log-length, log-blocks}
 use Rattle.log_block.proofs.ListThenLog.{list-none, list-whole}
-use Rattle.log_list.specs.declared.Copied.{Copied}
-use Rattle.log_list.specs.declared.Copied.TheVariants as copied
 use Rattle.log_list.specs.Log.{copied, encode_answer}
 use Rattle.log_list.proofs.CopyLaws.{encoded}
-use Rattle.spec_index.specs.declared.Indexed.{Indexed}
-use Rattle.spec_index.specs.declared.Indexed.TheVariants as indexed
 use Rattle.spec_index.specs.Index.{index_of, words_up_to}
 use Rattle.spec_index.specs.Answers.{lent_after}
 use Rattle.spec_rules.specs.Neighbour.{Context, context_of}
 use Rattle.spec_rules.specs.Broken.{first_broken}
-use Rattle.spec_check.specs.declared.Judged.{Judged}
-use Rattle.spec_check.specs.declared.Judged.TheVariants as judged
 use Rattle.spec_check.specs.Check.{records_up_to, records_of, rule_answer, records_answer, list_answer}
 use Rattle.spec_calls.specs.Settings.{under_settings}
 use Rattle.spec_calls.specs.Checks.{check_answer, check_call}
@@ -46,53 +39,56 @@ use Rattle.calls_index.specs.Results.{index_answer, index_by}
 use Rattle.calls_stamp.specs.Results.{stamped_encode_call, stamped_decode_call, stamp_call, unstamp_call, stamped_answer, stamped_check_call, stamped_index_answer, stamped_index_call}
 use Rattle.calls_stamp.specs.Theorems.{Carries, StampedCalls}
 use Rattle.calls_stamp.proofs.TripLaws.{fifteen, accepted-is, made-settings, made_list, made-passed, made-whole, decodes, moves-back, moved_back, made_again, encodes, moves-again, moved-again}
+use Rattle.spec_index.specs.declared.IndexRefusal.TheVariants.{Differs, Refused}
+use Rattle.record.specs.declared.Refusal.{Refusal}
+use Rattle.spec_index.specs.declared.IndexRefusal.{IndexRefusal}
 
 -- ---- accepted calls
 
-record Counted (a : Copied) : Type 0 where
+record Counted (a : Result ℕ Refusal) : Type 0 where
   n : ℕ
-  is : a ≡ copied.Count n
+  is : a ≡ Ok n
 
-counted : (a : Copied) → (copy_answer a).number ≡ 0 → Counted a
+counted : (a : Result ℕ Refusal) → (copy_answer a).number ≡ 0 → Counted a
 unfolding copy_answer
-counted (copied.Refused why) e = absurd (refused-number why e)
-counted (copied.Count k) e = record { n = k; is = refl }
+counted (Err why) e = absurd (refused-number why e)
+counted (Ok k) e = record { n = k; is = refl }
 
-record Under (answer : Settings → Copied) (settings : List ℕ) : Type 0 where
+record Under (answer : Settings → Result ℕ Refusal) (settings : List ℕ) : Type 0 where
   s : Settings
-  says : settings_read settings ≡ Accepted s
+  says : settings_read settings ≡ Some s
   made : Counted (answer s)
 
 module _ (new lent : List ℕ) where
-  under : (answer : Settings → Copied) (settings : List ℕ) → (copy_call new lent answer settings).answer.number ≡ 0 → Under answer settings
+  under : (answer : Settings → Result ℕ Refusal) (settings : List ℕ) → (copy_call new lent answer settings).answer.number ≡ 0 → Under answer settings
   unfolding under_settings copy_call copy_answer
   under answer settings e = go (settings_read settings) refl
     where
-      go : (x : SettingsRead) → settings_read settings ≡ x → Under answer settings
-      go Refused r = absurd (refused-number refusal.Settings (rw r at e))
-      go (Accepted s) r = record { s = s; says = r; made = counted (answer s) (rw r at e) }
+      go : (x : Option Settings) → settings_read settings ≡ x → Under answer settings
+      go None r = absurd (refused-number refusal.Settings (rw r at e))
+      go (Some s) r = record { s = s; says = r; made = counted (answer s) (rw r at e) }
 
-  call-is : (answer : Settings → Copied) (settings : List ℕ) (s : Settings) → settings_read settings ≡ Accepted s → copy_call new lent answer settings ≡ copy_by new lent (answer s)
+  call-is : (answer : Settings → Result ℕ Refusal) (settings : List ℕ) (s : Settings) → settings_read settings ≡ Some s → copy_call new lent answer settings ≡ copy_by new lent (answer s)
   unfolding under_settings copy_call
   call-is answer settings s r = rw r
 
   -- what was written to the start of the lent buffer, of so many bytes for each block or record
-  written : (size n : ℕ) (a : Copied) → a ≡ copied.Count n → length new ≡ size * n
+  written : (size n : ℕ) (a : Result ℕ Refusal) → a ≡ Ok n → length new ≡ size * n
       → take (size * (copy_by new lent a).answer.count) (copy_by new lent a).lent ≡ new
   unfolding copied copy_answer
   written size n a e l = rw e (part-splice lent 0 new (size * n) l (omega arith))
 
-  answers : (n : ℕ) (a : Copied) → a ≡ copied.Count n → Counts (copy_by new lent a) n
+  answers : (n : ℕ) (a : Result ℕ Refusal) → a ≡ Ok n → Counts (copy_by new lent a) n
   unfolding copy_answer
   answers n a e = rw e
 
 -- ---- what each call has written
 
-module _ (settings : List ℕ) (s : Settings) (says : settings_read settings ≡ Accepted s) where
+module _ (settings : List ℕ) (s : Settings) (says : settings_read settings ≡ Some s) where
   fits : 32 * 14 + length settings ≡ 480
   fits = let e = (accepted-is settings s says).0 in omega arith
 
-  encoded-blocks : (list log : List ℕ) (n : ℕ) → encode_answer 14 s list (length log) ≡ copied.Count n → blocks_written (stamped_encode_call settings list log) ≡ log_of 14 settings list
+  encoded-blocks : (list log : List ℕ) (n : ℕ) → encode_answer 14 s list (length log) ≡ Ok n → blocks_written (stamped_encode_call settings list log) ≡ log_of 14 settings list
   unfolding blocks_written stamped_encode_call
   encoded-blocks list log n e =
       let c = (encoded 14 s list (length log) n e).count-is in
@@ -100,7 +96,7 @@ module _ (settings : List ℕ) (s : Settings) (says : settings_read settings ≡
       rw (call-is (log_of 14 settings list) log (λ s. encode_answer 14 s list (length log)) settings s says)
       (written (log_of 14 settings list) log 512 n _ e (l ∙ ap (λ (x : ℕ). 512 * x) (sym c)))
 
-  stamped-blocks : (old out : List ℕ) (n : ℕ) → stamp_answer s old (length out) ≡ copied.Count n → blocks_written (stamp_call settings old out) ≡ log_of 14 settings (list_of old)
+  stamped-blocks : (old out : List ℕ) (n : ℕ) → stamp_answer s old (length out) ≡ Ok n → blocks_written (stamp_call settings old out) ≡ log_of 14 settings (list_of old)
   unfolding blocks_written stamp_call
   stamped-blocks old out n e =
       let c = (stamped s old (length out) n e).fits.count-is in
@@ -108,14 +104,14 @@ module _ (settings : List ℕ) (s : Settings) (says : settings_read settings ≡
       rw (call-is (log_of 14 settings (list_of old)) out (λ s. stamp_answer s old (length out)) settings s says)
       (written (log_of 14 settings (list_of old)) out 512 n _ e (l ∙ ap (λ (x : ℕ). 512 * x) (sym c)))
 
-unstamped-blocks : (log out : List ℕ) (n : ℕ) → unstamp_answer log (length out) ≡ copied.Count n → blocks_written (unstamp_call log out) ≡ log_of 15 [] (list_of log)
+unstamped-blocks : (log out : List ℕ) (n : ℕ) → unstamp_answer log (length out) ≡ Ok n → blocks_written (unstamp_call log out) ≡ log_of 15 [] (list_of log)
 unfolding blocks_written unstamp_call
 unstamped-blocks log out n e =
     let c = (unstamped log (length out) n e).fits.count-is in
     let l = log-length 15 [] (omega arith) refl (list_of log) in
     written (log_of 15 [] (list_of log)) out 512 n _ e (l ∙ ap (λ (x : ℕ). 512 * x) (sym c))
 
-decoded-records : (log list : List ℕ) (n : ℕ) → stamped_decode_answer log (length list) ≡ copied.Count n → records_written (stamped_decode_call log list) ≡ list_of log
+decoded-records : (log list : List ℕ) (n : ℕ) → stamped_decode_answer log (length list) ≡ Ok n → records_written (stamped_decode_call log list) ≡ list_of log
 unfolding records_written stamped_decode_call
 decoded-records log list n e =
     let d = decoded log (length list) n e in
@@ -126,11 +122,11 @@ decoded-records log list n e =
 -- ---- the check
 
 -- no record breaks no rule
-none-broken : (cx : Context) (s : Settings) (l : List ℕ) → l ≡ [] → rule_answer cx (records_of s l) ≡ judged.Passed
+none-broken : (cx : Context) (s : Settings) (l : List ℕ) → l ≡ [] → rule_answer cx (records_of s l) ≡ (Ok tt)
 unfolding rule_answer records_of records_up_to first_broken first_false
 none-broken cx s l e = rw e
 
-check-same : (settings list log : List ℕ) (s : Settings) → settings_read settings ≡ Accepted s → (n : ℕ) → encode_answer 14 s list (length log) ≡ copied.Count n
+check-same : (settings list log : List ℕ) (s : Settings) → settings_read settings ≡ Some s → (n : ℕ) → encode_answer 14 s list (length log) ≡ Ok n
     → stamped_answer (log_of 14 settings list) ≡ list_answer (context_of s) list
 unfolding stamped_answer list_answer records_answer context_of
 check-same settings list log s says n e =
@@ -139,7 +135,7 @@ check-same settings list log s says n e =
     let p = made-passed settings s says list t.whole t.good t.number_fits in
     rw (
       eq-eqb _ 0 (made-whole settings s says list t.whole),
-      right-next judged.Refused new (λ x. rule_answer (context_of x) (records_of x (list_of new))) p,
+      right-next Err new (λ x. rule_answer (context_of x) (records_of x (list_of new))) p,
       eq-eqb _ 0 t.whole,
       eq-eqb _ _ t.good,
       made_list settings s says list t.whole,
@@ -160,13 +156,13 @@ none-indexed : (s t : Settings) (log : List ℕ) → blocks_in log ≡ 0 → ind
 unfolding index_of words_up_to
 none-indexed s t log e = rw e
 
-index-lent : (x : Indexed) (new old : List ℕ) → (index_answer x).number ≡ 0 → lent_after x new old ≡ splice old 0 new
+index-lent : (x : Result ℕ IndexRefusal) (new old : List ℕ) → (index_answer x).number ≡ 0 → lent_after x new old ≡ splice old 0 new
 unfolding index_answer lent_after
-index-lent (indexed.Refused why) new old e = absurd (refused-number why e)
-index-lent (indexed.Differs k) new old e = absurd (omega arith)
-index-lent (indexed.Count n) new old e = refl
+index-lent (Err (Refused why)) new old e = absurd (refused-number why e)
+index-lent (Err (Differs k)) new old e = absurd (omega arith)
+index-lent (Ok n) new old e = refl
 
-moved-index : (settings old : List ℕ) (s : Settings) → settings_read settings ≡ Accepted s → length (list_of old) % 32 ≡ 0 → (m : ℕ)
+moved-index : (settings old : List ℕ) (s : Settings) → settings_read settings ≡ Some s → length (list_of old) % 32 ≡ 0 → (m : ℕ)
     → blocks_in (log_of 14 settings (list_of old)) ≡ m
     → index_of (settings_of (log_of 14 settings (list_of old))) (log_of 14 settings (list_of old)) ≡ index_of s (log_of 14 settings (list_of old))
 moved-index settings old s says w zero e = none-indexed (settings_of (log_of 14 settings (list_of old))) s (log_of 14 settings (list_of old)) e

@@ -1,9 +1,8 @@
 -- What the calls on logs that carry their settings promise together (document 02, request i), in the bytes that a caller holds.
 -- Assumes nothing.
-use Rattle.std.specs.Prelude.{ℕ, ◌/◌, ◌<◌, ◌≤◌, ◌≡◌, List, length}
+use Rattle.std.specs.Prelude.{ℕ, ◌/◌, ◌<◌, ◌≤◌, ◌≡◌, List, length, Some}
 use Rattle.num.specs.Bytes.{splice, Bytes}
 use Rattle.settings.specs.declared.Settings.{Settings}
-use Rattle.settings.specs.declared.SettingsRead.TheVariants.{Accepted}
 use Rattle.settings.specs.Settings.{settings_read}
 use Rattle.log_block.specs.Block.{blocks_in}
 use Rattle.spec_index.specs.Index.{index_of}
@@ -23,7 +22,7 @@ pub record StampedCalls : Type 0 where
       → let back : CopyResult = stamped_decode_call (blocks_written (stamped_encode_call settings list log)) room in
       Counts back (length list / 32) × (records_written back ≡ list)
   -- a log that is decoded is encoded from its records, given the same settings
-  pub log_back : (settings log list room : List ℕ) (s : Settings) → settings_read settings ≡ Accepted s → Carries log settings → Bytes log
+  pub log_back : (settings log list room : List ℕ) (s : Settings) → settings_read settings ≡ Some s → Carries log settings → Bytes log
       → (stamped_decode_call log list).answer.number ≡ 0 → length log ≤ length room
       → let back : CopyResult = stamped_encode_call settings (records_written (stamped_decode_call log list)) room in
       Counts back (length log / 512) × (blocks_written back ≡ log)
@@ -32,7 +31,7 @@ pub record StampedCalls : Type 0 where
       → let back : CopyResult = unstamp_call (blocks_written (stamp_call settings log out)) room in
       Counts back (length log / 512) × (blocks_written back ≡ log)
   -- "New to old to new does so given the same settings."
-  pub new-old-new : (settings log out room : List ℕ) (s : Settings) → settings_read settings ≡ Accepted s → Carries log settings → Bytes log
+  pub new-old-new : (settings log out room : List ℕ) (s : Settings) → settings_read settings ≡ Some s → Carries log settings → Bytes log
       → (unstamp_call log out).answer.number ≡ 0 → length log ≤ length room
       → let back : CopyResult = stamp_call settings (blocks_written (unstamp_call log out)) room in
       Counts back (length log / 512) × (blocks_written back ≡ log)
@@ -40,7 +39,7 @@ pub record StampedCalls : Type 0 where
   pub check-is : (settings list log : List ℕ) → (stamped_encode_call settings list log).answer.number ≡ 0
       → stamped_check_call (blocks_written (stamped_encode_call settings list log)) ≡ check_call settings list
   -- "The index is built afresh": that of a moved log is the index of its blocks under the settings given
-  pub index_is : (settings log out index : List ℕ) (s : Settings) → settings_read settings ≡ Accepted s → (stamp_call settings log out).answer.number ≡ 0
+  pub index_is : (settings log out index : List ℕ) (s : Settings) → settings_read settings ≡ Some s → (stamp_call settings log out).answer.number ≡ 0
       → let moved : List ℕ = blocks_written (stamp_call settings log out) in
       (stamped_index_call moved 0 index).answer.number ≡ 0 → (stamped_index_call moved 0 index).lent ≡ splice index 0 (index_of s moved)
 

@@ -6,39 +6,36 @@ ghost use Rattle.spec_rules.specs.Neighbour.{context_of};
 ghost use Rattle.spec_check.specs.Check.{records_of, rule_answer};
 ghost use Rattle.calls_stamp.specs.Results.{stamped_answer, stamped_check_call};
 
-use calls_list::checks::check_answer;
 use check_list::walked::judge_all;
-use log_stamp::{Judgement, tested};
+use log_block::form::Per;
+use log_stamp::tested;
 use record::Refusal;
 use settings::Settings;
 use spec_calls::CheckAnswer;
-use spec_check::Judged;
 
 // Judges the list that a stamped log keeps whose blocks and records are right.
-fn judge_right(s: Settings, log: &[u8]) -> Judged
+fn judge_right(s: Settings, log: &[u8]) -> Result<(), Refusal>
     requires log_value { first_bad_block 14 log.now ≡ blocks_in log.now }
-    requires log_value_2 { first_bad s (list_of log.now) ≡ records_in (list_of log.now) }
+    requires list_value { first_bad s (list_of log.now) ≡ records_in (list_of log.now) }
     ensures { result ≡ rule_answer (context_of s) (records_of s (list_of log.now)) }
 {
-    judge_all(s, log, log_block::read::records_in(log, 14), 14)
+    judge_all(s, log, log_block::read::records_in(log, Per::STAMPED), 14)
 }
 
 // Judges the list that a stamped log keeps by the settings that it carries.
-fn check_stamped(log: &[u8]) -> Judged
+fn check_stamped(log: &[u8]) -> Result<(), Refusal>
     ensures { result ≡ stamped_answer log.now }
 {
     if log.len() % 512 != 0 {
-        return Judged::Refused(Refusal::Length);
+        return Err(Refusal::Length);
     }
-    match tested(log) {
-        Judgement::Refused(why) => Judged::Refused(why),
-        Judgement::Right(s) => judge_right(s, log),
-    }
+    let s = tested(log)?;
+    judge_right(s, log)
 }
 
 // The same in numbers.
 pub fn check_by(log: &[u8]) -> CheckAnswer
     ensures { result ≡ stamped_check_call log.now }
 {
-    check_answer(check_stamped(log))
+    CheckAnswer::from(check_stamped(log))
 }

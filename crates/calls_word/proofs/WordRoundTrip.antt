@@ -1,6 +1,7 @@
 -- The two round trips of the calls on packet words: a word that was encoded is decoded to the packet's numbers, and the
 -- numbers of a word that was decoded are encoded to that word.
 -- Assumes nothing.
+use Rattle.std.specs.Prelude.{None, Option, Some}
 use Prim.Native.Nat.{ℕ, zero, suc, ◌<◌, ◌≤◌}
 use mathlib.Core.Path.{◌≡◌, refl}
 use mathlib.Core.Bool.{Bool, true, false, cond, ◌&&◌, and-eq-true_iff}
@@ -10,18 +11,10 @@ use native.Mathlib.Omega.{arith}
 use lib.Dec.{eqb, leb}
 use borrow.Author.Tests.{eqb-true, eqb-false, ne_eqb, leb-true, leb-false}
 use Rattle.settings.specs.declared.Settings.{Settings}
-use Rattle.settings.specs.declared.SettingsRead.{SettingsRead}
-use Rattle.settings.specs.declared.SettingsRead.TheVariants.{Refused, Accepted}
 use Rattle.settings.specs.Settings.{settings_read}
 use Rattle.settings.proofs.SettingsLaws.{Bounds, bounds, accepted-valid}
-use Rattle.packet.specs.declared.Coded.{Coded}
-use Rattle.packet.specs.declared.Coded.TheVariants.{NoWord, Word}
 use Rattle.packet.specs.declared.RowPacket.TheVariants.{Act, Prer, Refa, Refp}
-use Rattle.packet.specs.declared.RowDecoded.{RowDecoded}
-use Rattle.packet.specs.declared.RowDecoded.TheVariants.{NoRow, Row}
 use Rattle.packet.specs.declared.ColPacket.TheVariants.{Nocop, Wr, Rd}
-use Rattle.packet.specs.declared.ColDecoded.{ColDecoded}
-use Rattle.packet.specs.declared.ColDecoded.TheVariants.{NoCol, Col}
 use Rattle.packet.specs.Row.{row_word, row_fits, row_coded, row_decoded}
 use Rattle.packet.specs.Col.{col_word, col_fits, col_coded, col_decoded}
 use Rattle.packet.proofs.Choices.{passed, chosen}
@@ -33,6 +26,8 @@ use Rattle.record.proofs.RefusalLaws.{refused-number}
 use Rattle.spec_calls.specs.Settings.{under_settings}
 use Rattle.calls_word.specs.declared.PacketAnswer.{PacketAnswer}
 use Rattle.calls_word.specs.Words.{fields_right, row_command, col_command, command_coded, no_word_answer, why_no_word, word_answer, word_encode_call, row_numbers, col_numbers, no_packet, row_answer, col_answer, packet_answer, word_decode_call}
+use Rattle.packet.specs.declared.RowPacket.{RowPacket}
+use Rattle.packet.specs.declared.ColPacket.{ColPacket}
 
 -- the kind of a command's word: ROW for 0 to 3, and else COL
 abbrev pub kind_of_command : ℕ → ℕ
@@ -40,10 +35,10 @@ kind_of_command command = cond (leb command 3) 0 1
 
 -- ---- what was encoded is decoded
 
-no_word : (w : ℕ) → NoWord ≡ Word w → ⊥
+no_word : (w : ℕ) → None ≡ Some w → ⊥
 no_word w e = let z : ◌≡◌ {A = ℕ} 0 1 = cc in omega arith
 
-inner : (x w : ℕ) → Word x ≡ Word w → x ≡ w
+inner : (x w : ℕ) → Some x ≡ Some w → x ≡ w
 inner x w e = cc
 
 -- an accepted packet in numbers
@@ -85,17 +80,17 @@ col-is command bank place mask l f = go (eqb command 4) refl
         access (omega (arith, eqb-false command 4 p)) h (eqb command 5) refl (eqb command 6) refl (eqb command 7) refl
 
 -- the packet of a command's word, where it has one, is the command
-decoded : (s : Settings) → Bounds s → (command bank place mask w : ℕ) → command_coded s command bank place mask ≡ Word w
+decoded : (s : Settings) → Bounds s → (command bank place mask w : ℕ) → command_coded s command bank place mask ≡ Some w
     → packet_answer s (kind_of_command command) w ≡ numbers command bank place mask
 unfolding command_coded row_coded col_coded packet_answer row_answer col_answer
 decoded s b command bank place mask w e =
     let row = row_command command bank place in
     let col = col_command command bank place mask in
-    let f = passed (fields_right command bank place mask) _ NoWord (Word w) (no_word w) e in
+    let f = passed (fields_right command bank place mask) _ None (Some w) (no_word w) e in
     ⊎_elim
-    (λ k. let g = passed (row_fits s.rows row) (Word (row_word s.device row)) NoWord (Word w) (no_word w) k.1 in
+    (λ k. let g = passed (row_fits s.rows row) (Some (row_word s.device row)) None (Some w) (no_word w) k.1 in
     rw (k.0, ← inner _ w g.1, row-decode-encode s.device s.rows row b.rows-most g.0) (row_is command bank place mask k.0 f.0))
-    (λ k. let g = passed (col_fits s.columns col) (Word (col_word s.device col)) NoWord (Word w) (no_word w) k.1 in
+    (λ k. let g = passed (col_fits s.columns col) (Some (col_word s.device col)) None (Some w) (no_word w) k.1 in
     rw (k.0, ← inner _ w g.1, col-decode-encode s.device s.columns col (omega arith) b.columns-most g.0) (col-is command bank place mask k.0 f.0))
     (chosen (leb command 3) _ _ _ f.1)
 
@@ -105,38 +100,38 @@ pub word-decode-encode : (settings : List ℕ) (command bank place mask : ℕ) �
 unfolding under_settings word_answer no_word_answer word_encode_call word_decode_call
 word-decode-encode settings command bank place mask e = go (settings_read settings) refl
   where
-    word : (s : Settings) → Bounds s → (c : Coded) → command_coded s command bank place mask ≡ c → (word_answer (why_no_word s command bank place) c).number ≡ 0
+    word : (s : Settings) → Bounds s → (c : Option ℕ) → command_coded s command bank place mask ≡ c → (word_answer (why_no_word s command bank place) c).number ≡ 0
         → packet_answer s (kind_of_command command) (word_answer (why_no_word s command bank place) c).word ≡ numbers command bank place mask
-    word s b NoWord q e = absurd (refused-number (why_no_word s command bank place) e)
-    word s b (Word w) q e = decoded s b command bank place mask w q
+    word s b None q e = absurd (refused-number (why_no_word s command bank place) e)
+    word s b (Some w) q e = decoded s b command bank place mask w q
 
-    go : (r : SettingsRead) → settings_read settings ≡ r
+    go : (r : Option Settings) → settings_read settings ≡ r
         → word_decode_call settings (kind_of_command command) (word_encode_call settings command bank place mask).word ≡ numbers command bank place mask
-    go Refused q = absurd (refused-number refusal.Settings (rw q at e))
-    go (Accepted s) q = rw q (word s (bounds s (accepted-valid settings s q)) (command_coded s command bank place mask) refl (rw q at e))
+    go None q = absurd (refused-number refusal.Settings (rw q at e))
+    go (Some s) q = rw q (word s (bounds s (accepted-valid settings s q)) (command_coded s command bank place mask) refl (rw q at e))
 
 -- ---- what was decoded is encoded
 
 -- the numbers of an accepted answer have the word
 abbrev Encodes : Settings → ℕ → PacketAnswer → Type 0
-Encodes s w a = a.number ≡ 0 → command_coded s a.command a.bank a.place a.mask ≡ Word w
+Encodes s w a = a.number ≡ 0 → command_coded s a.command a.bank a.place a.mask ≡ Some w
 
-row_back : (s : Settings) (w : ℕ) (d : RowDecoded) → row_decoded s.device s.rows w ≡ d → Encodes s w (row_answer d)
+row_back : (s : Settings) (w : ℕ) (d : Option RowPacket) → row_decoded s.device s.rows w ≡ d → Encodes s w (row_answer d)
 unfolding row_answer row_numbers no_packet answer_of command_coded fields_right row_command row_coded
-row_back s w NoRow e n = absurd (omega arith)
-row_back s w (Row (Act bank row)) e n = let b = row-encode-decode s.device s.rows w (Act bank row) e in rw (b.0, b.1)
-row_back s w (Row (Prer bank)) e n = let b = row-encode-decode s.device s.rows w (Prer bank) e in rw (b.0, b.1)
-row_back s w (Row (Refa bank)) e n = let b = row-encode-decode s.device s.rows w (Refa bank) e in rw (b.0, b.1)
-row_back s w (Row (Refp bank)) e n = let b = row-encode-decode s.device s.rows w (Refp bank) e in rw (b.0, b.1)
+row_back s w None e n = absurd (omega arith)
+row_back s w (Some (Act bank row)) e n = let b = row-encode-decode s.device s.rows w (Act bank row) e in rw (b.0, b.1)
+row_back s w (Some (Prer bank)) e n = let b = row-encode-decode s.device s.rows w (Prer bank) e in rw (b.0, b.1)
+row_back s w (Some (Refa bank)) e n = let b = row-encode-decode s.device s.rows w (Refa bank) e in rw (b.0, b.1)
+row_back s w (Some (Refp bank)) e n = let b = row-encode-decode s.device s.rows w (Refp bank) e in rw (b.0, b.1)
 
-col-back : (s : Settings) (w : ℕ) (d : ColDecoded) → col_decoded s.device s.columns w ≡ d → Encodes s w (col_answer d)
+col-back : (s : Settings) (w : ℕ) (d : Option ColPacket) → col_decoded s.device s.columns w ≡ d → Encodes s w (col_answer d)
 unfolding col_answer col_numbers no_packet answer_of command_coded fields_right col_command col_coded
-col-back s w NoCol e n = absurd (omega arith)
-col-back s w (Col (Nocop mask)) e n = let b = col-encode-decode s.device s.columns w (Nocop mask) e in rw (b.0, b.1)
-col-back s w (Col (Wr bank column mask false)) e n = let b = col-encode-decode s.device s.columns w (Wr bank column mask false) e in rw (b.0, b.1)
-col-back s w (Col (Wr bank column mask true)) e n = let b = col-encode-decode s.device s.columns w (Wr bank column mask true) e in rw (b.0, b.1)
-col-back s w (Col (Rd bank column mask false)) e n = let b = col-encode-decode s.device s.columns w (Rd bank column mask false) e in rw (b.0, b.1)
-col-back s w (Col (Rd bank column mask true)) e n = let b = col-encode-decode s.device s.columns w (Rd bank column mask true) e in rw (b.0, b.1)
+col-back s w None e n = absurd (omega arith)
+col-back s w (Some (Nocop mask)) e n = let b = col-encode-decode s.device s.columns w (Nocop mask) e in rw (b.0, b.1)
+col-back s w (Some (Wr bank column mask false)) e n = let b = col-encode-decode s.device s.columns w (Wr bank column mask false) e in rw (b.0, b.1)
+col-back s w (Some (Wr bank column mask true)) e n = let b = col-encode-decode s.device s.columns w (Wr bank column mask true) e in rw (b.0, b.1)
+col-back s w (Some (Rd bank column mask false)) e n = let b = col-encode-decode s.device s.columns w (Rd bank column mask false) e in rw (b.0, b.1)
+col-back s w (Some (Rd bank column mask true)) e n = let b = col-encode-decode s.device s.columns w (Rd bank column mask true) e in rw (b.0, b.1)
 
 no-back : (s : Settings) (w : ℕ) → Encodes s w (no_packet (refusal.Word 0))
 unfolding no_packet answer_of
@@ -158,7 +153,7 @@ pub word-encode-decode : (settings : List ℕ) (kind w : ℕ) (a : PacketAnswer)
 unfolding under_settings word_answer no_packet word_encode_call word_decode_call
 word-encode-decode settings kind w a e n = rw (← e) (go (settings_read settings) refl (rw (← e) at n))
   where
-    go : (r : SettingsRead) → settings_read settings ≡ r → (word_decode_call settings kind w).number ≡ 0
+    go : (r : Option Settings) → settings_read settings ≡ r → (word_decode_call settings kind w).number ≡ 0
         → let b : PacketAnswer = word_decode_call settings kind w in word_encode_call settings b.command b.bank b.place b.mask ≡ record { number = 0; word = w }
-    go Refused q n = absurd (refused-number refusal.Settings (rw q at n))
-    go (Accepted s) q n = rw q (rw (packet-back s kind w (rw q at n)))
+    go None q n = absurd (refused-number refusal.Settings (rw q at n))
+    go (Some s) q n = rw q (rw (packet-back s kind w (rw q at n)))

@@ -2,18 +2,12 @@
 -- Commands: 0 ACT, 1 PRER, 2 REFA, 3 REFP, 4 NOCOP, 5 WR, 6 RD, 7 WRA, 8 RDA. A packet's place is the row of ACT and the column of
 -- WR, RD, WRA and RDA.
 -- Assumes nothing.
-use Rattle.std.specs.Prelude.{ℕ, Bool, cond, ◌&&◌, ◌||◌, List, eqb, leb}
+use Rattle.std.specs.Prelude.{ℕ, Bool, cond, ◌&&◌, ◌||◌, List, eqb, leb, None, Option, Some}
 use Rattle.settings.specs.declared.Settings.{Settings}
-use Rattle.packet.specs.declared.Coded.{Coded}
-use Rattle.packet.specs.declared.Coded.TheVariants.{NoWord, Word}
 use Rattle.packet.specs.declared.RowPacket.{RowPacket}
 use Rattle.packet.specs.declared.RowPacket.TheVariants.{Act, Prer, Refa, Refp}
-use Rattle.packet.specs.declared.RowDecoded.{RowDecoded}
-use Rattle.packet.specs.declared.RowDecoded.TheVariants.{NoRow, Row}
 use Rattle.packet.specs.declared.ColPacket.{ColPacket}
 use Rattle.packet.specs.declared.ColPacket.TheVariants.{Nocop, Wr, Rd}
-use Rattle.packet.specs.declared.ColDecoded.{ColDecoded}
-use Rattle.packet.specs.declared.ColDecoded.TheVariants.{NoCol, Col}
 use Rattle.packet.specs.Row.{row_coded, row_decoded}
 use Rattle.packet.specs.Col.{col_coded, col_decoded}
 use Rattle.record.specs.declared.Refusal.{Refusal}
@@ -42,13 +36,13 @@ col_command command bank place mask =
     cond (eqb command 4) (Nocop mask) (cond (eqb command 5 || eqb command 7) (Wr bank place mask close) (Rd bank place mask close))
 
 -- the word of a command with these fields, where it has one under the settings
-unfoldable pub command_coded : Settings → ℕ → ℕ → ℕ → ℕ → Coded
+unfoldable pub command_coded : Settings → ℕ → ℕ → ℕ → ℕ → Option ℕ
 command_coded s command bank place mask =
     cond (fields_right command bank place mask)
     (cond (leb command 3)
     (row_coded s.device s.rows (row_command command bank place))
     (col_coded s.device s.columns (col_command command bank place mask)))
-    NoWord
+    None
 
 unfoldable pub no_word_answer : Refusal → WordAnswer
 no_word_answer r = record { number = (answer_of r).number; word = 0 }
@@ -62,9 +56,9 @@ why_no_word s command bank place =
     (cond ((leb 5 command && leb command 8) && leb s.columns place) refusal.Column (refusal.Word 0)))
     refusal.Bank
 
-unfoldable pub word_answer : Refusal → Coded → WordAnswer
-word_answer why NoWord = no_word_answer why
-word_answer why (Word w) = record { number = 0; word = w }
+unfoldable pub word_answer : Refusal → Option ℕ → WordAnswer
+word_answer why None = no_word_answer why
+word_answer why (Some w) = record { number = 0; word = w }
 
 -- 1 for settings out of range, then 4, 5, 6 and 10 for fields that have no word
 unfoldable pub word_encode_call : List ℕ → ℕ → ℕ → ℕ → ℕ → WordAnswer
@@ -86,13 +80,13 @@ col_numbers (Rd bank column mask close) = record { number = 0; command = cond cl
 unfoldable pub no_packet : Refusal → PacketAnswer
 no_packet r = record { number = (answer_of r).number; command = 0; bank = 0; place = 0; mask = 0 }
 
-unfoldable pub row_answer : RowDecoded → PacketAnswer
-row_answer NoRow = no_packet (refusal.Word 0)
-row_answer (Row p) = row_numbers p
+unfoldable pub row_answer : Option RowPacket → PacketAnswer
+row_answer None = no_packet (refusal.Word 0)
+row_answer (Some p) = row_numbers p
 
-unfoldable pub col_answer : ColDecoded → PacketAnswer
-col_answer NoCol = no_packet (refusal.Word 0)
-col_answer (Col p) = col_numbers p
+unfoldable pub col_answer : Option ColPacket → PacketAnswer
+col_answer None = no_packet (refusal.Word 0)
+col_answer (Some p) = col_numbers p
 
 -- kind 0 is ROW, 1 COL; 10 for another kind and for a word that no coder writes
 unfoldable pub packet_answer : Settings → ℕ → ℕ → PacketAnswer

@@ -1,10 +1,10 @@
 -- The tests on what one record concerns are the seventeen tests on the channel.
 -- Assumes nothing.
+use Rattle.std.specs.Prelude.{Option, Some}
 use Prim.Native.Nat.{ℕ, ◌+◌, ◌-◌}
 use mathlib.Core.Path.{◌≡◌, refl, ap, ap₂, ◌∙◌, sym}
 use mathlib.Core.Bool.{Bool, true, false, not, ◌&&◌, ◌||◌, cond, and-true, or-true}
 use mathlib.Core.List.{List, [], ◌∷◌}
-use mathlib.Core.Option.{Option, some}
 use native.Mathlib.Nat.{add-zero}
 use native.Mathlib.Omega.{arith}
 use borrow.Author.Tests.{eqb-true}
@@ -81,20 +81,20 @@ module _ (s : Settings) (ch : Channel) (r : Record) (v : View) (w : Shows r v) (
   abbrev prer : Precharge
   prer = prer_of s v held out around
 
-  opens_of : (traits r).opens ≡ only v.opens (some v.bank)
+  opens_of : (traits r).opens ≡ only v.opens (Some v.bank)
   opens_of = ap (λ (k : Traits). k.opens) w.traits-of
 
-  reads_of : (traits r).reads ≡ only v.reads (some v.bank)
+  reads_of : (traits r).reads ≡ only v.reads (Some v.bank)
   reads_of = ap (λ (k : Traits). k.reads) w.traits-of
 
-  writes-of : (traits r).writes ≡ only v.writes (some v.bank)
+  writes-of : (traits r).writes ≡ only v.writes (Some v.bank)
   writes-of = ap (λ (k : Traits). k.writes) w.traits-of
 
-  out_of : bank_of (leaving_of (context_of s) ch r) ≡ only out (some held.bank)
+  out_of : bank_of (leaving_of (context_of s) ch r) ≡ only out (Some held.bank)
   out_of = leaving-bank s ch.buffer ch.due r v w
 
   -- a bound on the deed of a bank
-  kept_of : {o : Option ℕ} (c : Bool) (b : ℕ) → o ≡ only c (some b) → (f : ℕ → ℕ) (n : ℕ) → f b ≡ n → leb (bound_of o f) (instant r) ≡ kept v c n
+  kept_of : {o : Option ℕ} (c : Bool) (b : ℕ) → o ≡ only c (Some b) → (f : ℕ → ℕ) (n : ℕ) → f b ≡ n → leb (bound_of o f) (instant r) ≡ kept v c n
   kept_of c b q f n p = rw (q, w.instant-of) (ap (λ (x : ℕ). leb x v.at.0) (bound-only c b f ∙ ap (bound_if c) p))
 
   -- what is asked of an ACT may be asked of the bank in the middle
@@ -105,7 +105,7 @@ module _ (s : Settings) (ch : Channel) (r : Record) (v : View) (w : Shows r v) (
       go true q = rw (opens-centre s ch.buffer ch.due r v w q)
       go false q = fails v.bank centre
 
-  open_of : {o : Option ℕ} (c : Bool) (b : ℕ) → o ≡ only c (some b) → open_for (state_of ch) o ≡ (not c || is_open (state_of ch b))
+  open_of : {o : Option ℕ} (c : Bool) (b : ℕ) → o ≡ only c (Some b) → open_for (state_of ch) o ≡ (not c || is_open (state_of ch b))
   open_of c b q = rw q (open-only c b (state_of ch))
 
   is1 : ((is_instant (instant r) && (leb (instant r + longest_delay (context_of s) r) horizon && leb (instant r + implied_delay (context_of s) (leaving_of (context_of s) ch r)) horizon)) && check_of (context_of s) ch r 1)
@@ -166,7 +166,7 @@ module _ (s : Settings) (ch : Channel) (r : Record) (v : View) (w : Shows r v) (
   named-of : is_open (then_state (context_of s) ch r v.bank) ≡ named_open s v held out around
   named-of = rw (leaving-closes s ch.buffer ch.due r v w) (open_after s (leaves_closing s held v) held.bank v.bank (state_of ch v.bank))
 
-  then-of : {o : Option ℕ} (c : Bool) → o ≡ only c (some v.bank) → open_for (then_state (context_of s) ch r) o ≡ (not c || named_open s v held out around)
+  then-of : {o : Option ℕ} (c : Bool) → o ≡ only c (Some v.bank) → open_for (then_state (context_of s) ch r) o ≡ (not c || named_open s v held out around)
   then-of c q = rw q (open-only c v.bank (then_state (context_of s) ch r) ∙ ap (λ (x : Bool). not c || x) named-of)
 
   is9 : (open_for (then_state (context_of s) ch r) (traits r).reads && (open_for (then_state (context_of s) ch r) (traits r).writes && open_for (state_of ch) (bank_of (leaving_of (context_of s) ch r)))) ≡ test9 s v held out around
@@ -197,7 +197,7 @@ module _ (s : Settings) (ch : Channel) (r : Record) (v : View) (w : Shows r v) (
   is15 : data_in_place (due_of (context_of s) ch) r ≡ not held.due
   is15 = rw (held-due s ch) (go held.due)
     where
-      go : (c : Bool) → data_in_place (only c (some (held.newest.0 + s.cwd))) r ≡ not c
+      go : (c : Bool) → data_in_place (only c (Some (held.newest.0 + s.cwd))) r ≡ not c
       go true = rw w.packet-of
       go false = w.packet-of
 
@@ -270,7 +270,7 @@ module _ (s : Settings) (ch : Channel) (t : DataAt) (d : Dualoct) where
   unfolding is_packet instant
   due-of = rw (held-due s ch) (go (held_of ch.buffer ch.due).due)
     where
-      go : (c : Bool) → data_in_place (only c (some ((held_of ch.buffer ch.due).newest.0 + s.cwd))) (DataOf t d) ≡ (c && eqb t.0 ((held_of ch.buffer ch.due).newest.0 + s.cwd))
+      go : (c : Bool) → data_in_place (only c (Some ((held_of ch.buffer ch.due).newest.0 + s.cwd))) (DataOf t d) ≡ (c && eqb t.0 ((held_of ch.buffer ch.due).newest.0 + s.cwd))
       go true = refl
       go false = refl
 

@@ -1,9 +1,9 @@
 -- A packet's PRER, by what implies it; then what the rules ask of it.
 -- Assumes nothing.
+use Rattle.std.specs.Prelude.{Option, None, Some}
 use Prim.Native.Nat.{ℕ, ◌+◌}
 use mathlib.Core.Path.{◌≡◌, refl, ap, ap₂, ◌∙◌, sym}
 use mathlib.Core.Bool.{Bool, true, false, not, ◌&&◌, ◌||◌, cond, and-true, and-false, or-true, or-false}
-use mathlib.Core.Option.{Option, none, some}
 use native.Mathlib.Nat.{add-zero}
 use lib.Dec.{leb, leb-zero}
 use lib.ListN.{length}
@@ -83,7 +83,7 @@ module _ (s : Settings) (ch : Channel) (r : Record) (v : View) (w : Shows r v) (
       ∙ ap (λ (x : ℕ). leb (bound_if (v.precharges || implies_by s held v) x) (v.at.0 + cond (implies_by s held v) s.offp 0)) p)
     where
       go : (q i : Bool) → (q ≡ true → i ≡ false)
-          → (leb (bound_of (only q (some centre)) f) v.at.0 && leb (bound_of (only i (some centre)) f) (v.at.0 + s.offp)) ≡ leb (bound_if (q || i) (f centre)) (v.at.0 + cond i s.offp 0)
+          → (leb (bound_of (only q (Some centre)) f) v.at.0 && leb (bound_of (only i (Some centre)) f) (v.at.0 + s.offp)) ≡ leb (bound_if (q || i) (f centre)) (v.at.0 + cond i s.offp 0)
       go true true x = not-both true refl (x refl)
       go true false x = rw (leb-zero (v.at.0 + s.offp), add-zero v.at.0) (and-true _)
       go false true x = rw (leb-zero v.at.0)
@@ -106,7 +106,7 @@ module _ (s : Settings) (ch : Channel) (r : Record) (v : View) (w : Shows r v) (
   abbrev left_safe : Option ℕ → Bool
   left_safe o = loses_none (context_of s) (state_of ch) o (left (leaving_of (context_of s) ch r) (waiting_of ch.buffer))
 
-  safe-flag : (c : Bool) → left_safe (only c (some centre)) ≡ (not c || left_safe (some centre))
+  safe-flag : (c : Bool) → left_safe (only c (Some centre)) ≡ (not c || left_safe (Some centre))
   safe-flag true = refl
   safe-flag false = safe-none s (state_of ch) (left (leaving_of (context_of s) ch r) (waiting_of ch.buffer))
 
@@ -114,25 +114,25 @@ module _ (s : Settings) (ch : Channel) (r : Record) (v : View) (w : Shows r v) (
   left-all : leaves s held v ≡ false → left (leaving_of (context_of s) ch r) (waiting_of ch.buffer) ≡ waiting_of ch.buffer
   left-all q = rw (leaving-is s ch.buffer ch.due r v w, q)
 
-  safe-own : loses_none (context_of s) (state_of ch) (traits r).precharges (waiting_of ch.buffer) ≡ left_safe (only v.precharges (some centre))
+  safe-own : loses_none (context_of s) (state_of ch) (traits r).precharges (waiting_of ch.buffer) ≡ left_safe (only v.precharges (Some centre))
   safe-own = rw (precharges-at s ch.buffer ch.due r v w) (go v.precharges refl)
     where
-      go : (c : Bool) → v.precharges ≡ c → loses_none (context_of s) (state_of ch) (only c (some centre)) (waiting_of ch.buffer) ≡ left_safe (only c (some centre))
+      go : (c : Bool) → v.precharges ≡ c → loses_none (context_of s) (state_of ch) (only c (Some centre)) (waiting_of ch.buffer) ≡ left_safe (only c (Some centre))
       go true q = rw (left-all (retires-none s ch.buffer ch.due r v w (rw q (or-true v.opens))))
       go false q = safe-none s (state_of ch) (waiting_of ch.buffer) ∙ sym (safe-flag false)
 
-  safe-retire : left_safe (retire_implies (leaving_of (context_of s) ch r)) ≡ left_safe (only (leaves_closing s held v) (some centre))
+  safe-retire : left_safe (retire_implies (leaving_of (context_of s) ch r)) ≡ left_safe (only (leaves_closing s held v) (Some centre))
   safe-retire = ap left_safe (leaving-closes s ch.buffer ch.due r v w ∙ go (leaves_closing s held v))
     where
-      go : (c : Bool) → only c (some held.bank) ≡ only c (some (cond c held.bank v.bank))
+      go : (c : Bool) → only c (Some held.bank) ≡ only c (Some (cond c held.bank v.bank))
       go true = refl
       go false = refl
 
-  safe-read : loses_none (context_of s) (then_state (context_of s) ch r) (traits r).implies (left (leaving_of (context_of s) ch r) (waiting_of ch.buffer)) ≡ left_safe (only (v.reads && v.close) (some centre))
+  safe-read : loses_none (context_of s) (then_state (context_of s) ch r) (traits r).implies (left (leaving_of (context_of s) ch r) (waiting_of ch.buffer)) ≡ left_safe (only (v.reads && v.close) (Some centre))
   safe-read = ap (λ (o : Option ℕ). loses_none (context_of s) (then_state (context_of s) ch r) o (left (leaving_of (context_of s) ch r) (waiting_of ch.buffer))) (ap (λ (k : Traits). k.implies) w.traits-of) ∙ go (v.reads && v.close) refl
     where
       go : (c : Bool) → (v.reads && v.close) ≡ c
-          → loses_none (context_of s) (then_state (context_of s) ch r) (only c (some v.bank)) (left (leaving_of (context_of s) ch r) (waiting_of ch.buffer)) ≡ left_safe (only c (some centre))
+          → loses_none (context_of s) (then_state (context_of s) ch r) (only c (Some v.bank)) (left (leaving_of (context_of s) ch r) (waiting_of ch.buffer)) ≡ left_safe (only c (Some centre))
       go true q = rw (leaving-closes s ch.buffer ch.due r v w, rda-keeps s ch.buffer ch.due r v w q)
       go false q = safe-none s (then_state (context_of s) ch r) (left (leaving_of (context_of s) ch r) (waiting_of ch.buffer)) ∙ sym (safe-flag false)
 
@@ -140,14 +140,14 @@ module _ (s : Settings) (ch : Channel) (r : Record) (v : View) (w : Shows r v) (
   unfolding prer_of
   prer-safe =
       ap₂ ◌&&◌ (safe-own ∙ safe-flag v.precharges) (ap₂ ◌&&◌ (safe-retire ∙ safe-flag (leaves_closing s held v)) (safe-read ∙ safe-flag (v.reads && v.close)))
-      ∙ any_of v.precharges (v.reads && v.close) (leaves_closing s held v) (left_safe (some centre))
+      ∙ any_of v.precharges (v.reads && v.close) (leaves_closing s held v) (left_safe (Some centre))
       ∙ sym (safe-flag (v.precharges || implies_by s held v))
       ∙ ap not (left-any s ch.buffer ch.due r v w (λ x close. closes_bank (context_of s) (state_of ch) applied x))
       ∙ neither-of ((held.waits && not out) && closes_bank (context_of s) (state_of ch) applied held.bank) (held.two && closes_bank (context_of s) (state_of ch) applied held.next)
       ∙ ap₂ ◌&&◌ (spared-of (held.waits && not out) held.bank) (spared-of held.two held.next)
     where
       applied : Option ℕ
-      applied = only (v.precharges || implies_by s held v) (some centre)
+      applied = only (v.precharges || implies_by s held v) (Some centre)
 
       any_of : (p i c b : Bool) → ((not p || b) && ((not c || b) && (not i || b))) ≡ (not (p || (i || c)) || b)
       any_of p i c true = rw (or-true (not p), or-true (not c), or-true (not i), or-true (not (p || (i || c))))

@@ -22,7 +22,8 @@ use settings::{DataAt, PacketAt, Settings};
 use spec_rules::{Channel, LastInstants};
 
 // The PRER of a packet, its own or one that it implies: whether there is one, its instant and its bank; of that bank the last
-// instants before the packet, of an ACT or REFA, of an RD and of a retire.
+// instants before the packet, of an ACT or REFA, of an RD and of a retire. A flag, not an Option: each rule tests it once, and the
+// definitions of the tests speak of a record whose flag is false too.
 #[derive(Clone, Copy)]
 pub struct Precharge {
     pub applies: bool,
@@ -150,7 +151,7 @@ fn packet_in(s: Settings, ch: Channel, h: Held, v: View) -> u32
     packet_rule(s, v, h, k, 0, ch.lasts)
 }
 
-// The lowest rule that a record breaks in a state, or 0.
+// The lowest rule that a record breaks in a state, or 0: a number, as the definition `judged` that the theorems speak of.
 pub fn judge(s: Settings, ch: Channel, r: Record) -> u32
     ensures { result ≡ judged (context_of s) ch r }
 {

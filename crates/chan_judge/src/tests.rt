@@ -8,11 +8,11 @@ ghost use Rattle.chan_judge.specs.Form.Tests.{in_time, comes_at, data_in_time, p
 
 use crate::Precharge;
 use chan_view::banks::{is_closed, is_open};
-use chan_view::bounds::{after_gap, after_three, keeps, minus, since_wide};
+use chan_view::bounds::{after_gap, after_three, keeps, since_wide};
 use chan_view::neighbours::is_near;
 use chan_view::{Held, Tracks, View};
 use settings::instants::{read_arrival, write_arrival};
-use settings::{Arrival, DataAt, HORIZON, HORIZON_WIDE, PacketAt, Settings};
+use settings::{DataAt, HORIZON, HORIZON_WIDE, PacketAt, Settings};
 use spec_rules::BankTrack;
 
 // Whether a number is an instant.
@@ -22,22 +22,19 @@ pub fn in_range(t: u32) -> bool
     (4 <= t) & (t <= HORIZON)
 }
 
-fn in_time(a: Arrival) -> bool
+fn in_time(a: Option<DataAt>) -> bool
     ensures { result ≡ in_time a }
 {
-    match a {
-        Arrival::At(_) => true,
-        Arrival::Late => false,
-    }
+    a.is_some()
 }
 
 // Whether data come at an instant.
-pub fn comes_at(t: DataAt, a: Arrival) -> bool
+pub fn comes_at(t: DataAt, a: Option<DataAt>) -> bool
     ensures { result ≡ comes_at t a }
 {
     match a {
-        Arrival::At(u) => t.0 == u.0,
-        Arrival::Late => false,
+        Some(u) => t.0 == u.0,
+        None => false,
     }
 }
 
@@ -78,8 +75,8 @@ fn prer(
 pub(crate) fn prer_of(s: Settings, v: View, h: Held, out: bool, k: Tracks) -> Precharge
     ensures { result ≡ prer_of s v h out k }
 {
-    let at = num::wide32(v.at.0);
-    let due = at + num::wide32(s.offp);
+    let at = u64::from(v.at.0);
+    let due = at + u64::from(s.offp);
     if h.close & out {
         return prer(true, due, h.bank, k.held.opened, k.held.rd, k.held.retire);
     }
@@ -169,7 +166,7 @@ pub(crate) fn finds_open(s: Settings, v: View, h: Held, out: bool, k: Tracks) ->
 pub(crate) fn row_ready(s: Settings, v: View, out: bool, k: Tracks) -> bool
     ensures { result ≡ test10 s v out k }
 {
-    let least = minus(num::wide32(s.rcd), num::wide32(s.rtr));
+    let least = u64::from(s.rcd).saturating_sub(u64::from(s.rtr));
     let write = keeps(v.writes, since_wide(k.own.act, least), v.at);
     apart(v.reads, k.own.act, s.rcd, v.at) & (apart(out, k.held.act, s.rcd, v.at) & write)
 }
@@ -178,8 +175,8 @@ pub(crate) fn row_ready(s: Settings, v: View, out: bool, k: Tracks) -> bool
 pub(crate) fn turned(s: Settings, v: View, rd: PacketAt) -> bool
     ensures { result ≡ test11 s v rd.0 }
 {
-    let sum = num::wide32(s.cc) + num::wide32(s.cac);
-    let gap = minus(sum, num::wide32(s.cwd));
+    let sum = u64::from(s.cc) + u64::from(s.cac);
+    let gap = sum.saturating_sub(u64::from(s.cwd));
     keeps(v.writes, since_wide(rd, gap), v.at)
 }
 

@@ -1,9 +1,9 @@
 -- The bounds by command are those of the table of distances, so the least instant by them is that of the rules.
 -- Assumes nothing.
+use Rattle.std.specs.Prelude.{Some}
 use Prim.Native.Nat.{ℕ, ◌+◌, ◌-◌, max}
 use mathlib.Core.Path.{◌≡◌, refl, ap, ap₂, ◌∙◌, sym}
 use mathlib.Core.Bool.{Bool, true, false, not, ◌&&◌, ◌||◌, or-false, cond}
-use mathlib.Core.Option.{some}
 use native.Mathlib.Nat.{add-zero}
 use native.Mathlib.Omega.{arith}
 use borrow.Author.Tests.{eqb-true}
@@ -113,7 +113,7 @@ module _ (s : Settings) (ch : Channel) (e : length ch.banks ≡ 32) where
   abbrev implied_at : ℕ → ℕ
   implied_at b = implied_bound s ch.lasts (track_of ch b) (track_of ch (low_of s b)) (track_of ch (high_of s b))
 
-  implied-asks : (r : Record) (c : Bool) (b : ℕ) → bound_implied (context_of s) ch r (only c (some b)) - s.offp ≡ bound_if c (implied_at b)
+  implied-asks : (r : Record) (c : Bool) (b : ℕ) → bound_implied (context_of s) ch r (only c (Some b)) - s.offp ≡ bound_if c (implied_at b)
   unfolding implied_bound context_of
   implied-asks r true b = ap (λ (n : ℕ). n - s.offp) (implied-bounds (context_of s) ch b ∙ prer-asks b)
   implied-asks r false b = omega arith
@@ -193,7 +193,7 @@ module _ (s : Settings) (ch : Channel) (e : length ch.banks ≡ 32) where
     may-stay-is : (b : Buffer) → may_stay (context_of s) ch r (waiting_of b) ≡ may_stay_by (held_of b ch.due) v
     may-stay-is b = ap₂ ◌&&◌ (stays-is s b ch.due r v shows) (rw (closes-is b, shows.traits-of, flag v.writes v.bank))
       where
-        flag : (c : Bool) (x : ℕ) → has (only c (some x)) ≡ c
+        flag : (c : Bool) (x : ℕ) → has (only c (Some x)) ≡ c
         flag true x = refl
         flag false x = refl
 

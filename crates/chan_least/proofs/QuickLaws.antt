@@ -1,6 +1,7 @@
 -- Where the quick test passes, a record breaks no rule. Of a record that implies no PRER, while no closing write waits, it passes just
 -- there, where it is asked with what rule 5 asks.
 -- Assumes nothing.
+use Rattle.std.specs.Prelude.{None, Option, Some}
 use Prim.Native.Nat.{ℕ, ◌+◌, ◌-◌}
 use mathlib.Core.Path.{◌≡◌, refl, ap, ◌∙◌, sym}
 use mathlib.Core.Bool.{Bool, true, false, not, ◌&&◌, ◌||◌, cond, and-true, and-false, and_assoc, and_comm, or-true, or-false}
@@ -10,8 +11,6 @@ use lib.Dec.{eqb, leb, leb-zero}
 use lib.ListN.{length}
 use Rattle.settings.specs.declared.PacketAt.{PacketAt}
 use Rattle.settings.specs.declared.DataAt.{DataAt}
-use Rattle.settings.specs.declared.Arrival.{Arrival}
-use Rattle.settings.specs.declared.Arrival.TheVariants.{Late, At}
 use Rattle.settings.specs.declared.Settings.{Settings}
 use Rattle.settings.specs.Instants.{horizon, arrival, is_instant}
 use Rattle.packet.specs.declared.RowPacket.{RowPacket}
@@ -47,12 +46,12 @@ use Rattle.chan_least.proofs.LeastLaws.{since-zero, three-since}
 
 -- ---- data that come in time, and late
 
-module _ (p : PacketAt) (delay : ℕ) (a : Arrival) (e : a ≡ arrival p delay) where
-  pub comes : (u : DataAt) → a ≡ At u → leb (p.0 + delay) horizon ≡ true
+module _ (p : PacketAt) (delay : ℕ) (a : Option DataAt) (e : a ≡ arrival p delay) where
+  pub comes : (u : DataAt) → a ≡ Some u → leb (p.0 + delay) horizon ≡ true
   unfolding in_time
   comes u q = sym (arrives-in-time p delay) ∙ ap in_time (sym e ∙ q)
 
-  pub is-late : a ≡ Late → leb (p.0 + delay) horizon ≡ false
+  pub is-late : a ≡ None → leb (p.0 + delay) horizon ≡ false
   unfolding in_time
   is-late q = sym (arrives-in-time p delay) ∙ ap in_time (sym e ∙ q)
 

@@ -18,7 +18,6 @@ use crate::bounds::{
 };
 use chan_judge::acts::act_bound;
 use chan_view::banks::{around, slot_of};
-use chan_view::bounds::later;
 use chan_view::neighbours::{high_of, low_of};
 use chan_view::views::{held_of, seen_of, stays};
 use chan_view::{Held, Seen, Tracks, View};
@@ -41,7 +40,7 @@ fn packet_bound(s: Settings, v: View, k: Tracks, act: u64, l: LastInstants) -> u
     }
     if v.reads {
         let read = read_bound(s, l, k.own.act);
-        return later(read, implied_bound(s, v.close, l, k.own, k.low, k.high));
+        return read.max(implied_bound(s, v.close, l, k.own, k.low, k.high));
     }
     if v.writes {
         return write_bound(s, l, k.own.act);
@@ -60,7 +59,7 @@ fn may_stay(h: Held, v: View) -> bool
 fn leaves_from(s: Settings, h: Held, v: View, free: u64) -> bool
     ensures { result ≡ leaves_from s h v free }
 {
-    let passed = num::wide32(h.at.0) + num::wide32(s.rtr) <= free;
+    let passed = u64::from(h.at.0) + u64::from(s.rtr) <= free;
     h.waits & (v.other & (!may_stay(h, v) | passed))
 }
 
@@ -68,10 +67,7 @@ fn leaves_from(s: Settings, h: Held, v: View, free: u64) -> bool
 fn retire_least(s: Settings, h: Held, k: Tracks, l: LastInstants) -> u64
     ensures { result ≡ retire_least s h k l }
 {
-    later(
-        retire_bound(s, h.at, k.held.act),
-        implied_bound(s, h.close, l, k.held, k.low, k.high),
-    )
+    retire_bound(s, h.at, k.held.act).max(implied_bound(s, h.close, l, k.held, k.low, k.high))
 }
 
 // The least instant of a packet from now on, from the tracks of the banks that it concerns.
@@ -86,9 +82,9 @@ fn least_by(
 ) -> u64
     ensures { result ≡ least_by s v h k act l now.0 }
 {
-    let free = later(num::wide32(now.0), later(4, packet_bound(s, v, k, act, l)));
+    let free = u64::from(now.0).max(4).max(packet_bound(s, v, k, act, l));
     if leaves_from(s, h, v, free) {
-        return later(free, retire_least(s, h, k, l));
+        return free.max(retire_least(s, h, k, l));
     }
     free
 }
@@ -127,7 +123,7 @@ pub fn least_from(s: Settings, ch: Channel, r: Record, now: PacketAt) -> u64
     ensures { result ≡ least_from (context_of s) ch r now.0 }
 {
     let Seen::Packet(v) = seen_of(r) else {
-        return later(num::wide32(now.0), 4);
+        return u64::from(now.0).max(4);
     };
     let buffer = ch.buffer;
     let banks = ch.banks;

@@ -8,13 +8,13 @@ use chan_judge::data_rule;
 use chan_judge::tests::in_range;
 use chan_step::retires;
 use chan_view::banks::{is_closed, is_open};
-use chan_view::bounds::{after_gap, later};
+use chan_view::bounds::after_gap;
 use chan_view::neighbours::is_near;
 use chan_view::{Held, Tracks};
 use packet::{ColPacket, FULL, RowPacket};
 use record::Record;
 use settings::instants::{read_arrival, write_arrival};
-use settings::{Arrival, PacketAt, Settings};
+use settings::{PacketAt, Settings};
 use spec_rules::{BankTrack, LastInstants};
 
 // Whether a packet is in range, no data are due and no closing write waits.
@@ -29,7 +29,7 @@ fn act_by(s: Settings, k: Tracks, newest: PacketAt) -> u64
     ensures { result ≡ act_by s k newest }
 {
     let near = latest_of(k.own.opened, k.low.opened, k.high.opened);
-    later(after_gap(newest, s.rr), after_gap(near, s.rc))
+    after_gap(newest, s.rr).max(after_gap(near, s.rc))
 }
 
 fn closed_near(k: Tracks) -> bool
@@ -53,7 +53,7 @@ fn opens_well(s: Settings, at: PacketAt, k: Tracks, l: LastInstants, act: u64) -
     ensures { result ≡ opens_well s at k l act }
 {
     let bound = open_bound(s, l, act, latest_of(k.own.pre, k.low.pre, k.high.pre));
-    closed_near(k) & (bound <= num::wide32(at.0))
+    closed_near(k) & (bound <= u64::from(at.0))
 }
 
 // PRER and REFP to bank b.
@@ -66,7 +66,7 @@ fn closes_well(s: Settings, at: PacketAt, k: Tracks, l: LastInstants, b: u32, h:
     let held = k.held;
     let next = k.next;
     let safe = !loses(s, b, h.waits, h.bank, held) & !loses(s, b, h.two, h.next, next);
-    safe & (close_bound(s, l, opened, rd, retire) <= num::wide32(at.0))
+    safe & (close_bound(s, l, opened, rd, retire) <= u64::from(at.0))
 }
 
 // RD with this mask.
@@ -75,9 +75,8 @@ fn reads_well(s: Settings, at: PacketAt, k: Tracks, l: LastInstants, mask: u32) 
 {
     let own = k.own;
     match read_arrival(s, at) {
-        Arrival::At(_) => (mask == FULL)
-            & (is_open(own) & (read_bound(s, l, own.act) <= num::wide32(at.0))),
-        Arrival::Late => false,
+        Some(_) => (mask == FULL) & (is_open(own) & (read_bound(s, l, own.act) <= u64::from(at.0))),
+        None => false,
     }
 }
 
@@ -87,8 +86,8 @@ fn writes_well(s: Settings, at: PacketAt, k: Tracks, l: LastInstants) -> bool
 {
     let own = k.own;
     match write_arrival(s, at) {
-        Arrival::At(_) => is_open(own) & (write_bound(s, l, own.act) <= num::wide32(at.0)),
-        Arrival::Late => false,
+        Some(_) => is_open(own) & (write_bound(s, l, own.act) <= u64::from(at.0)),
+        None => false,
     }
 }
 
@@ -98,7 +97,7 @@ fn leaves_well(s: Settings, at: PacketAt, k: Tracks, stays: bool, mask: u32, out
 {
     if out {
         let held = k.held;
-        return is_open(held) & (after_gap(held.act, s.rcd) <= num::wide32(at.0));
+        return is_open(held) & (after_gap(held.act, s.rcd) <= u64::from(at.0));
     }
     stays & (mask == FULL)
 }
@@ -136,7 +135,7 @@ fn col_well(
 {
     match p {
         ColPacket::Nocop { mask } => leaves_well(s, at, k, !h.waits, mask, out)
-            & (nocop_bound(s, l) <= num::wide32(at.0)),
+            & (nocop_bound(s, l) <= u64::from(at.0)),
         ColPacket::Wr {
             bank: _,
             column: _,

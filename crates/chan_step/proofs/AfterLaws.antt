@@ -1,10 +1,10 @@
 -- The state after a record, part by part: banks, last instants, write buffer, and whether data are due.
 -- Assumes nothing.
+use Rattle.std.specs.Prelude.{Option, None, Some}
 use Prim.Native.Nat.{ℕ, ◌+◌}
 use mathlib.Core.Path.{◌≡◌, refl, ap, ap₂, sym, ◌∙◌}
 use mathlib.Core.Bool.{Bool, true, false, ◌&&◌, and-false}
 use mathlib.Core.List.{List}
-use mathlib.Core.Option.{Option, none, some}
 use native.Mathlib.Omega.{arith}
 use lib.Dec.{leb}
 use lib.ListN.{length}
@@ -97,13 +97,13 @@ module _ (cx : Context) (ch : Channel) (t : PacketAt) where
   -- that of a retire may as well come after the packet, which changes no bank
   later-nocop : (u m : ℕ) (o : Option ℕ) → after_packet cx (after_implied cx u o ch) (ColAt t (Nocop m)) ≡ after_implied cx u o (after_packet cx ch (ColAt t (Nocop m)))
   unfolding after_packet after_implied traits col_traits
-  later-nocop u m none = refl
-  later-nocop u m (some x) = rw (nocop-banks cx (after_implied cx u (some x) ch) t m, nocop-banks cx ch t m)
+  later-nocop u m None = refl
+  later-nocop u m (Some x) = rw (nocop-banks cx (after_implied cx u (Some x) ch) t m, nocop-banks cx ch t m)
 
   later-wr : (u b c m : ℕ) (z : Bool) (o : Option ℕ) → after_packet cx (after_implied cx u o ch) (ColAt t (Wr b c m z)) ≡ after_implied cx u o (after_packet cx ch (ColAt t (Wr b c m z)))
   unfolding after_packet after_implied traits col_traits
-  later-wr u b c m z none = refl
-  later-wr u b c m z (some x) = rw (wr-banks cx (after_implied cx u (some x) ch) t b c m z, wr-banks cx ch t b c m z)
+  later-wr u b c m z None = refl
+  later-wr u b c m z (Some x) = rw (wr-banks cx (after_implied cx u (Some x) ch) t b c m z, wr-banks cx ch t b c m z)
 
 module _ (cx : Context) (ch : Channel) (t : PacketAt) where
   abbrev retired : ColPacket → Channel
@@ -122,7 +122,7 @@ module _ (cx : Context) (ch : Channel) (t : PacketAt) where
 
 -- by the banks beside
 pub implied-after : (s : Settings) (ch : Channel) → length ch.banks ≡ 32 → (t : PacketAt) (b : ℕ)
-    → after_implied (context_of s) t.0 (some b) ch ≡ channel_of (closed_banks t b (low_of s b) (high_of s b) ch.banks) (implied_lasts t ch.lasts) ch.buffer ch.due
+    → after_implied (context_of s) t.0 (Some b) ch ≡ channel_of (closed_banks t b (low_of s b) (high_of s b) ch.banks) (implied_lasts t ch.lasts) ch.buffer ch.due
 unfolding after_implied
 implied-after s ch e t b = rw (implied-banks (context_of s) ch t e b (low_of s b) (high_of s b) (sides s b))
 
@@ -146,7 +146,7 @@ module _ (s : Settings) (ch : Channel) (e : length ch.banks ≡ 32) where
 
   -- and after that PRER
   abbrev implied_by : View → ℕ → Channel → Channel
-  implied_by v u c = after_implied (context_of s) u (only (implies_by s waiting v) (some (centre_of s waiting v))) c
+  implied_by v u c = after_implied (context_of s) u (only (implies_by s waiting v) (Some (centre_of s waiting v))) c
 
   -- a ROW packet retires nothing and implies none
   row_next_lem : (t : PacketAt) (p : RowPacket) → after (context_of s) ch (RowAt t p) ≡ next_by (RowAt t p) (row_view t p)

@@ -4,10 +4,9 @@
 pub mod tracks;
 
 ghost use Rattle.std.specs.Prelude.{◌≡◌, ◌+◌, ◌<◌, ◌^◌, get_or, set};
-ghost use Rattle.std.proofs.Math.Option.{some};
 ghost use Rattle.spec_rules.specs.Packets.{row_traits, col_traits, instant};
 ghost use Rattle.spec_rules.specs.Neighbour.{context_of};
-ghost use Rattle.spec_rules.specs.Channel.{idle, fresh, after_implied, after};
+ghost use Rattle.spec_rules.specs.Channel.{never, idle, fresh, after_implied, after};
 ghost use Rattle.chan_view.specs.Form.Beside.{low_of, high_of};
 ghost use Rattle.chan_view.specs.Form.View.{seen_of};
 ghost use Rattle.chan_step.specs.Form.Banks.{side_track, changed, closed_banks, row_banks, col_banks, retired_banks, banks_next};
@@ -281,7 +280,7 @@ pub fn implied_at(s: Settings, at: PacketAt) -> PacketAt
 
 // The state after an implied PRER to a bank.
 fn after_implied(s: Settings, at: PacketAt, b: u32, ch: Channel) -> Channel
-    ensures { result ≡ after_implied (context_of s) at.0 (some b) ch }
+    ensures { result ≡ after_implied (context_of s) at.0 (Some b) ch }
 {
     let banks = ch.banks;
     let lasts = ch.lasts;
@@ -317,23 +316,29 @@ pub fn after(s: Settings, ch: Channel, r: Record) -> Channel
     next
 }
 
-// The state before every record.
-pub fn fresh() -> Channel
-    ensures { result ≡ fresh }
+// The last instants before every record.
+pub fn no_lasts() -> LastInstants
+    ensures { result ≡ record { packet = never; row = never; col = never; pre = never; rd = never; implied = never } }
 {
     let never = PacketAt(0);
-    let banks = [unused(); 32];
-    let lasts = LastInstants {
+    LastInstants {
         packet: never,
         row: never,
         col: never,
         pre: never,
         rd: never,
         implied: never,
-    };
+    }
+}
+
+// The state before every record.
+pub fn fresh() -> Channel
+    ensures { result ≡ fresh }
+{
+    let banks = [unused(); 32];
     Channel {
         banks: banks,
-        lasts: lasts,
+        lasts: no_lasts(),
         buffer: Buffer::Empty,
         due: false,
     }

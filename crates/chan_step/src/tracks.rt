@@ -1,5 +1,5 @@
 // One bank after a packet at an instant.
-ghost use Rattle.std.specs.Prelude.{◌≡◌, cond};
+ghost use Rattle.std.specs.Prelude.{◌≡◌};
 ghost use Rattle.chan_step.specs.Form.Banks.{act_track, refa_track, prer_track, side_track, read_track, retired_track};
 
 use chan_view::banks::is_closed;
@@ -40,20 +40,13 @@ pub fn closed_track(at: PacketAt, k: BankTrack) -> BankTrack
     }
 }
 
-// One of two instants.
-fn pick(first: bool, a: PacketAt, b: PacketAt) -> PacketAt
-    ensures { result ≡ cond first a b }
-{
-    if first { a } else { b }
-}
-
 // A neighbour of that bank: one that was not closed is closed by it.
 pub fn side_track(at: PacketAt, k: BankTrack) -> BankTrack
     ensures { result ≡ side_track at k }
 {
     BankTrack {
         bank: Bank::Closed,
-        pre: pick(is_closed(k), k.pre, at),
+        pre: if is_closed(k) { k.pre } else { at },
         ..k
     }
 }

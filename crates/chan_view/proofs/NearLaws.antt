@@ -1,11 +1,11 @@
 -- Which banks are near a bank: itself and at most two beside it, by the settings. The first laws alone know the relation. Then what
 -- all 32 banks ask is what these three ask.
 -- Assumes nothing.
+use Rattle.std.specs.Prelude.{Some}
 use Prim.Native.Nat.{ℕ, ◌+◌, ◌-◌, ◌*◌, ◌/◌, ◌%◌, ◌^◌, ◌≤◌, ◌<◌, max}
 use mathlib.Core.Path.{◌≡◌, refl, sym, ◌∙◌, ap}
 use mathlib.Core.Bool.{Bool, true, false, not, ◌&&◌, ◌||◌, cond, and-eq-true_iff}
 use mathlib.Core.Logic.{◌⊎◌, ⊎_elim, inl, inr}
-use mathlib.Core.Option.{some}
 use native.Mathlib.Nat.{le_antisymm}
 use native.Mathlib.Omega.{arith}
 use borrow.Author.Tests.{eq-eqb, ne_eqb, eqb-true, eqb-false, ltb-true, ltb-false, leb-true, le-leb}
@@ -203,14 +203,14 @@ module _ (g : ℕ) (last : ℕ → ℕ) (none-past : (x : ℕ) → 32 ≤ x → 
   kept-past t x h = rw (none-past x h) (leb-zero t)
 
   -- a bound over the banks that a test picks is a test of each
-  asks-all : (pick : ℕ → Bool) (t : ℕ) → leb (max_up_to (λ x. asks (only (pick x) (some g)) (last x)) 32) t ≡ all_up_to (λ x. not (pick x) || kept t x) 32
+  asks-all : (pick : ℕ → Bool) (t : ℕ) → leb (max_up_to (λ x. asks (only (pick x) (Some g)) (last x)) 32) t ≡ all_up_to (λ x. not (pick x) || kept t x) 32
   asks-all pick t = leb-max_up_to _ 32 t ∙ all-ext _ _ 32 (λ x l. go (pick x) (last x))
     where
-      go : (c : Bool) (l : ℕ) → leb (asks (only c (some g)) l) t ≡ (not c || leb (since l g) t)
+      go : (c : Bool) (l : ℕ) → leb (asks (only c (Some g)) l) t ≡ (not c || leb (since l g) t)
       go true l = refl
       go false l = leb-zero t
 
-  pub near-max : (s : Settings) (b : ℕ) → max_up_to (λ x. asks (only (near (context_of s) b x) (some g)) (last x)) 32 ≡ three (last b) (last (low_of s b)) (last (high_of s b)) g
+  pub near-max : (s : Settings) (b : ℕ) → max_up_to (λ x. asks (only (near (context_of s) b x) (Some g)) (last x)) 32 ≡ three (last b) (last (low_of s b)) (last (high_of s b)) g
   near-max s b = same-bound _ _ (λ t. asks-all (near (context_of s) b) t ∙ near-all (kept t) (kept-past t) s b ∙ parts t)
     where
       regroup : (x y z : Bool) → (x && (y && z)) ≡ ((x && y) && z)
@@ -223,5 +223,5 @@ module _ (g : ℕ) (last : ℕ → ℕ) (none-past : (x : ℕ) → 32 ≤ x → 
           ∙ sym (leb-max (max (since (last b) g) (since (last (low_of s b)) g)) (since (last (high_of s b)) g) t
           ∙ ap (λ (c : Bool). c && kept t (high_of s b)) (leb-max (since (last b) g) (since (last (low_of s b)) g) t))
 
-  pub same-max : (b : ℕ) → max_up_to (λ x. asks (only (eqb x b) (some g)) (last x)) 32 ≡ since (last b) g
+  pub same-max : (b : ℕ) → max_up_to (λ x. asks (only (eqb x b) (Some g)) (last x)) 32 ≡ since (last b) g
   same-max b = same-bound _ _ (λ t. asks-all (λ x. eqb x b) t ∙ same-all (kept t) (kept-past t) b)

@@ -1,10 +1,10 @@
 -- Views say what records and the write buffer are to the rules.
 -- Assumes nothing.
+use Rattle.std.specs.Prelude.{Option, None, Some}
 use Prim.Native.Nat.{ℕ, ◌+◌}
 use mathlib.Core.Path.{◌≡◌, refl, ap, ◌∙◌}
 use mathlib.Core.Bool.{Bool, true, false, not, ◌&&◌, ◌||◌, or-false, cond, or-true, and-true, and-false}
 use mathlib.Core.List.{[], ◌∷◌}
-use mathlib.Core.Option.{Option, none, some}
 use native.Mathlib.Omega.{arith}
 use Rattle.settings.specs.declared.Settings.{Settings}
 use Rattle.settings.specs.declared.PacketAt.{PacketAt}
@@ -34,13 +34,13 @@ use Rattle.chan_view.specs.Form.View.{row_view, col_view, seen_of, held_of, leav
 abbrev pub traits_of : View → Traits
 traits_of v =
     record {
-      opens = only v.opens (some v.bank);
-      acts = only v.acts (some v.bank);
-      precharges = only v.precharges (some v.bank);
-      reads = only v.reads (some v.bank);
-      writes = only v.writes (some v.bank);
-      retires = none;
-      implies = only (v.reads && v.close) (some v.bank);
+      opens = only v.opens (Some v.bank);
+      acts = only v.acts (Some v.bank);
+      precharges = only v.precharges (Some v.bank);
+      reads = only v.reads (Some v.bank);
+      writes = only v.writes (Some v.bank);
+      retires = None;
+      implies = only (v.reads && v.close) (Some v.bank);
       row = v.row;
       col = v.col;
       not_read = v.other;
@@ -89,7 +89,7 @@ module _ (s : Settings) (b : Buffer) (due : Bool) (r : Record) (v : View) (h : S
   unfolding leaving waiting_of held_of context_of
   leaving-is = rw (h.traits-of, h.instant-of) (go b)
     where
-      none-leaves : (c : Bool) → only_write (c && false) none ≡ none
+      none-leaves : (c : Bool) → only_write (c && false) None ≡ None
       none-leaves true = refl
       none-leaves false = refl
 
@@ -98,29 +98,29 @@ module _ (s : Settings) (b : Buffer) (due : Bool) (r : Record) (v : View) (h : S
       go (One x) = refl
       go (Two x y) = refl
 
-  pub leaving-bank : bank_of (leaving (context_of s) (waiting_of b) r) ≡ only (leaves s (held_of b due) v) (some (held_of b due).bank)
+  pub leaving-bank : bank_of (leaving (context_of s) (waiting_of b) r) ≡ only (leaves s (held_of b due) v) (Some (held_of b due).bank)
   unfolding waiting_of held_of
   leaving-bank = ap bank_of leaving-is ∙ go b
     where
-      flag : (c : Bool) (x : Write) → bank_of (only_write c (some x)) ≡ only c (some x.bank)
+      flag : (c : Bool) (x : Write) → bank_of (only_write c (Some x)) ≡ only c (Some x.bank)
       flag true x = refl
       flag false x = refl
 
-      go : (b : Buffer) → bank_of (only_write (leaves s (held_of b due) v) (first (waiting_of b))) ≡ only (leaves s (held_of b due) v) (some (held_of b due).bank)
+      go : (b : Buffer) → bank_of (only_write (leaves s (held_of b due) v) (first (waiting_of b))) ≡ only (leaves s (held_of b due) v) (Some (held_of b due).bank)
       go Empty = refl
       go (One x) = flag (leaves s (held_of (One x) due) v) x
       go (Two x y) = flag (leaves s (held_of (Two x y) due) v) x
 
   -- the bank that its retire closes
-  pub leaving-closes : retire_implies (leaving (context_of s) (waiting_of b) r) ≡ only (leaves_closing s (held_of b due) v) (some (held_of b due).bank)
+  pub leaving-closes : retire_implies (leaving (context_of s) (waiting_of b) r) ≡ only (leaves_closing s (held_of b due) v) (Some (held_of b due).bank)
   unfolding waiting_of held_of
   leaving-closes = ap retire_implies leaving-is ∙ go b
     where
-      flag : (c : Bool) (x : Write) → retire_implies (only_write c (some x)) ≡ only (x.close && c) (some x.bank)
+      flag : (c : Bool) (x : Write) → retire_implies (only_write c (Some x)) ≡ only (x.close && c) (Some x.bank)
       flag true x = rw (and-true x.close)
       flag false x = rw (and-false x.close)
 
-      go : (b : Buffer) → retire_implies (only_write (leaves s (held_of b due) v) (first (waiting_of b))) ≡ only (leaves_closing s (held_of b due) v) (some (held_of b due).bank)
+      go : (b : Buffer) → retire_implies (only_write (leaves s (held_of b due) v) (first (waiting_of b))) ≡ only (leaves_closing s (held_of b due) v) (Some (held_of b due).bank)
       go Empty = refl
       go (One x) = flag (leaves s (held_of (One x) due) v) x
       go (Two x y) = flag (leaves s (held_of (Two x y) due) v) x
@@ -132,12 +132,12 @@ module _ (s : Settings) (b : Buffer) (due : Bool) (r : Record) (v : View) (h : S
   unfolding waiting_of held_of
   left-any p = ap (λ (o : Option Write). any_write (λ w. p w.bank w.close) (left o (waiting_of b))) leaving-is ∙ go b
     where
-      one : (c : Bool) (x : Write) → any_write (λ w. p w.bank w.close) (left (only_write c (some x)) (x ∷ [])) ≡ ((not c && p x.bank x.close) || false)
+      one : (c : Bool) (x : Write) → any_write (λ w. p w.bank w.close) (left (only_write c (Some x)) (x ∷ [])) ≡ ((not c && p x.bank x.close) || false)
       one true x = refl
       one false x = refl
 
       both : (c : Bool) (x y : Write)
-          → any_write (λ w. p w.bank w.close) (left (only_write c (some x)) (x ∷ y ∷ [])) ≡ ((not c && p x.bank x.close) || p y.bank y.close)
+          → any_write (λ w. p w.bank w.close) (left (only_write c (Some x)) (x ∷ y ∷ [])) ≡ ((not c && p x.bank x.close) || p y.bank y.close)
       both true x y = or-false (p y.bank y.close)
       both false x y = rw (or-false (p y.bank y.close))
 
@@ -188,10 +188,10 @@ module _ (s : Settings) (b : Buffer) (due : Bool) (r : Record) (v : View) (h : S
   precharges-alone q = rw (keeps-bank (rw q (or-true v.opens)), rw q at h.reads-alone)
 
   -- the bank of its own PRER
-  pub precharges-at : (traits r).precharges ≡ only v.precharges (some (centre_of s (held_of b due) v))
+  pub precharges-at : (traits r).precharges ≡ only v.precharges (Some (centre_of s (held_of b due) v))
   precharges-at = rw h.traits-of (go v.precharges refl)
     where
-      go : (c : Bool) → v.precharges ≡ c → only c (some v.bank) ≡ only c (some (centre_of s (held_of b due) v))
+      go : (c : Bool) → v.precharges ≡ c → only c (Some v.bank) ≡ only c (Some (centre_of s (held_of b due) v))
       go true q = rw (keeps-bank (rw q (or-true v.opens)))
       go false q = refl
 
@@ -200,7 +200,7 @@ module _ (s : Settings) (b : Buffer) (due : Bool) (r : Record) (v : View) (h : S
   unfolding waiting_of held_of
   stays-is = rw h.traits-of (go b)
     where
-      flag : (c : Bool) (x : ℕ) → has (only c (some x)) ≡ c
+      flag : (c : Bool) (x : ℕ) → has (only c (Some x)) ≡ c
       flag true x = refl
       flag false x = refl
 
@@ -214,23 +214,23 @@ module _ (s : Settings) (ch : Channel) (r : Record) (v : View) (h : Shows r v) w
   abbrev buffered : Held
   buffered = held_of ch.buffer ch.due
 
-  pub implies-at : implied_bank (context_of s) ch r ≡ only (implies_by s buffered v) (some (centre_of s buffered v))
+  pub implies-at : implied_bank (context_of s) ch r ≡ only (implies_by s buffered v) (Some (centre_of s buffered v))
   implies-at = go (v.reads && v.close) refl
     where
-      retired : (c : Bool) (a b : ℕ) → only c (some a) ≡ only c (some (cond c a b))
+      retired : (c : Bool) (a b : ℕ) → only c (Some a) ≡ only c (Some (cond c a b))
       retired true a b = refl
       retired false a b = refl
 
-      go : (c : Bool) → (v.reads && v.close) ≡ c → implied_bank (context_of s) ch r ≡ only ((v.reads && v.close) || leaves_closing s buffered v) (some (centre_of s buffered v))
+      go : (c : Bool) → (v.reads && v.close) ≡ c → implied_bank (context_of s) ch r ≡ only ((v.reads && v.close) || leaves_closing s buffered v) (Some (centre_of s buffered v))
       go true q = rw (h.traits-of, q, rda-keeps s ch.buffer ch.due r v h q)
       go false q = rw (h.traits-of, q, leaving-closes s ch.buffer ch.due r v h) (retired (leaves_closing s buffered v) buffered.bank v.bank)
 
 -- the data that are due
-pub held-due : (s : Settings) (ch : Channel) → due_of (context_of s) ch ≡ only (held_of ch.buffer ch.due).due (some ((held_of ch.buffer ch.due).newest.0 + s.cwd))
+pub held-due : (s : Settings) (ch : Channel) → due_of (context_of s) ch ≡ only (held_of ch.buffer ch.due).due (Some ((held_of ch.buffer ch.due).newest.0 + s.cwd))
 unfolding due_of waiting_of held_of context_of
 held-due s ch = go ch.buffer ch.due
   where
-    go : (b : Buffer) (due : Bool) → only due (newest_due (context_of s) (waiting_of b)) ≡ only (held_of b due).due (some ((held_of b due).newest.0 + s.cwd))
+    go : (b : Buffer) (due : Bool) → only due (newest_due (context_of s) (waiting_of b)) ≡ only (held_of b due).due (Some ((held_of b due).newest.0 + s.cwd))
     go Empty true = refl
     go Empty false = refl
     go (One x) due = refl

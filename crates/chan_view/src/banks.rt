@@ -64,22 +64,12 @@ pub fn around(
 pub fn is_closed(t: BankTrack) -> bool
     ensures { result ≡ is_closed t.bank }
 {
-    let b = t.bank;
-    match b {
-        Bank::Closed => true,
-        Bank::Open(_) => false,
-        Bank::Refresh => false,
-    }
+    matches!(t.bank, Bank::Closed)
 }
 
 // Whether a bank is open by ACT.
 pub fn is_open(t: BankTrack) -> bool
     ensures { result ≡ is_open t.bank }
 {
-    let b = t.bank;
-    match b {
-        Bank::Closed => false,
-        Bank::Open(_) => true,
-        Bank::Refresh => false,
-    }
+    matches!(t.bank, Bank::Open(_))
 }

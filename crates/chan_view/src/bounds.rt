@@ -1,16 +1,9 @@
 // Bounds: the least packet instants that earlier ones and the distances of the rules ask. Sums are made in 64 bits.
-ghost use Rattle.std.specs.Prelude.{◌≡◌, ◌<◌, ◌^◌, ◌-◌, max, leb};
+ghost use Rattle.std.specs.Prelude.{◌≡◌, ◌<◌, ◌^◌, leb};
 ghost use Rattle.spec_rules.specs.Checks.{since};
 ghost use Rattle.chan_view.specs.Form.Bounds.{bound_if, three};
 
 use settings::PacketAt;
-
-// The later of two.
-pub fn later(a: u64, b: u64) -> u64
-    ensures { result ≡ max a b }
-{
-    if a < b { b } else { a }
-}
 
 // The instant a distance after an earlier one; no earlier one asks nothing.
 pub fn since_wide(last: PacketAt, gap: u64) -> u64
@@ -20,25 +13,25 @@ pub fn since_wide(last: PacketAt, gap: u64) -> u64
     if last.0 == 0 {
         return 0;
     }
-    num::wide32(last.0) + gap
+    u64::from(last.0) + gap
 }
 
 pub fn after_gap(last: PacketAt, gap: u32) -> u64
     ensures { result ≡ since last.0 gap }
 {
-    since_wide(last, num::wide32(gap))
+    since_wide(last, u64::from(gap))
 }
 
 // The latest that three earlier instants ask: what the latest of them asks.
 pub fn after_three(a: PacketAt, b: PacketAt, c: PacketAt, gap: u32) -> u64
     ensures { result ≡ three a.0 b.0 c.0 gap }
 {
-    let two = later(num::wide32(a.0), num::wide32(b.0));
-    let last = later(two, num::wide32(c.0));
+    let two = u64::from(a.0).max(u64::from(b.0));
+    let last = two.max(u64::from(c.0));
     if last == 0 {
         return 0;
     }
-    last + num::wide32(gap)
+    last + u64::from(gap)
 }
 
 // Whether an instant keeps a bound, where the bound applies.
@@ -46,15 +39,8 @@ pub fn keeps(applies: bool, bound: u64, at: PacketAt) -> bool
     ensures { result ≡ leb (bound_if applies bound) at.0 }
 {
     if applies {
-        bound <= num::wide32(at.0)
+        bound <= u64::from(at.0)
     } else {
         true
     }
-}
-
-// The difference, or 0 where it would be negative.
-pub fn minus(a: u64, b: u64) -> u64
-    ensures { result ≡ a - b }
-{
-    if a < b { 0 } else { a - b }
 }

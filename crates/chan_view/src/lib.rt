@@ -40,7 +40,8 @@ pub enum Seen {
 
 // The write buffer in numbers: whether a write waits, whether two do, whether the data of the newest are due; the older write's
 // bank, the instant of its WR and whether it is a WRA; the newer write's bank where two wait and whether it is a WRA; the instant
-// of the newest WR. Number 32 stands for no bank.
+// of the newest WR. Number 32 stands for no bank. Flags and 32, not Options: the tests combine them without a branch, and the tracks
+// are read at every such number alike.
 #[derive(Clone, Copy)]
 pub struct Held {
     pub waits: bool,

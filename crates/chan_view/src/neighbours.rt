@@ -61,8 +61,8 @@ fn in_run(core: u32, b: u32, x: u32) -> bool
 pub fn is_near(s: Settings, b: u32, x: u32) -> bool
     ensures { result ≡ near (context_of s) b x }
 {
-    let above = num::wide32(b) + 1 == num::wide32(x);
-    let below = num::wide32(x) + 1 == num::wide32(b);
+    let above = u64::from(b) + 1 == u64::from(x);
+    let below = u64::from(x) + 1 == u64::from(b);
     (x == b) | ((above | below) & in_run(s.core, b, x))
 }
 

@@ -9,7 +9,7 @@ use settings::{PacketAt, Settings};
 use spec_rules::{Bank, Buffer};
 
 // A packet at an instant that is no command.
-fn plain_view(at: PacketAt) -> View
+pub fn plain_view(at: PacketAt) -> View
     ensures { result ≡ plain at }
 {
     View {
@@ -170,7 +170,7 @@ pub fn held_of(b: Buffer, due: bool) -> Held
 pub fn leaving(s: Settings, h: Held, v: View) -> bool
     ensures { result ≡ leaves s h v }
 {
-    h.waits & (v.other & (num::wide32(h.at.0) + num::wide32(s.rtr) <= num::wide32(v.at.0)))
+    h.waits & (v.other & (u64::from(h.at.0) + u64::from(s.rtr) <= u64::from(v.at.0)))
 }
 
 // Whether a packet retires a closing write.

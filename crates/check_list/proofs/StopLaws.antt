@@ -1,5 +1,6 @@
 -- What the place where the walk stops says of the records.
 -- Assumes nothing.
+use Rattle.std.specs.Prelude.{Err, Ok}
 use Prim.Native.Nat.{ℕ, ◌<◌}
 use mathlib.Core.Path.{◌≡◌, refl, sym, ◌∙◌}
 use mathlib.Core.Bool.{Bool, true, false}
@@ -12,7 +13,6 @@ use Rattle.record.specs.declared.Refusal.TheVariants.{Rule}
 use Rattle.record.specs.Record.{records_in, first_bad}
 use Rattle.spec_rules.specs.Neighbour.{Context, Neighbours}
 use Rattle.spec_rules.proofs.Bools.{not-both, and_left, and_right}
-use Rattle.spec_check.specs.declared.Judged.TheVariants.{Passed, Refused}
 use Rattle.spec_check.specs.Check.{rule_answer}
 use Rattle.check_walk.specs.Form.Walk.{place_in, records_via, formed_via, found_via, stop_at, stop_of}
 use Rattle.check_walk.proofs.ViaLaws.{length-via}
@@ -37,14 +37,14 @@ module _ (cx : Context) (per : ℕ) (b : List ℕ) (n : ℕ) where
       not-both (holds cx per b n (stop_at cx per b n)) (rw (f, eq-eqb _ 0 z)) (first-fails (holds cx per b n) n h)
 
   -- no record of n fails
-  pub stop-passed : Neighbours cx → stop_at cx per b n ≡ n → Passed ≡ rule_answer cx (records_via cx.settings per b n)
+  pub stop-passed : Neighbours cx → stop_at cx per b n ≡ n → (Ok tt) ≡ rule_answer cx (records_via cx.settings per b n)
   stop-passed ns e =
       let l = length-via cx.settings per b n in
       rule-none cx ns (records_via cx.settings per b n) (via-fits cx.settings per b n (λ i h. formed-before i (rw e h))) (λ j h. found_before j (omega arith))
 
   -- one breaks a rule, and all are records
   pub stop-refused : Neighbours cx → ((i : ℕ) → i < n → formed_via cx.settings per b i ≡ true) → (stop_at cx per b n ≡ n → ⊥)
-      → Refused (Rule (stop_of cx per b n).rule (stop_at cx per b n)) ≡ rule_answer cx (records_via cx.settings per b n)
+      → Err (Rule (stop_of cx per b n).rule (stop_at cx per b n)) ≡ rule_answer cx (records_via cx.settings per b n)
   stop-refused ns f e =
       let m = first-le (holds cx per b n) n in
       let h : stop_at cx per b n < n = omega arith in

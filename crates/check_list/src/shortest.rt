@@ -7,8 +7,9 @@ ghost use Rattle.spec_check.specs.Check.{records_of, list_answer};
 ghost use Rattle.spec_check.specs.Shortest.{start_of, shortest_answer};
 
 use crate::shortest::starts::latest_start;
+use record::Refusal;
 use settings::Settings;
-use spec_check::{Judged, Shortest};
+use spec_check::Shortest;
 
 // What is found of the run from one start: whether it breaks the rule at its last record and no rule before, and whether it is
 // refused before its last record.
@@ -19,19 +20,16 @@ pub struct Tried {
 }
 
 // Where the run of a verdict on a list starts.
-fn start_of(s: Settings, list: &[u8], judged: Judged) -> usize
+fn start_of(s: Settings, list: &[u8], judged: Result<(), Refusal>) -> usize
     requires { judged ≡ list_answer (context_of s) list.now }
     ensures { result ≡ start_of (context_of s) (records_of s list.now) judged }
 {
     match judged {
-        Judged::Passed => 0,
-        Judged::Refused(why) => {
-            let a = why.answer();
-            if a.number == 11 {
-                return latest_start(s, list, a.rule, a.place as usize);
-            }
-            0
-        }
+        Ok(()) => 0,
+        Err(why) => match why {
+            Refusal::Rule(rule, place) => latest_start(s, list, rule, place as usize),
+            _ => 0,
+        },
     }
 }
 

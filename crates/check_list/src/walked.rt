@@ -9,10 +9,9 @@ ghost use Rattle.check_walk.specs.Form.Walk.{place_in, records_via};
 use check_walk::walk;
 use record::Refusal;
 use settings::Settings;
-use spec_check::Judged;
 
 // The first broken rule of n well formed records of a log of blocks of so many records.
-pub fn judge_all(s: Settings, b: &[u8], n: usize, per: usize) -> Judged
+pub fn judge_all(s: Settings, b: &[u8], n: usize, per: usize) -> Result<(), Refusal>
     requires n_bound { (n < 2 ^ 58) × (per ≤ 15) × (1 ≤ per → 14 ≤ per) }
     requires by_index { (i : ℕ) → i < n → place_in per i + 32 ≤ length b.now }
     requires by_index_2 { (i : ℕ) → i < n → well_formed s (part b.now (place_in per i) 32) ≡ true }
@@ -21,7 +20,7 @@ pub fn judge_all(s: Settings, b: &[u8], n: usize, per: usize) -> Judged
     let stop = walk(s, b, n, per);
     let at = stop.at;
     if at == n {
-        return Judged::Passed;
+        return Ok(());
     }
-    Judged::Refused(Refusal::Rule(stop.rule, at as u64))
+    Err(Refusal::Rule(stop.rule, at as u64))
 }

@@ -1,10 +1,10 @@
 -- The PRER that a record implies: which records do, that it comes in time, and that it may be stored before the packet itself.
 -- Assumes nothing.
+use Rattle.std.specs.Prelude.{Some}
 use Prim.Native.Nat.{ℕ, ◌+◌, ◌≤◌, ◌<◌, max}
 use mathlib.Core.Path.{◌≡◌, refl, sym, ◌∙◌, ap}
 use mathlib.Core.Bool.{Bool, true, false, ◌&&◌, ◌||◌, cond, and-false}
 use mathlib.Core.List.{List}
-use mathlib.Core.Option.{some}
 use native.Mathlib.Omega.{arith}
 use borrow.Author.Tests.{leb-true}
 use lib.Dec.{eqb, leb}
@@ -106,7 +106,7 @@ module _ (s : Settings) (ch : Channel) (r : Record) (v : View) (e : seen_of r �
   retired-fits : leaves_closing s buffered v ≡ true → instant r + s.offp ≤ horizon
   unfolding context_of
   retired-fits c =
-      let i : retire_implies (leaving_of cx ch r) ≡ some buffered.bank = leaving-closes s ch.buffer ch.due r v (seen-shows r v e) ∙ rw c in
+      let i : retire_implies (leaving_of cx ch r) ≡ Some buffered.bank = leaving-closes s ch.buffer ch.due r v (seen-shows r v e) ∙ rw c in
       let d : implied_delay cx (leaving_of cx ch r) ≡ s.offp = rw i in
       let n : instant r + implied_delay cx (leaving_of cx ch r) ≤ horizon = leb-true _ _ (and_right (leb (instant r + longest_delay cx r) horizon) _ both-fit) in
       omega arith

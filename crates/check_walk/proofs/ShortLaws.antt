@@ -1,5 +1,6 @@
 -- Records that are known by their numbers, and the turn of the walk that they take.
 -- Assumes nothing.
+use Rattle.std.specs.Prelude.{Some}
 use Prim.Native.Nat.{ℕ, ◌+◌, ◌*◌, ◌/◌, ◌%◌, ◌^◌, ◌<◌, ◌≤◌, max}
 use mathlib.Core.Path.{◌≡◌, refl, sym, ◌∙◌, ap, ap₂}
 use mathlib.Core.Bool.{Bool, true, false, not, ◌&&◌, ◌||◌, cond}
@@ -15,11 +16,9 @@ use Rattle.settings.specs.declared.PacketAt.{PacketAt}
 use Rattle.settings.specs.Instants.{horizon}
 use Rattle.packet.specs.declared.ColPacket.{ColPacket}
 use Rattle.packet.specs.declared.ColPacket.TheVariants.{Rd}
-use Rattle.packet.specs.declared.ColDecoded.TheVariants.{Col}
 use Rattle.packet.specs.Col.{mask_said, mask_of, col_of, col_decoded}
 use Rattle.record.specs.declared.Record.{Record}
 use Rattle.record.specs.declared.Record.TheVariants.{ColAt, DataOf}
-use Rattle.record.specs.declared.RecordRead.TheVariants.{Known}
 use Rattle.record.specs.Record.{record_read, record_of, col_record}
 use Rattle.record.proofs.RecordLaws.{field_in, head_in}
 use Rattle.spec_rules.specs.declared.BankTrack.{BankTrack}
@@ -78,14 +77,14 @@ read-fields device w bank column d b c e =
 abbrev pub read_word : ℕ → ℕ → ℕ
 read_word device w = (32 + device) * 2 ^ 34 + 3 * 2 ^ 17 + device * 2 ^ 11 + bank_in w * 2 ^ 29 + column_in w * 2 ^ 21
 
-read-decoded : (device columns w : ℕ) → device < 32 → w ≡ read_word device w → column_in w < columns → col_decoded device columns w ≡ Col (read_packet w)
+read-decoded : (device columns w : ℕ) → device < 32 → w ≡ read_word device w → column_in w < columns → col_decoded device columns w ≡ Some (read_packet w)
 unfolding col_decoded col_of mask_said mask_of
 read-decoded device columns w d e l =
     let f = read-fields device w (bank_in w) (column_in w) d (omega arith) (omega arith) e in
     rw (eq-eqb _ _ f.head-is, f.gap_is, f.cop-is, f.m-is, eq-eqb _ _ f.low-is, lt-ltb _ _ l)
 
 -- as the code says it
-pub read-says : (s : Settings) (w d c : ℕ) → s.device < 32 → d ≡ s.device → c ≡ s.columns → (eqb w (read_word d w) && ltb (column_in w) c) ≡ true → col_decoded s.device s.columns w ≡ Col (read_packet w)
+pub read-says : (s : Settings) (w d c : ℕ) → s.device < 32 → d ≡ s.device → c ≡ s.columns → (eqb w (read_word d w) && ltb (column_in w) c) ≡ true → col_decoded s.device s.columns w ≡ Some (read_packet w)
 read-says s w d c l dq cq p =
     let e : w ≡ read_word d w = eqb-true w (read_word d w) (and_left (eqb w (read_word d w)) _ p) in
     let m : column_in w < c = ltb-true (column_in w) c (and_right (eqb w (read_word d w)) _ p) in
@@ -94,8 +93,8 @@ read-says s w d c l dq cq p =
 -- ---- the records
 
 module _ (s : Settings) (b : List ℕ) (i : ℕ) (h : i + 32 ≤ length b) (w : get_or b (i + 4) 0 < 256) where
-  read_known : number (part b (i + 4) 4) ≡ 1 → (p : ColPacket) → col_decoded s.device s.columns (number (part b (i + 8) 8)) ≡ Col p → empty_at b i ≡ true
-      → record_read s (part b i 32) ≡ Known (ColAt (record { 0 = number (part b i 4) }) p)
+  read_known : number (part b (i + 4) 4) ≡ 1 → (p : ColPacket) → col_decoded s.device s.columns (number (part b (i + 8) 8)) ≡ Some p → empty_at b i ≡ true
+      → record_read s (part b i 32) ≡ Some (ColAt (record { 0 = number (part b i 4) }) p)
   unfolding record_read record_of col_record
   read_known k p d e =
       let f = head_in b i 1 h w (sym k) in
@@ -114,7 +113,7 @@ module _ (s : Settings) (b : List ℕ) (i : ℕ) (h : i + 32 ≤ length b) (w : 
         d,
       )
 
-  data-known : number (part b (i + 4) 4) ≡ 2 → number (part b (i + 8) 8) ≡ 0 → record_read s (part b i 32) ≡ Known (data_record b i)
+  data-known : number (part b (i + 4) 4) ≡ 2 → number (part b (i + 8) 8) ≡ 0 → record_read s (part b i 32) ≡ Some (data_record b i)
   unfolding record_read record_of
   data-known k z =
       let f = head_in b i 2 h w (sym k) in
@@ -131,10 +130,10 @@ module _ (s : Settings) (b : List ℕ) (i : ℕ) (h : i + 32 ≤ length b) (w : 
         z,
       )
 
-  pub read_found : (f : Fields) → f ≡ fields_at b i → f.head ≡ 1 → col_decoded s.device s.columns f.word ≡ Col (read_packet f.word) → empty_at b i ≡ true → record_read s (part b i 32) ≡ Known (read_record f)
+  pub read_found : (f : Fields) → f ≡ fields_at b i → f.head ≡ 1 → col_decoded s.device s.columns f.word ≡ Some (read_packet f.word) → empty_at b i ≡ true → record_read s (part b i 32) ≡ Some (read_record f)
   read_found f q k d e = rw q (read_known (rw q at k) _ (rw q at d) e)
 
-  pub data-found : (x y : ℕ) → x ≡ number (part b (i + 4) 4) → y ≡ number (part b (i + 8) 8) → (eqb x 2 && eqb y 0) ≡ true → record_read s (part b i 32) ≡ Known (data_record b i)
+  pub data-found : (x y : ℕ) → x ≡ number (part b (i + 4) 4) → y ≡ number (part b (i + 8) 8) → (eqb x 2 && eqb y 0) ≡ true → record_read s (part b i 32) ≡ Some (data_record b i)
   data-found x y p q e = data-known (sym p ∙ eqb-true x 2 (and_left (eqb x 2) _ e)) (sym q ∙ eqb-true y 0 (and_right (eqb x 2) _ e))
 
 -- ---- the tests
@@ -223,7 +222,7 @@ module _ (s : Settings) (per : ℕ) (b : List ℕ) (n i : ℕ) (lt : i < n) (ban
     abbrev tracks_at : ℕ → Tracks
     tracks_at x = tracks_with (get_or banks x idle) (get_or banks (first_near s x) idle) (get_or banks (last_near s x) idle) (get_or banks (slot_of held.bank) idle) (get_or banks (slot_of held.next) idle)
 
-    turn-of : (r : Record) (e : record_read s (part b (place_in per i) 32) ≡ Known r) (x : ℕ) → x ≡ slot_of (view_in (seen_of r)).bank → TurnOf r x
+    turn-of : (r : Record) (e : record_read s (part b (place_in per i) 32) ≡ Some r) (x : ℕ) → x ≡ slot_of (view_in (seen_of r)).bank → TurnOf r x
     turn-of r e x o =
         record {
           size = q.size;
@@ -239,7 +238,7 @@ module _ (s : Settings) (per : ℕ) (b : List ℕ) (n i : ℕ) (lt : i < n) (ban
           second = refl;
         }
 
-    pub read-turn : (f : Fields) → record_read s (part b (place_in per i) 32) ≡ Known (read_record f) → (x : ℕ) → x ≡ bank_in f.word
+    pub read-turn : (f : Fields) → record_read s (part b (place_in per i) 32) ≡ Some (read_record f) → (x : ℕ) → x ≡ bank_in f.word
         → reads_beside buffer latest.due && reads_now s f.at l (get_or banks x idle) ≡ true → After (set banks x (with_rd f.at.0 (get_or banks x idle))) (read_lasts f.at l)
     unfolding view_in seen_of col_view lasts_next col_traits
     read-turn f e x o p =
@@ -261,7 +260,7 @@ module _ (s : Settings) (per : ℕ) (b : List ℕ) (n i : ℕ) (lt : i < n) (ban
           held-here = holds-here s per b n i lt r e before q.state-is zero;
         }
 
-    pub data-turn : record_read s (part b (place_in per i) 32) ≡ Known (data_record b (place_in per i)) → eqb (data_rule s held (record { 0 = number (part b (place_in per i) 4) })) 0 ≡ true → After banks l
+    pub data-turn : record_read s (part b (place_in per i) 32) ≡ Some (data_record b (place_in per i)) → eqb (data_rule s held (record { 0 = number (part b (place_in per i) 4) })) 0 ≡ true → After banks l
     unfolding view_in seen_of record_well lasts_next
     data-turn e p =
         let r : Record = data_record b (place_in per i) in

@@ -1,5 +1,6 @@
 -- One turn of the walk: what the record that is read, the quick test and the stores say.
 -- Assumes nothing.
+use Rattle.std.specs.Prelude.{None, Some}
 use Prim.Native.Nat.{ℕ, ◌+◌, ◌<◌, max}
 use mathlib.Core.Path.{◌≡◌, refl, sym, ◌∙◌, ap, ap₂}
 use mathlib.Core.Bool.{Bool, true, false, ◌||◌, cond, and-false}
@@ -14,7 +15,6 @@ use Rattle.packet.specs.declared.RowPacket.TheVariants.{Act, Prer, Refa, Refp}
 use Rattle.packet.specs.declared.ColPacket.TheVariants.{Nocop, Wr, Rd}
 use Rattle.record.specs.declared.Record.{Record}
 use Rattle.record.specs.declared.Record.TheVariants.{RowAt, ColAt, DataOf}
-use Rattle.record.specs.declared.RecordRead.TheVariants.{NoRecord, Known}
 use Rattle.record.specs.Record.{record_read, well_formed, is_known}
 use Rattle.record.proofs.RoundTrip.{record-read-fits}
 use Rattle.spec_rules.specs.declared.BankTrack.{BankTrack}
@@ -50,7 +50,7 @@ use Rattle.check_walk.proofs.ImpliedLaws.{plain-implies, data-implies, same-stor
 
 -- ---- the record that is read
 
-module _ (s : Settings) (per : ℕ) (b : List ℕ) (n i : ℕ) (h : i < n) (r : Record) (e : record_read s (part b (place_in per i) 32) ≡ Known r) where
+module _ (s : Settings) (per : ℕ) (b : List ℕ) (n i : ℕ) (h : i < n) (r : Record) (e : record_read s (part b (place_in per i) 32) ≡ Some r) where
   abbrev records : List Record
   records = records_via (context_of s).settings per b n
 
@@ -75,7 +75,7 @@ module _ (s : Settings) (per : ℕ) (b : List ℕ) (n i : ℕ) (h : i < n) (r : 
     pub holds-here : judged (context_of s) ch r ≡ 0 → holds (context_of s) per b n i ≡ true
     holds-here z = rw (formed-here, found_here, eq-eqb (judged (context_of s) ch r) 0 z)
 
-pub unformed : (s : Settings) (per : ℕ) (b : List ℕ) (i : ℕ) → record_read s (part b (place_in per i) 32) ≡ NoRecord → formed_via (context_of s).settings per b i ≡ false
+pub unformed : (s : Settings) (per : ℕ) (b : List ℕ) (i : ℕ) → record_read s (part b (place_in per i) 32) ≡ None → formed_via (context_of s).settings per b i ≡ false
 unfolding well_formed is_known context_of
 unformed s per b i e = ap is_known e
 

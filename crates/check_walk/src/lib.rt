@@ -9,23 +9,21 @@ ghost use Rattle.spec_rules.specs.Neighbour.{context_of};
 ghost use Rattle.check_walk.specs.Form.Walk.{place_in, stop_of};
 
 use crate::short::{bank_in, data_now, fields_at, is_data, is_read, read_lasts, reads_now};
-use crate::turn::{
-    banks_implied, buffer_next, channel_of, larger, lasts_implied, next_slot, no_lasts,
-    opened_track, pick, tracks_of, view_of,
-};
+use crate::turn::{banks_implied, buffer_next, lasts_implied, next_slot, opened_track, view_of};
 use chan_judge::judge;
 use chan_least::quick::passes;
-use chan_step::lasts_after;
 use chan_step::tracks::{closed_track, side_track};
+use chan_step::{lasts_after, no_lasts};
+use chan_view::Tracks;
 use chan_view::banks::{slot_of, unused};
 use chan_view::neighbours::{first_near, last_near};
 use chan_view::views::{held_of, leaving};
-use record::RecordRead;
 use record_bytes::read_record;
 use settings::{PacketAt, Settings};
-use spec_rules::Buffer;
+use spec_rules::{Buffer, Channel};
 
-// Where a walk over records stopped: its end with rule 0, a record that is none with rule 0, or one that breaks this rule.
+// Where a walk over records stopped: its end with rule 0, a record that is none with rule 0, or one that breaks this rule. Numbers, not
+// an enum: callers compare `at` with the end of their own run, and a list that breaks a rule is judged for its form again.
 #[derive(Clone, Copy)]
 pub struct Stop {
     pub at: usize,
@@ -95,7 +93,7 @@ pub fn walk(s: Settings, b: &[u8], n: usize, per: usize) -> Stop
                 continue;
             }
         }
-        let RecordRead::Known(r) = read_record(s, b, at) else {
+        let Some(r) = read_record(s, b, at) else {
             return Stop { at: i, rule: 0 };
         };
         let v = view_of(r);
@@ -104,9 +102,21 @@ pub fn walk(s: Settings, b: &[u8], n: usize, per: usize) -> Stop
         let y = first_near(s, x);
         let z = last_near(s, x);
         let w = slot_of(h.bank);
-        let k = tracks_of(banks[x], banks[y], banks[z], banks[w], banks[next_slot(h)]);
+        let k = Tracks {
+            own: banks[x],
+            low: banks[y],
+            high: banks[z],
+            held: banks[w],
+            next: banks[next_slot(h)],
+        };
         if !passes(s, r, h, k, l, PacketAt(latest.opened)) {
-            let rule = judge(s, channel_of(banks, l, buffer, latest.due), r);
+            let ch = Channel {
+                banks: banks,
+                lasts: l,
+                buffer: buffer,
+                due: latest.due,
+            };
+            let rule = judge(s, ch, r);
             if rule != 0 {
                 return Stop { at: i, rule: rule };
             }
@@ -115,7 +125,7 @@ pub fn walk(s: Settings, b: &[u8], n: usize, per: usize) -> Stop
         }
         if v.opens {
             banks[x] = opened_track(v, banks[x]);
-            latest.opened = larger(latest.opened, v.at.0);
+            latest.opened = latest.opened.max(v.at.0);
         } else if v.precharges {
             banks[x] = closed_track(v.at, banks[x]);
             banks[y] = side_track(v.at, banks[y]);
@@ -123,7 +133,9 @@ pub fn walk(s: Settings, b: &[u8], n: usize, per: usize) -> Stop
         } else if v.reads {
             banks[x].rd.0 = v.at.0;
         } else if v.other {
-            banks[w].retire.0 = pick(leaving(s, h, v), v.at.0, banks[w].retire.0);
+            let kept = banks[w].retire.0;
+            let retire = if leaving(s, h, v) { v.at.0 } else { kept };
+            banks[w].retire.0 = retire;
             buffer = buffer_next(s, r, v, h, buffer);
         }
         l = lasts_after(r, l);

@@ -1,9 +1,7 @@
 // Records that the walk knows by their numbers, without a Record between: an RD that has no mask and closes no bank, and data.
 ghost use Rattle.std.specs.Prelude.{◌≡◌, true, ◌&&◌, ◌+◌, ◌<◌, ◌≤◌, eqb, leb, length};
 ghost use Rattle.num.specs.Bytes.{part};
-ghost use Rattle.packet.specs.declared.ColDecoded.{ColDecoded};
 ghost use Rattle.packet.specs.Col.{col_decoded};
-ghost use Rattle.record.specs.declared.RecordRead.{RecordRead};
 ghost use Rattle.record.specs.Record.{record_read};
 ghost use Rattle.chan_view.specs.Form.View.{held_of};
 ghost use Rattle.chan_judge.specs.Form.Tests.{data_rule};
@@ -46,22 +44,22 @@ pub(crate) fn bank_in(word: u64) -> usize
 
 // Whether a word is that of an RD with M = 0: it is made anew from its bank and column and compared.
 fn read_word(s: Settings, word: u64) -> bool
-    ensures { result ≡ true → col_decoded s.device s.columns word ≡ ColDecoded.Col (read_packet word) }
+    ensures { result ≡ true → col_decoded s.device s.columns word ≡ Some (read_packet word) }
 {
     if s.device >= 32 {
         return false;
     }
-    let device = num::wide32(s.device);
+    let device = u64::from(s.device);
     let bank = word / 0x2000_0000 % 32;
     let column = word / 0x20_0000 % 128;
     let head = (32 + device) * 0x4_0000_0000 + 3 * 0x2_0000 + device * 2048;
-    (word == head + bank * 0x2000_0000 + column * 0x20_0000) & (column < num::wide32(s.columns))
+    (word == head + bank * 0x2000_0000 + column * 0x20_0000) & (column < u64::from(s.columns))
 }
 
 // Whether the record at a place, of these numbers, is an RD with M = 0.
 pub(crate) fn is_read(s: Settings, b: &[u8], at: usize, f: Fields) -> bool
     requires { (at + 32 ≤ length b.now) × (f ≡ fields_at b.now at) }
-    ensures { result ≡ true → record_read s (part b.now at 32) ≡ RecordRead.Known (read_record f) }
+    ensures { result ≡ true → record_read s (part b.now at 32) ≡ Some (read_record f) }
 {
     if f.head != 1 {
         return false;
@@ -75,7 +73,7 @@ pub(crate) fn is_read(s: Settings, b: &[u8], at: usize, f: Fields) -> bool
 // Whether the record at a place is data.
 pub(crate) fn is_data(s: Settings, b: &[u8], at: usize) -> bool
     requires { at + 32 ≤ length b.now }
-    ensures { result ≡ true → record_read s (part b.now at 32) ≡ RecordRead.Known (data_record b.now at) }
+    ensures { result ≡ true → record_read s (part b.now at 32) ≡ Some (data_record b.now at) }
 {
     let head = num::u32_at(b, at + 4);
     let word = num::u64_at(b, at + 8);
@@ -86,7 +84,7 @@ pub(crate) fn is_data(s: Settings, b: &[u8], at: usize) -> bool
 fn is_after(last: PacketAt, gap: u32, at: PacketAt) -> bool
     ensures { result ≡ leb (last.0 + gap) at.0 }
 {
-    num::wide32(last.0) + num::wide32(gap) <= num::wide32(at.0)
+    u64::from(last.0) + u64::from(gap) <= u64::from(at.0)
 }
 
 // Whether an RD may come beside the waiting writes.
@@ -112,7 +110,7 @@ pub(crate) fn reads_now(
 ) -> bool
     ensures { result ≡ (reads_beside b due && reads_now s at l own) }
 {
-    let ranged = (4 <= at.0) & (num::wide32(at.0) + num::wide32(s.cac) <= HORIZON_WIDE);
+    let ranged = (4 <= at.0) & (u64::from(at.0) + u64::from(s.cac) <= HORIZON_WIDE);
     let order = (l.packet.0 <= at.0) & is_after(l.col, s.cc, at);
     let row = is_open(own) & is_after(own.act, s.rcd, at);
     reads_beside(b, due) & (ranged & (order & row))

@@ -1,19 +1,19 @@
 // What one record is to the walk, and what it makes of the state.
-ghost use Rattle.std.specs.Prelude.{◌≡◌, true, false, cond, ◌+◌, ◌<◌, ◌^◌, max};
+ghost use Rattle.std.specs.Prelude.{◌≡◌, true, false, ◌+◌, ◌<◌, ◌^◌};
 ghost use Rattle.chan_view.specs.Form.Beside.{slot_of};
 ghost use Rattle.chan_view.specs.Form.View.{seen_of, held_of, leaves, implies_by};
 ghost use Rattle.chan_step.specs.Form.Lasts.{buffer_next};
-ghost use Rattle.check_walk.specs.Form.Turn.{view_in, tracks_with, no_lasts, channel_of, opened_track, closed_near, implied_stores, lasts_implied};
+ghost use Rattle.check_walk.specs.Form.Turn.{view_in, opened_track, closed_near, implied_stores, lasts_implied};
 
 use chan_step::tracks::{closed_track, side_track};
 use chan_step::{buffer_after, implied_at, implied_lasts};
 use chan_view::banks::slot_of;
 use chan_view::neighbours::{first_near, last_near};
-use chan_view::views::{centre, held_of, implies, leaving, seen_of};
-use chan_view::{Held, Seen, Tracks, View};
+use chan_view::views::{centre, held_of, implies, leaving, plain_view, seen_of};
+use chan_view::{Held, Seen, View};
 use record::Record;
 use settings::{PacketAt, Settings};
-use spec_rules::{Bank, BankTrack, Buffer, Channel, LastInstants};
+use spec_rules::{BankTrack, Buffer, LastInstants};
 
 // A record as flags: data name no bank and change none.
 pub(crate) fn view_of(r: Record) -> View
@@ -22,22 +22,7 @@ pub(crate) fn view_of(r: Record) -> View
     let seen = seen_of(r);
     match seen {
         Seen::Packet(v) => v,
-        Seen::Data(_) => View {
-            at: PacketAt(0),
-            bank: 0,
-            column: 0,
-            state: Bank::Closed,
-            opens: false,
-            acts: false,
-            precharges: false,
-            reads: false,
-            writes: false,
-            row: false,
-            col: false,
-            other: false,
-            masked: false,
-            close: false,
-        },
+        Seen::Data(_) => plain_view(PacketAt(0)),
     }
 }
 
@@ -49,71 +34,6 @@ pub(crate) fn next_slot(h: Held) -> usize
     slot_of(h.next)
 }
 
-// The tracks of five banks.
-pub(crate) fn tracks_of(
-    own: BankTrack,
-    low: BankTrack,
-    high: BankTrack,
-    held: BankTrack,
-    next: BankTrack,
-) -> Tracks
-    ensures { result ≡ tracks_with own low high held next }
-{
-    Tracks {
-        own: own,
-        low: low,
-        high: high,
-        held: held,
-        next: next,
-    }
-}
-
-// Before every record.
-pub(crate) fn no_lasts() -> LastInstants
-    ensures { result ≡ no_lasts }
-{
-    let never = PacketAt(0);
-    LastInstants {
-        packet: never,
-        row: never,
-        col: never,
-        pre: never,
-        rd: never,
-        implied: never,
-    }
-}
-
-// The state of the channel from its parts.
-pub(crate) fn channel_of(
-    banks: [BankTrack; 32],
-    l: LastInstants,
-    buffer: Buffer,
-    due: bool,
-) -> Channel
-    ensures { result ≡ channel_of banks l buffer due }
-{
-    Channel {
-        banks: banks,
-        lasts: l,
-        buffer: buffer,
-        due: due,
-    }
-}
-
-// One of two numbers.
-pub(crate) fn pick(first: bool, a: u32, b: u32) -> u32
-    ensures { result ≡ cond first a b }
-{
-    if first { a } else { b }
-}
-
-// The larger of two numbers.
-pub(crate) fn larger(a: u32, b: u32) -> u32
-    ensures { result ≡ max a b }
-{
-    if a < b { b } else { a }
-}
-
 // A bank after an ACT or REFA.
 pub(crate) fn opened_track(v: View, k: BankTrack) -> BankTrack
     ensures { result ≡ opened_track v k }
@@ -123,7 +43,7 @@ pub(crate) fn opened_track(v: View, k: BankTrack) -> BankTrack
     BankTrack {
         bank: state,
         opened: at,
-        act: PacketAt(pick(v.acts, v.at.0, k.act.0)),
+        act: PacketAt(if v.acts { v.at.0 } else { k.act.0 }),
         ..k
     }
 }

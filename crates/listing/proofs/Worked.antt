@@ -2,6 +2,7 @@
 -- `put_listing` is proved to put, those of closing requests (document 02 f), what the checker answers to an RD that comes too early,
 -- and two words.
 -- Assumes nothing.
+use Rattle.std.specs.Prelude.{Err, Ok, Result}
 use Prim.Native.Nat.{ℕ}
 use Prim.Native.String.{String}
 use mathlib.Core.Path.{◌≡◌, refl}
@@ -30,13 +31,12 @@ use Rattle.spec_plan.specs.Planner.{fresh_planner}
 use Rattle.spec_plan.specs.Plan.{slot, sent, flushed, flushed_while, closed, closed_up_to, reached, planned_read, loaded, written, planned_write, turned, planned_refresh, planned_wait, planned_flush, planned_close, steps_of, planned}
 use Rattle.spec_plan.specs.Call.{in_time, timely, outcome_of, unretired, outcome_by, plan_outcome, is_made, draft_by, plan_next, plan_records}
 use Rattle.spec_plan.specs.Runs.{planner_after, listed}
-use Rattle.spec_check.specs.declared.Judged.{Judged}
-use Rattle.spec_check.specs.declared.Judged.TheVariants.{Passed, Refused}
 use Rattle.spec_check.specs.Check.{known, records_up_to, records_of, rule_answer, records_answer, list_answer}
 use Rattle.listing_text.specs.Text.{codes, digit, decimal_in, hex_four, dash, mask_text, line, row_line, col_line, record_line, write_bank_after, write_column_after, record_lines, refused_line, records_line}
 use Rattle.settings.specs.Bench.{set_of, set_h}
 use Rattle.listing.specs.Entries.{outcome_text, request_text, calls_up_to, text_up_to}
 use Rattle.listing.specs.Listing.{length_right, listing}
+use Rattle.record.specs.declared.Refusal.{Refusal}
 
 -- ---- requests of 24 bytes
 
@@ -77,9 +77,9 @@ lines (s ∷ l) = codes s ++ (10 ∷ lines l)
 -- ---- the runs
 
 -- number, rule and place of a refusal
-numbers : Judged → List ℕ
-numbers Passed = []
-numbers (Refused why) = (answer_of why).number ∷ (answer_of why).rule ∷ (answer_of why).place ∷ []
+numbers : Result (Unit {0}) Refusal → List ℕ
+numbers (Ok tt) = []
+numbers (Err why) = (answer_of why).number ∷ (answer_of why).rule ∷ (answer_of why).place ∷ []
 
 -- ACT 0/0 at 4 and RD 0/1 at 12, as records
 early : List ℕ

@@ -1,18 +1,17 @@
 -- What each request of an input prints (document 01, "Bench runs").
 -- Assumes nothing.
-use Rattle.std.specs.Prelude.{ℕ, zero, suc, ◌*◌, List, [], ◌∷◌, ◌++◌}
+use Rattle.std.specs.Prelude.{ℕ, zero, suc, ◌*◌, List, [], ◌∷◌, ◌++◌, Err, Ok, Result}
 use Rattle.num.specs.Bytes.{part}
 use Rattle.settings.specs.Bench.{set_h}
 use Rattle.record.specs.declared.Record.{Record}
 use Rattle.record.specs.Refusal.{answer_of}
 use Rattle.spec_rules.specs.Neighbour.{context_of}
 use Rattle.spec_plan.specs.declared.PlannerState.{PlannerState}
-use Rattle.spec_plan.specs.declared.Outcome.{Outcome}
-use Rattle.spec_plan.specs.declared.Outcome.TheVariants.{Refused, Made}
 use Rattle.spec_plan.specs.Planner.{fresh_planner}
 use Rattle.spec_plan.specs.Call.{plan_outcome, plan_records}
 use Rattle.spec_plan.specs.Runs.{Call, planner_after, listed}
 use Rattle.listing_text.specs.Text.{most_records, request_room, write_bank_after, write_column_after, record_lines, refused_line}
+use Rattle.record.specs.declared.Refusal.{Refusal}
 
 -- room for the records of any request (`spec_plan/proofs/Bound.antt`: `most`)
 abbrev pub room_bytes : ℕ
@@ -21,9 +20,9 @@ room_bytes = 32 * most_records
 -- ---- one request
 
 -- what an answer prints with the records that the call has made, after others
-unfoldable pub outcome_text : List Record → Outcome → List Record → List ℕ
-outcome_text before (Refused why) l = refused_line (answer_of why).number
-outcome_text before (Made n) l = record_lines (write_bank_after 0 before) (write_column_after 0 before) l
+unfoldable pub outcome_text : List Record → Result ℕ Refusal → List Record → List ℕ
+outcome_text before (Err why) l = refused_line (answer_of why).number
+outcome_text before (Ok n) l = record_lines (write_bank_after 0 before) (write_column_after 0 before) l
 
 -- what a request prints, of a planner and the records before it
 unfoldable pub request_text : List Record → PlannerState → List ℕ → List ℕ

@@ -34,6 +34,7 @@ fn put_each(input: &[u8], planner: &mut [u8], room: &mut [u8; RECORDS], out: &mu
     let mut records = 0;
     let mut end = 0;
     let mut i = 0;
+    // A turn goes past every request that its call planned, and past the one that it refused: no `for` counts so.
     while i < n {
         let planned = plan_all_under(set_h(), planner, &input[24 * i..], room);
         let lines = put_lines(out, end, room, planned.records as usize, latest);

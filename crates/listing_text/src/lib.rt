@@ -1,4 +1,5 @@
 // Numbers, words and lines as text. A function that puts text takes the place where it starts and answers where it ends.
+// Text is put by hand and not by `write!`, since the contracts say every byte of the lent buffer.
 #![tactic(auto)]
 
 pub mod lines;
@@ -70,7 +71,7 @@ fn put_number(out: &mut [u8], at: usize, n: u32) -> usize
     requires { at + 11 ≤ length out.old }
     ensures { Put out.old at (decimal n ++ (space ∷ [])) out.new result × (result ≤ at + 11) }
 {
-    let end = put_decimal(out, at, num::wide32(n));
+    let end = put_decimal(out, at, u64::from(n));
     out[end] = b' ';
     end + 1
 }
@@ -111,7 +112,7 @@ pub fn put_refused(out: &mut [u8], at: usize, number: u32) -> usize
     requires { at + line_room ≤ length out.old }
     ensures { Put out.old at (refused_line number) out.new result × (result ≤ at + line_room) }
 {
-    put_count(out, at, b"refused ", num::wide32(number))
+    put_count(out, at, b"refused ", u64::from(number))
 }
 
 // Puts the last line.

@@ -8,7 +8,7 @@ ghost use Rattle.settings.specs.Bench.{set_h};
 
 use crate::put_line;
 use packet::{ColPacket, FULL, RowPacket};
-use record::{Dualoct, Record, RecordRead};
+use record::{Dualoct, Record};
 use settings::{DataAt, Settings};
 
 // Set H of the bench.
@@ -124,8 +124,8 @@ fn record_at(s: Settings, b: &[u8], at: usize) -> Record
     ensures { result ≡ known (record_read s (part b.now at 32)) }
 {
     match record_bytes::read_record(s, b, at) {
-        RecordRead::NoRecord => Record::DataOf(DataAt(0), Dualoct { dqa: 0, dqb: 0 }),
-        RecordRead::Known(r) => r,
+        None => Record::DataOf(DataAt(0), Dualoct { dqa: 0, dqb: 0 }),
+        Some(r) => r,
     }
 }
 
@@ -145,12 +145,10 @@ pub fn put_lines(out: &mut [u8], at: usize, room: &[u8], n: usize, before: Lates
     let s = set_h();
     let mut latest = before;
     let mut end = at;
-    let mut i = 0;
-    while i < n {
+    for i in 0..n {
         let r = record_at(s, room, 32 * i);
         end = put_record_line(out, end, r, latest.bank, latest.column);
         latest = latest_after(r, latest);
-        i += 1;
     }
     Lines { end, latest }
 }

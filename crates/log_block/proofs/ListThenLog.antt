@@ -44,6 +44,15 @@ length_before per few log (suc n) right h =
     let r = length_part b 0 (32 * used b) (omega arith) in
     simp (length-append, i, r) (omega arith)
 
+-- a form of which a log has a right block has a record
+pub some-records : (per : ℕ) → per ≤ 15 → (log : List ℕ) → first_bad_block per log ≡ blocks_in log → (k : ℕ) → k < blocks_in log → Records per
+unfolding first_bad_block
+some-records per few log good k h =
+    let r = right_of per k (eqb (k + 1) (blocks_in log)) (block_at log k) (first-before (right_at per log) (blocks_in log) k (omega arith)) in
+    let u = r.used-some in
+    let m = r.used-most in
+    (omega arith, few)
+
 module _ (per : ℕ) (form : Records per) (log : List ℕ) (good : first_bad_block per log ≡ blocks_in log) where
   -- ---- each block
 
@@ -175,6 +184,14 @@ module _ (per : ℕ) (form : Records per) (log : List ℕ) (good : first_bad_blo
         ap (log_up_to per stamp (list_of log)) list-blocks
         ∙ log_up_to-list (blocks_in log) (omega arith)
         ∙ take_all (512 * blocks_in log) log (omega arith)
+
+-- a log of right blocks keeps whole records; one without a block keeps none
+pub whole-records : (per : ℕ) → per ≤ 15 → (log : List ℕ) → first_bad_block per log ≡ blocks_in log → length (list_of log) % 32 ≡ 0
+whole-records per few log good = go (blocks_in log) refl
+  where
+    go : (m : ℕ) → blocks_in log ≡ m → length (list_of log) % 32 ≡ 0
+    go zero e = rw (list-none log e)
+    go (suc m) e = list-whole per (some-records per few log good m (omega arith)) log good
 
 -- a block of 15 records has no stamp
 pub no-stamp : (b : List ℕ) → stamp_of 15 b ≡ []

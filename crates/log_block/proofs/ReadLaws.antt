@@ -2,7 +2,7 @@
 -- Assumes nothing.
 use Rattle.std.proofs.Common.{◌≡◌, ℕ, zero, suc, ◌+◌, ◌-◌, ◌*◌, ◌<◌, ◌≤◌, List, length, drop, sym, add-zero, add-suc, arith, length-append, take-take}
 use Rattle.num.specs.Bytes.{part, splice}
-use Rattle.num.proofs.SpliceLaws.{length-splice, splice-next}
+use Rattle.num.proofs.SpliceLaws.{splice-next}
 use Rattle.log_block.specs.Block.{used, blocks_in, block_at, list_up_to, list_of}
 use Rattle.log_block.proofs.BlockLaws.{list-next}
 use Rattle.log_block.proofs.ListThenLog.{records_at}
@@ -30,7 +30,3 @@ pub list-turn : (log l : List ℕ) (n : ℕ) → length (list_of log) ≤ length
 list-turn log l n m k h e =
     let w = list-within log k (omega arith) in
     rw (list-next log k) (splice-next l (list_up_to log k) (records_at log k) n e (omega arith))
-
--- the bytes keep their number
-pub list_held : (log l : List ℕ) → length (list_of log) ≤ length l → (k : ℕ) → k ≤ blocks_in log → length (splice l 0 (list_up_to log k)) ≡ length l
-list_held log l m k h = let w = list-within log k h in length-splice l 0 (list_up_to log k) (omega arith)

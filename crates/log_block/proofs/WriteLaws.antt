@@ -3,7 +3,7 @@
 use Rattle.std.proofs.Common.{◌≡◌, ℕ, ◌+◌, ◌-◌, ◌*◌, ◌/◌, ◌%◌, ◌^◌, ◌<◌, ◌≤◌, min, Bool, true, false, leb, List, ◌++◌, length, take, drop, sym, refl, ap, ◌∙◌, append_assoc, zero-add, arith, length-append, length-drop, take-append-drop, length-take-le, take_all, drop-drop, leb-false, leb-true}
 use Rattle.num.specs.Bytes.{bytes, number, part, splice, zeros}
 use Rattle.num.proofs.ByteLaws.{length-bytes}
-use Rattle.num.proofs.SpliceLaws.{splice-next, length-splice, splice-whole, length-zeros}
+use Rattle.num.proofs.SpliceLaws.{splice-next, splice-whole, length-zeros}
 use Rattle.num.proofs.PartLaws.{part_left}
 use Rattle.log_block.specs.Block.{word_sum, block_body, check_word, block, block_count, log_up_to}
 use Rattle.log_block.proofs.CountLaws.{count-start}
@@ -81,10 +81,6 @@ module _ (per : ℕ) (stamp : List ℕ) (fits : 32 * per + length stamp ≡ 480)
   log-turn l list k h =
       rw (log-next per stamp list k)
       (splice-next l (log_up_to per stamp list k) (block stamp k (part_of per list k)) (512 * k) (length-log per stamp list k fits) h)
-
-  -- the bytes keep their number
-  pub log-held : (l list : List ℕ) (k : ℕ) → 512 * k ≤ length l → length (splice l 0 (log_up_to per stamp list k)) ≡ length l
-  log-held l list k h = length-splice l 0 (log_up_to per stamp list k) (rw (length-log per stamp list k fits) (omega arith))
 
 -- a block that is counted starts within the list
 pub starts-within : (per m k : ℕ) → 1 ≤ per → k < block_count per (m / 32) → 32 * (per * k) ≤ m

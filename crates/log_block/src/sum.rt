@@ -8,10 +8,8 @@ pub(crate) fn word_sum(b: &[u8], n: usize) -> u32
     ensures { result ≡ word_sum b.now n % 2 ^ 32 }
 {
     let mut s: u32 = 0;
-    let mut k: usize = 0;
-    while k < n {
-        s = std::num::wrapping_add_u32(s, num::u32_at(b, 4 * k));
-        k += 1;
+    for k in 0..n {
+        s = s.wrapping_add(num::u32_at(b, 4 * k));
     }
     s
 }

@@ -3,6 +3,7 @@ ghost use Rattle.std.specs.Prelude.{◌≡◌, ◌+◌, ◌*◌, ◌/◌, ◌%�
 ghost use Rattle.num.specs.Bytes.{part, splice};
 ghost use Rattle.log_block.specs.Block.{block_body, block, block_count, log_of};
 
+use crate::form::Form;
 use crate::sum::word_sum;
 
 // Writes what follows the records at the start of block k, n bytes of them, but for the check word: zeros, the stamp, the block
@@ -14,7 +15,7 @@ fn write_fields(b: &mut [u8], n: usize, stamp: &[u8], k: u32)
     let end = 480 - stamp.len();
     num::put::put_zeros(b, n, end - n);
     num::put::put_bytes(b, end, stamp);
-    num::put::put_u32(b, 480, num::wide32(k));
+    num::put::put_u32(b, 480, u64::from(k));
     num::put::put_u32(b, 484, (n / 32) as u64);
     num::put::put_zeros(b, 488, 20);
 }
@@ -27,8 +28,8 @@ pub fn finish_block(b: &mut [u8], n: usize, stamp: &[u8], k: u32)
 {
     write_fields(b, n, stamp, k);
     let s = word_sum(b, 127);
-    let check = std::num::wrapping_sub_u32(0, s);
-    num::put::put_u32(b, 508, num::wide32(check));
+    let check = 0u32.wrapping_sub(s);
+    num::put::put_u32(b, 508, u64::from(check));
 }
 
 // Writes block k.
@@ -41,29 +42,25 @@ fn write_block(b: &mut [u8], stamp: &[u8], k: u32, recs: &[u8])
 }
 
 // Writes block k of the log of a list, of blocks of so many records.
-fn write_at(log: &mut [u8], per: usize, stamp: &[u8], k: usize, list: &[u8])
-    requires k_in_bounds { (512 * k + 512 ≤ length log.old) × (32 * (per * k) ≤ length list.now) × (k < 2 ^ 32) }
-    requires stamp_value { 32 * per + length stamp.now ≡ 480 }
-    ensures { log.new ≡ splice log.old (512 * k) (block stamp.now k (part list.now (32 * (per * k)) (32 * per))) }
+fn write_at(log: &mut [u8], form: Form<'_>, k: usize, list: &[u8])
+    requires k_in_bounds { (512 * k + 512 ≤ length log.old) × (32 * (form.per * k) ≤ length list.now) × (k < 2 ^ 32) }
+    ensures { log.new ≡ splice log.old (512 * k) (block form.entry.stamp.now k (part list.now (32 * (form.entry.per * k)) (32 * form.entry.per))) }
 {
-    let from = 32 * (per * k);
-    let end = record_bytes::quick::lesser(from + 32 * per, list.len());
+    let from = 32 * (form.per * k);
+    let end = (from + 32 * form.per).min(list.len());
     let at = 512 * k;
     let next = at + 512;
-    write_block(&mut log[at..next], stamp, k as u32, &list[from..end]);
+    write_block(&mut log[at..next], form.stamp, k as u32, &list[from..end]);
 }
 
 // Writes the log of a list of records, of blocks of so many records with this stamp.
-pub fn write_log(list: &[u8], per: usize, stamp: &[u8], log: &mut [u8])
-    requires le_per { (1 ≤ per) × (32 * per + length stamp.now ≡ 480) }
-    requires list_in_bounds { 512 * block_count per (length list.now / 32) ≤ length log.old }
-    requires list_bound { block_count per (length list.now / 32) ≤ 2 ^ 32 }
-    ensures { log.new ≡ splice log.old 0 (log_of per stamp.now list.now) }
+pub fn write_log(list: &[u8], form: Form<'_>, log: &mut [u8])
+    requires list_in_bounds { 512 * block_count form.per (length list.now / 32) ≤ length log.old }
+    requires list_bound { block_count form.per (length list.now / 32) ≤ 2 ^ 32 }
+    ensures { log.new ≡ splice log.old 0 (log_of form.entry.per form.entry.stamp.now list.now) }
 {
-    let n = (list.len() / 32 + (per - 1)) / per;
-    let mut k = 0;
-    while k < n {
-        write_at(log, per, stamp, k, list);
-        k += 1;
+    let n = (list.len() / 32 + (form.per - 1)) / form.per;
+    for k in 0..n {
+        write_at(log, form, k, list);
     }
 }

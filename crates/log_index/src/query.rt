@@ -1,19 +1,17 @@
 // A query of an index by bank, and the test of an index beside its log.
-ghost use Rattle.std.specs.Prelude.{◌≡◌, cond, [], ℕ, ◌+◌, ◌*◌, ◌<◌, ◌≤◌, max, length};
+ghost use Rattle.std.specs.Prelude.{◌≡◌, cond, [], ℕ, ◌+◌, ◌*◌, ◌<◌, ◌≤◌, length};
 ghost use Rattle.num.specs.Bytes.{bytes, splice};
 ghost use Rattle.num.specs.Marks.{count_up_to};
 ghost use Rattle.log_block.specs.Block.{used, blocks_in, block_at};
-ghost use Rattle.spec_index.specs.declared.Indexed.TheVariants.{Count};
 ghost use Rattle.spec_index.specs.Index.{index_words};
 ghost use Rattle.spec_index.specs.Query.{has_bit, queried};
 ghost use Rattle.spec_index.specs.Answers.{lent_after, right_beside, count_or_full, query_answer};
 ghost use Rattle.log_index.specs.Form.Beside.{beside_fields};
 
 use crate::make::{first_wrong, right};
-use log_list::Copied;
 use record::Refusal;
 use settings::Settings;
-use spec_index::Indexed;
+use spec_index::IndexRefusal;
 
 // Whether word k of an index has the bit of a bank.
 fn has_bit(index: &[u8], bank: u32, k: usize) -> bool
@@ -38,10 +36,8 @@ pub fn found(index: &[u8], bank: u32) -> usize
 {
     let words = index.len() / 4;
     let mut n = 0;
-    let mut k = 0;
-    while k < words {
+    for k in 0..words {
         n += one_at(index, bank, k);
-        k += 1;
     }
     n
 }
@@ -65,86 +61,82 @@ pub fn list_found(index: &[u8], bank: u32, out: &mut [u8])
 {
     let words = index.len() / 4;
     let mut n = 0;
-    let mut k = 0;
-    while k < words {
+    for k in 0..words {
         n = put_found(index, bank, k, n, out);
-        k += 1;
     }
 }
 
-// The greater of two numbers.
-pub fn greater(a: usize, b: usize) -> usize
-    ensures { result ≡ max a b }
-{
-    if a < b { b } else { a }
-}
-
 // 14 of a log of right blocks and an index, or the number of words.
-fn compared(log: &[u8], index: &[u8]) -> Indexed
+fn compared(log: &[u8], index: &[u8]) -> Result<u64, IndexRefusal>
     requires { (k : ℕ) → k < blocks_in log.now → used (block_at log.now k) ≤ 15 }
     ensures { result ≡ beside_fields log.now index.now }
 {
     let words = index.len() / 4;
     let blocks = log.len() / 512;
-    let n = greater(words, blocks);
+    let n = words.max(blocks);
     let wrong = first_wrong(log, index, n);
     if wrong == n {
-        Indexed::Count(words as u64)
+        Ok(words as u64)
     } else {
-        Indexed::Differs(wrong as u64)
+        Err(IndexRefusal::Differs(wrong as u64))
     }
 }
 
 // Tests a log of whole blocks and an index of whole words for 12, 10 and 14: a refusal, or the number of words.
-pub fn beside(s: Settings, log: &[u8], index: &[u8]) -> Indexed
-    ensures { result ≡ right_beside s log.now index.now (Count (index_words index.now)) }
+pub fn beside(s: Settings, log: &[u8], index: &[u8]) -> Result<u64, IndexRefusal>
+    ensures { result ≡ right_beside s log.now index.now (Ok (index_words index.now)) }
 {
-    match right(s, log) {
-        Copied::Refused(why) => Indexed::Refused(why),
-        Copied::Count(_) => compared(log, index),
-    }
+    right(s, log)?;
+    compared(log, index)
 }
 
 // So many words into so many bytes: 8, or their number.
-pub fn fits(n: usize, room: usize) -> Indexed
+pub fn fits(n: usize, room: usize) -> Result<u64, IndexRefusal>
     ensures { result ≡ count_or_full n room }
 {
     if n <= room / 4 {
-        Indexed::Count(n as u64)
+        Ok(n as u64)
     } else {
-        Indexed::Refused(Refusal::Full)
+        Err(IndexRefusal::Refused(Refusal::Full))
     }
 }
 
 // What a query into so many bytes answers.
-fn query_answer(s: Settings, log: &[u8], index: &[u8], bank: u32, room: usize) -> Indexed
+fn query_answer(
+    s: Settings,
+    log: &[u8],
+    index: &[u8],
+    bank: u32,
+    room: usize,
+) -> Result<u64, IndexRefusal>
     ensures { result ≡ query_answer s log.now index.now bank room }
 {
     if log.len() % 512 != 0 {
-        return Indexed::Refused(Refusal::Length);
+        return Err(IndexRefusal::Refused(Refusal::Length));
     }
     if index.len() % 4 != 0 {
-        return Indexed::Refused(Refusal::Length);
+        return Err(IndexRefusal::Refused(Refusal::Length));
     }
     if bank >= 32 {
-        return Indexed::Refused(Refusal::Bank);
+        return Err(IndexRefusal::Refused(Refusal::Bank));
     }
-    match beside(s, log, index) {
-        Indexed::Refused(why) => Indexed::Refused(why),
-        Indexed::Differs(k) => Indexed::Differs(k),
-        Indexed::Count(_) => fits(found(index, bank), room),
-    }
+    beside(s, log, index)?;
+    fits(found(index, bank), room)
 }
 
 // Lists the numbers of the blocks that touch a bank at the start of a buffer.
-pub fn query(s: Settings, log: &[u8], index: &[u8], bank: u32, out: &mut [u8]) -> Indexed
+pub fn query(
+    s: Settings,
+    log: &[u8],
+    index: &[u8],
+    bank: u32,
+    out: &mut [u8],
+) -> Result<u64, IndexRefusal>
     ensures { (result ≡ query_answer s log.now index.now bank (length out.old)) × (out.new ≡ lent_after (query_answer s log.now index.now bank (length out.old)) (queried index.now bank) out.old) }
 {
     let answer = query_answer(s, log, index, bank, out.len());
-    match answer {
-        Indexed::Refused(_) => {}
-        Indexed::Differs(_) => {}
-        Indexed::Count(_) => list_found(index, bank, out),
+    if let Ok(_) = answer {
+        list_found(index, bank, out);
     }
     answer
 }

@@ -41,10 +41,8 @@ fn records_word(b: &[u8], n: usize) -> u32
     ensures { result ≡ fields_up_to b.now n }
 {
     let mut w: u32 = 0;
-    let mut i: usize = 0;
-    while i < n {
+    for i in 0..n {
         w = w | record_word(b, 32 * i);
-        i += 1;
     }
     w
 }
@@ -64,5 +62,5 @@ pub fn block_word(log: &[u8], k: usize) -> u32
 pub fn banks(w: u32) -> u32
     ensures { result ≡ count_up_to (bit w) 32 }
 {
-    u32::count_ones(w)
+    w.count_ones()
 }

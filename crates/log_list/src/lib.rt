@@ -5,14 +5,8 @@ pub mod copy;
 
 use record::Refusal;
 
-// What a call that copies answers: a refusal, or how many blocks or records it made.
-#[derive(Clone, Copy)]
-pub enum Copied {
-    Refused(Refusal),
-    Count(u64),
-}
-
-// The first bad block of a log and, where no block is bad, the first bad record of its list.
+// The first bad block of a log and, where no block is bad, the first bad record of its list. Where there is none, each is the count, as
+// the definitions first_bad_block and first_bad are, of which the theorems speak.
 #[derive(Clone, Copy)]
 pub struct Faults {
     pub block: usize,

@@ -1,5 +1,6 @@
 -- The stamps of a log: one test for all blocks, what the tests of a stamped log say, and the stamps of a log that was made.
 -- Assumes nothing.
+use Rattle.std.specs.Prelude.{Err, None, Ok, Option, Result, Some}
 use Prim.Native.Nat.{ℕ, zero, suc, ◌+◌, ◌*◌, ◌/◌, ◌%◌, ◌<◌, ◌≤◌}
 use mathlib.Core.Path.{◌≡◌, refl, sym, ◌∙◌, ap}
 use mathlib.Core.Bool.{Bool, true, false, cond, ◌&&◌, and-false, and-eq-true_iff}
@@ -14,8 +15,6 @@ use Rattle.num.specs.Search.{all_up_to, first_false}
 use Rattle.num.proofs.SearchLaws.{all-at, all-intro, first-same, first-at, first-none, first-before}
 use Rattle.num.proofs.PartLaws.{length_part, part-part}
 use Rattle.settings.specs.declared.Settings.{Settings}
-use Rattle.settings.specs.declared.SettingsRead.{SettingsRead}
-use Rattle.settings.specs.declared.SettingsRead.TheVariants.{Refused, Accepted}
 use Rattle.settings.specs.Settings.{valid, settings_in, settings_read}
 use Rattle.record.specs.declared.Refusal.{Refusal}
 use Rattle.record.specs.declared.Refusal.TheVariants.{Block, Word, Stamp}
@@ -23,8 +22,6 @@ use Rattle.record.specs.Record.{first_bad, records_in}
 use Rattle.log_block.specs.Block.{block_count, log_of, blocks_in, block_at, first_bad_block, list_of}
 use Rattle.log_block.proofs.CountLaws.{Records}
 use Rattle.log_block.proofs.LogThenList.{log-blocks, stamp-log}
-use Rattle.log_stamp.specs.declared.Judgement.{Judgement}
-use Rattle.log_stamp.specs.declared.Judgement.TheVariants as tested
 use Rattle.log_stamp.specs.Stamp.{stamp_at, in_range, same_stamp, stamp_right, first_bad_stamp, settings_of, right_stamped}
 
 -- the form of a stamped log
@@ -68,7 +65,7 @@ others-are log first = first-same (λ k. same_stamp (stamp_at log k) (stamp_at l
     each k h = go k h (same_stamp (stamp_at log k) (stamp_at log 0)) refl
 
 -- where it says none, it is the first that is wrong
-pub none_said : (log : List ℕ) → (blocks_in log ≡ 0 → ⊥) → settings_read (stamp_at log 0) ≡ Refused → first_bad_stamp log ≡ 0
+pub none_said : (log : List ℕ) → (blocks_in log ≡ 0 → ⊥) → settings_read (stamp_at log 0) ≡ None → first_bad_stamp log ≡ 0
 unfolding first_bad_stamp stamp_right in_range
 none_said log h e = first-at (stamp_right log) (blocks_in log) 0 (λ i l. absurd (omega arith)) (omega arith) (rw e)
 
@@ -81,44 +78,44 @@ pub none-there : (log : List ℕ) → length log % 512 ≡ 0 → blocks_in log �
 none-there log w e = ap settings_of (no_bytes log (omega arith))
 
 -- what block 0 says: of a log that has a block it is read from its stamp, and an empty log has some settings
-abbrev said_of : List ℕ → SettingsRead
-said_of log = cond (eqb (blocks_in log) 0) (Accepted (settings_of log)) (settings_read (stamp_at log 0))
+abbrev said_of : List ℕ → Option Settings
+said_of log = cond (eqb (blocks_in log) 0) (Some (settings_of log)) (settings_read (stamp_at log 0))
 
 -- settings that are read are those that the bytes say
-read_is : (b : List ℕ) (s : Settings) → settings_read b ≡ Accepted s → s ≡ settings_in b
+read_is : (b : List ℕ) (s : Settings) → settings_read b ≡ Some s → s ≡ settings_in b
 unfolding settings_read
 read_is b s = go (eqb (length b) 32 && valid (settings_in b))
   where
-    go : (t : Bool) → cond t (Accepted (settings_in b)) Refused ≡ Accepted s → s ≡ settings_in b
+    go : (t : Bool) → cond t (Some (settings_in b)) None ≡ Some s → s ≡ settings_in b
     go true e = cc
     go false e = absurd (let z : ◌≡◌ {A = ℕ} 0 1 = cc in omega arith)
 
-pub said-range : (log : List ℕ) (s : Settings) → said_of log ≡ Accepted s → (blocks_in log ≡ 0 → ⊥) → in_range (settings_read (stamp_at log 0)) ≡ true
+pub said-range : (log : List ℕ) (s : Settings) → said_of log ≡ Some s → (blocks_in log ≡ 0 → ⊥) → in_range (settings_read (stamp_at log 0)) ≡ true
 unfolding in_range
-said-range log s e h = let r : settings_read (stamp_at log 0) ≡ Accepted s = rw (ne_eqb (blocks_in log) 0 h) at e in rw r
+said-range log s e h = let r : settings_read (stamp_at log 0) ≡ Some s = rw (ne_eqb (blocks_in log) 0 h) at e in rw r
 
-pub said-is : (log : List ℕ) (s : Settings) → said_of log ≡ Accepted s → s ≡ settings_of log
+pub said-is : (log : List ℕ) (s : Settings) → said_of log ≡ Some s → s ≡ settings_of log
 said-is log s = go (eqb (blocks_in log) 0)
   where
-    go : (t : Bool) → cond t (Accepted (settings_of log)) (settings_read (stamp_at log 0)) ≡ Accepted s → s ≡ settings_of log
+    go : (t : Bool) → cond t (Some (settings_of log)) (settings_read (stamp_at log 0)) ≡ Some s → s ≡ settings_of log
     go true e = cc
     go false e = read_is (stamp_at log 0) s e
 
 -- and where it says none, 12 or 17 is answered
-pub none-answer : (log : List ℕ) → said_of log ≡ Refused → (why : Refusal)
+pub none-answer : (log : List ℕ) → said_of log ≡ None → (why : Refusal)
     → why ≡ cond (eqb (first_bad_block 14 log) (blocks_in log)) (Stamp 0) (Block (first_bad_block 14 log))
-    → tested.Refused why ≡ right_stamped tested.Refused log tested.Right
+    → Err why ≡ right_stamped Err log Ok
 none-answer log e why w = go (eqb (blocks_in log) 0) refl (eqb (first_bad_block 14 log) (blocks_in log)) refl
   where
     go : (t : Bool) → eqb (blocks_in log) 0 ≡ t → (a : Bool) → eqb (first_bad_block 14 log) (blocks_in log) ≡ a
-        → tested.Refused why ≡ right_stamped tested.Refused log tested.Right
-    go true q a p = absurd (let f : Accepted (settings_of log) ≡ Refused = rw q at e in let z : ◌≡◌ {A = ℕ} 0 1 = cc in omega arith)
+        → Err why ≡ right_stamped Err log Ok
+    go true q a p = absurd (let f : Some (settings_of log) ≡ None = rw q at e in let z : ◌≡◌ {A = ℕ} 0 1 = cc in omega arith)
     go false q true p =
         let h = eqb-false (blocks_in log) 0 q in
-        let r : settings_read (stamp_at log 0) ≡ Refused = rw q at e in
+        let r : settings_read (stamp_at log 0) ≡ None = rw q at e in
         let s = none_said log h r in
-        rw (p, s, ne_eqb 0 (blocks_in log) (λ z. h (sym z))) (ap tested.Refused (rw p at w))
-    go false q false p = rw p (ap tested.Refused (rw p at w))
+        rw (p, s, ne_eqb 0 (blocks_in log) (λ z. h (sym z))) (ap Err (rw p at w))
+    go false q false p = rw p (ap Err (rw p at w))
 
 -- stamps that pass are all one, and say the settings of the log
 module _ (log : List ℕ) (right : first_bad_stamp log ≡ blocks_in log) where
@@ -129,16 +126,16 @@ module _ (log : List ℕ) (right : first_bad_stamp log ≡ blocks_in log) where
   pub stamps-same : (k : ℕ) → k < blocks_in log → stamp_at log k ≡ stamp_at log 0
   stamps-same k h = same-is (stamp_at log k) (stamp_at log 0) (length-stamp log k h) (length-stamp log 0 (omega arith)) (each_right k h).1
 
-  pub stamp-said : 0 < blocks_in log → settings_read (stamp_at log 0) ≡ Accepted (settings_of log)
+  pub stamp-said : 0 < blocks_in log → settings_read (stamp_at log 0) ≡ Some (settings_of log)
   unfolding settings_read in_range
   stamp-said h = go (eqb (length (stamp_at log 0)) 32 && valid (settings_of log)) (each_right 0 h).0
     where
-      go : (t : Bool) → in_range (cond t (Accepted (settings_of log)) Refused) ≡ true → cond t (Accepted (settings_of log)) Refused ≡ Accepted (settings_of log)
+      go : (t : Bool) → in_range (cond t (Some (settings_of log)) None) ≡ true → cond t (Some (settings_of log)) None ≡ Some (settings_of log)
       go true e = refl
       go false e = cc
 
 -- stamps that are all one which says settings pass
-pub stamps-right : (log st : List ℕ) (s : Settings) → settings_read st ≡ Accepted s → ((k : ℕ) → k < blocks_in log → stamp_at log k ≡ st)
+pub stamps-right : (log st : List ℕ) (s : Settings) → settings_read st ≡ Some s → ((k : ℕ) → k < blocks_in log → stamp_at log k ≡ st)
     → first_bad_stamp log ≡ blocks_in log
 unfolding first_bad_stamp stamp_right in_range
 stamps-right log st s e same =
@@ -146,7 +143,7 @@ stamps-right log st s e same =
     (λ k h. rw (same k h, same 0 (omega arith), e) (is_same st st refl))
 
 -- so do those of a log that was made with it
-pub made-right : (st l : List ℕ) (s : Settings) → settings_read st ≡ Accepted s → length st ≡ 32 → first_bad_stamp (log_of 14 st l) ≡ blocks_in (log_of 14 st l)
+pub made-right : (st l : List ℕ) (s : Settings) → settings_read st ≡ Some s → length st ≡ 32 → first_bad_stamp (log_of 14 st l) ≡ blocks_in (log_of 14 st l)
 made-right st l s e n =
     let b = log-blocks 14 st (omega arith) (omega arith) l in
     stamps-right (log_of 14 st l) st s e (λ k h. stamp-log 14 st (omega arith) (omega arith) l k (omega arith))
@@ -159,12 +156,12 @@ pub record Passed (log : List ℕ) : Type 0 where
   pub good : first_bad (settings_of log) (list_of log) ≡ records_in (list_of log)
 
 -- a log that passes them
-pub right-passed : (log : List ℕ) (s : Settings) → right_stamped tested.Refused log tested.Right ≡ tested.Right s → Passed log × (s ≡ settings_of log)
+pub right-passed : (log : List ℕ) (s : Settings) → right_stamped Err log Ok ≡ Ok s → Passed log × (s ≡ settings_of log)
 right-passed log s = go (eqb (first_bad_block 14 log) (blocks_in log)) refl (eqb (first_bad_stamp log) (blocks_in log)) refl (eqb (first_bad (settings_of log) (list_of log)) (records_in (list_of log))) refl
   where
     go : (a : Bool) → eqb (first_bad_block 14 log) (blocks_in log) ≡ a → (b : Bool) → eqb (first_bad_stamp log) (blocks_in log) ≡ b
         → (c : Bool) → eqb (first_bad (settings_of log) (list_of log)) (records_in (list_of log)) ≡ c
-        → cond a (cond b (cond c (tested.Right (settings_of log)) (tested.Refused (Word (first_bad (settings_of log) (list_of log))))) (tested.Refused (Stamp (first_bad_stamp log)))) (tested.Refused (Block (first_bad_block 14 log))) ≡ tested.Right s
+        → cond a (cond b (cond c (Ok (settings_of log)) (Err (Word (first_bad (settings_of log) (list_of log))))) (Err (Stamp (first_bad_stamp log)))) (Err (Block (first_bad_block 14 log))) ≡ Ok s
         → Passed log × (s ≡ settings_of log)
     go true p true q true r e = (record { right = eqb-true _ _ p; stamps = eqb-true _ _ q; good = eqb-true _ _ r }, cc)
     go true p true q false r e = absurd (let z : ◌≡◌ {A = ℕ} 0 1 = cc in omega arith)
@@ -173,13 +170,13 @@ right-passed log s = go (eqb (first_bad_block 14 log) (blocks_in log)) refl (eqb
 
 module _ {R : Type 0} (refused : Refusal → R) where
   -- the same refusal, whatever comes of it
-  pub right-refused : (log : List ℕ) (why : Refusal) (next : Settings → R) → right_stamped tested.Refused log tested.Right ≡ tested.Refused why
+  pub right-refused : (log : List ℕ) (why : Refusal) (next : Settings → R) → right_stamped Err log Ok ≡ Err why
       → right_stamped refused log next ≡ refused why
   right-refused log why next =
       go (eqb (first_bad_block 14 log) (blocks_in log)) (eqb (first_bad_stamp log) (blocks_in log)) (eqb (first_bad (settings_of log) (list_of log)) (records_in (list_of log)))
     where
       go : (a b c : Bool)
-          → cond a (cond b (cond c (tested.Right (settings_of log)) (tested.Refused (Word (first_bad (settings_of log) (list_of log))))) (tested.Refused (Stamp (first_bad_stamp log)))) (tested.Refused (Block (first_bad_block 14 log))) ≡ tested.Refused why
+          → cond a (cond b (cond c (Ok (settings_of log)) (Err (Word (first_bad (settings_of log) (list_of log))))) (Err (Stamp (first_bad_stamp log)))) (Err (Block (first_bad_block 14 log))) ≡ Err why
           → cond a (cond b (cond c (next (settings_of log)) (refused (Word (first_bad (settings_of log) (list_of log))))) (refused (Stamp (first_bad_stamp log)))) (refused (Block (first_bad_block 14 log))) ≡ refused why
       go true true true e = absurd (let z : ◌≡◌ {A = ℕ} 0 1 = cc in omega arith)
       go true true false e = let w : Word (first_bad (settings_of log) (list_of log)) ≡ why = cc in ap refused w

@@ -2,11 +2,9 @@
 -- 16-bit numbers, low byte first: the twelve timings in document 01's naming order with tOFFP after them, rows, columns, and device +
 -- 256 × core form." It is the settings record.
 -- Assumes nothing.
-use Rattle.std.specs.Prelude.{ℕ, Bool, true, false, cond, ◌&&◌, List, eqb, get_or}
+use Rattle.std.specs.Prelude.{ℕ, Bool, true, false, cond, ◌&&◌, List, eqb, get_or, None, Option, Some}
 use Rattle.num.specs.Search.{all_up_to, first_false}
 use Rattle.settings.specs.declared.Settings.{Settings}
-use Rattle.settings.specs.declared.SettingsRead.{SettingsRead}
-use Rattle.settings.specs.declared.SettingsRead.TheVariants.{Refused, Accepted}
 use Rattle.settings.specs.Settings.{settings_in, settings_read}
 use Rattle.record.specs.declared.Refusal.{Refusal}
 use Rattle.record.specs.declared.Refusal.TheVariants.{Stamp}
@@ -17,9 +15,9 @@ use Rattle.log_block.specs.Right.{right_blocks, right_records}
 abbrev pub stamp_at : List ℕ → ℕ → List ℕ
 stamp_at log k = stamp_of 14 (block_at log k)
 
-unfoldable pub in_range : SettingsRead → Bool
-in_range Refused = false
-in_range (Accepted s) = true
+unfoldable pub in_range : Option Settings → Bool
+in_range None = false
+in_range (Some s) = true
 
 -- whether two stamps are the same 32 bytes
 abbrev pub same_stamp : List ℕ → List ℕ → Bool

@@ -13,7 +13,7 @@ use Rattle.num.specs.Marks.{mark, words}
 use Rattle.num.proofs.bits.BitLaws.{same_truth}
 use Rattle.num.proofs.bits.MarkLaws.{words-marks, words_same}
 use Rattle.meter.specs.declared.Meter.{Meter}
-use Rattle.meter.specs.declared.FeedAnswer.TheVariants.{Accepted}
+use Rattle.std.specs.Prelude.{Ok}
 use Rattle.meter.specs.Answer.{feed_number, feed_accepted}
 use Rattle.meter.specs.Window.{one_of, overlaps, answer_to}
 use Rattle.meter.specs.Meter.{meter_valid, feed_answer}
@@ -94,7 +94,7 @@ module _ (f : ℕ → Bool) (n : ℕ) where
               absurd (apart4 a (i - a) (omega arith) (omega arith) x (rw s y))
           go false e = let k = ltb-false i (a + 4) e in let g = early i y in omega arith
 
-      taken : (a k : ℕ) → f a ≡ true → answer_to (instants (a + 1) k) (n - a) ≡ Accepted
+      taken : (a k : ℕ) → f a ≡ true → answer_to (instants (a + 1) k) (n - a) ≡ Ok tt
       unfolding answer_to
       taken a k e =
           let l = early a e in
@@ -109,7 +109,7 @@ module _ (f : ℕ → Bool) (n : ℕ) where
               → heard (cond b ((n - a) ∷ instants (a + 1) k) (instants (a + 1) k)) ≡ cond b ((n - a) ∷ instants (a + 1) k) (instants (a + 1) k)
           go true e ih =
               let fed = instants (a + 1) k in
-              let r : feed_answer (meter_after fed) (n - a) ≡ Accepted = tracks-answer (heard fed) (meter_after fed) (run-tracks fed) (n - a) ∙ rw ih (taken a k e) in
+              let r : feed_answer (meter_after fed) (n - a) ≡ Ok tt = tracks-answer (heard fed) (meter_after fed) (run-tracks fed) (n - a) ∙ rw ih (taken a k e) in
               rw (r, ih)
           go false e ih = ih
 

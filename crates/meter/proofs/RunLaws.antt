@@ -16,7 +16,9 @@ use Rattle.num.proofs.bits.MarkLaws.{get_d_words, length-words}
 use Rattle.num.proofs.bits.CountLaws.{count-le}
 use Rattle.meter.specs.declared.Meter.{Meter}
 use Rattle.meter.specs.declared.CountAnswer.{CountAnswer}
-use Rattle.meter.specs.declared.FeedAnswer.TheVariants.{Accepted, Settings, Horizon, Overlap}
+use Rattle.std.specs.Prelude.{Err, Ok, Result}
+use Rattle.meter.specs.declared.FeedRefusal.{FeedRefusal}
+use Rattle.meter.specs.declared.FeedRefusal.TheVariants.{Settings, Horizon, Overlap}
 use Rattle.meter.specs.Answer.{feed_number, feed_accepted}
 use Rattle.meter.specs.Window.{metered, overlaps, answer_to}
 use Rattle.meter.specs.Meter.{fresh_meter, meter_valid, feed_answer, advanced, feed_meter, busy, busy_count}
@@ -40,9 +42,9 @@ pub tracks-answer : (h : List ℕ) (m : Meter) → Tracks h m → (at : ℕ) →
 unfolding feed_answer answer_to
 tracks-answer h m t at = rw (valid-out m t.valid) (go (is_instant at) refl)
   where
-    go : (b : Bool) → is_instant at ≡ b → cond b (cond (ltb at (m.newest + 4)) Overlap Accepted) Horizon ≡ cond b (cond (overlaps h at) Overlap Accepted) Horizon
+    go : (b : Bool) → is_instant at ≡ b → ◌≡◌ {A = Result (Unit {0}) FeedRefusal} (cond b (cond (ltb at (m.newest + 4)) (Err Overlap) (Ok tt)) (Err Horizon)) (cond b (cond (overlaps h at) (Err Overlap) (Ok tt)) (Err Horizon))
     go false e = refl
-    go true e = ap (λ (x : Bool). cond x Overlap Accepted) (same-overlap h m t at (leb-true 4 at ((and-eq-true_iff (leb 4 at) (leb at horizon)).0 e).0))
+    go true e = ap (λ (x : Bool). cond x (Err Overlap) (Ok tt)) (same-overlap h m t at (leb-true 4 at ((and-eq-true_iff (leb 4 at) (leb at horizon)).0 e).0))
 
 -- an accepted instant is one that may follow
 pub record Follows (m : Meter) (at : ℕ) : Type 0 where
@@ -53,7 +55,7 @@ pub accepted-follows : (m : Meter) (at : ℕ) → feed_accepted (feed_answer m a
 unfolding feed_answer feed_accepted feed_number
 accepted-follows m at h = go (meter_valid m) (is_instant at) (ltb at (m.newest + 4)) refl refl h
   where
-    go : (v i o : Bool) → is_instant at ≡ i → ltb at (m.newest + 4) ≡ o → eqb (feed_number (cond v (cond i (cond o Overlap Accepted) Horizon) Settings)) 0 ≡ true → Follows m at
+    go : (v i o : Bool) → is_instant at ≡ i → ltb at (m.newest + 4) ≡ o → eqb (feed_number (cond v (cond i (cond o (Err Overlap) (Ok tt)) (Err Horizon)) (Err Settings))) 0 ≡ true → Follows m at
     go true true false ei eo e = record { after = ltb-false at (m.newest + 4) eo; in-time = leb-true at horizon ((and-eq-true_iff (leb 4 at) (leb at horizon)).0 ei).1 }
     go true true true ei eo e = absurd (clash (eqb 16 0) e refl)
     go true false o ei eo e = absurd (clash (eqb 7 0) e refl)
@@ -111,7 +113,7 @@ pub most-counted : (m : Meter) → (count_answered m).count ≤ 1024
 unfolding count_answered
 most-counted m = go (meter_valid m)
   where
-    go : (b : Bool) → (cond {A = CountAnswer} b (record { number = 0; count = busy_count m }) (record { number = feed_number Settings; count = 0 })).count ≤ 1024
+    go : (b : Bool) → (cond {A = CountAnswer} b (record { number = 0; count = busy_count m }) (record { number = feed_number (Err Settings); count = 0 })).count ≤ 1024
     go true = most-busy m
     go false = omega arith
 

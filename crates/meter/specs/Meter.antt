@@ -1,14 +1,13 @@
 -- The meter's state and what a feed makes of it (document 02, request g). Mark i is 1 where an instant was accepted i cycles
 -- before the newest.
 -- Assumes nothing.
-use Rattle.std.specs.Prelude.{ℕ, ◌+◌, ◌-◌, Bool, cond, ◌&&◌, ◌||◌, List, eqb, leb, ltb}
+use Rattle.std.specs.Prelude.{ℕ, ◌+◌, ◌-◌, Bool, cond, ◌&&◌, ◌||◌, List, eqb, leb, ltb, Err, Ok, Result}
 use Rattle.num.specs.Bytes.{zeros}
 use Rattle.settings.specs.Instants.{horizon, is_instant}
 use Rattle.num.specs.Marks.{mark, count_up_to, later, all_apart, below, pushed}
 use Rattle.meter.specs.declared.Meter.{Meter}
-use Rattle.meter.specs.declared.Fed.{Fed}
-use Rattle.meter.specs.declared.FeedAnswer.{FeedAnswer}
-use Rattle.meter.specs.declared.FeedAnswer.TheVariants.{Accepted, Settings, Horizon, Overlap}
+use Rattle.meter.specs.declared.FeedRefusal.{FeedRefusal}
+use Rattle.meter.specs.declared.FeedRefusal.TheVariants.{Settings, Horizon, Overlap}
 use Rattle.meter.specs.Answer.{feed_accepted}
 
 -- a meter of its parts
@@ -26,8 +25,9 @@ meter_valid m =
     leb m.newest horizon && ((eqb m.newest 0 || mark m.marks 0) && (all_apart m.marks && below m.marks (m.newest - 3)))
 
 -- 1, then 7, then 16
-unfoldable pub feed_answer : Meter → ℕ → FeedAnswer
-feed_answer m at = cond (meter_valid m) (cond (is_instant at) (cond (ltb at (m.newest + 4)) Overlap Accepted) Horizon) Settings
+unfoldable pub feed_answer : Meter → ℕ → Result (Unit {0}) FeedRefusal
+feed_answer m at =
+    cond (meter_valid m) (cond (is_instant at) (cond (ltb at (m.newest + 4)) (Err Overlap) (Ok tt)) (Err Horizon)) (Err Settings)
 
 -- the meter after an instant that is accepted: older marks are as much older as it is later
 unfoldable pub advanced : Meter → ℕ → Meter
@@ -37,9 +37,14 @@ advanced m at = meter_of (pushed m.marks (at - m.newest)) at
 unfoldable pub feed_meter : Meter → ℕ → Meter
 feed_meter m at = cond (feed_accepted (feed_answer m at)) (advanced m at) m
 
--- one feed: the meter after it, and its answer
-unfoldable pub fed_by : Meter → ℕ → Fed
-fed_by m at = record { meter = feed_meter m at; answer = feed_answer m at }
+-- a meter where an answer is no refusal
+unfoldable pub where_accepted : Result (Unit {0}) FeedRefusal → Meter → Result Meter FeedRefusal
+where_accepted (Ok tt) m = Ok m
+where_accepted (Err why) m = Err why
+
+-- one feed: the meter after it, or its refusal
+unfoldable pub fed_by : Meter → ℕ → Result Meter FeedRefusal
+fed_by m at = where_accepted (feed_answer m at) (feed_meter m at)
 
 -- whether the cycle i before the newest dualoct's fourth carried data: that of an instant i, i - 1, i - 2 or i - 3 cycles
 -- before the newest

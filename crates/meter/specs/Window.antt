@@ -1,10 +1,10 @@
 -- The count over all instants ever accepted (document 02, request g). A history is the list of them, newest first.
 -- Assumes nothing.
-use Rattle.std.specs.Prelude.{ℕ, ◌+◌, ◌-◌, Bool, false, cond, ◌&&◌, ◌||◌, List, [], ◌∷◌, leb, ltb}
+use Rattle.std.specs.Prelude.{ℕ, ◌+◌, ◌-◌, Bool, false, cond, ◌&&◌, ◌||◌, List, [], ◌∷◌, leb, ltb, Err, Ok, Result}
 use Rattle.settings.specs.Instants.{is_instant}
 use Rattle.num.specs.Marks.{count_up_to}
-use Rattle.meter.specs.declared.FeedAnswer.{FeedAnswer}
-use Rattle.meter.specs.declared.FeedAnswer.TheVariants.{Accepted, Horizon, Overlap}
+use Rattle.meter.specs.declared.FeedRefusal.{FeedRefusal}
+use Rattle.meter.specs.declared.FeedRefusal.TheVariants.{Horizon, Overlap}
 
 -- whether a test holds of one of a list
 unfoldable pub one_of : (ℕ → Bool) → List ℕ → Bool
@@ -31,5 +31,5 @@ overlaps [] at = false
 overlaps (t ∷ ts) at = ltb at (t + 4)
 
 -- "An instant outside 4 to 1,000,000,000 falls under 7. Answers: 16 overlap, after 7, for an instant less than 4 after the newest."
-unfoldable pub answer_to : List ℕ → ℕ → FeedAnswer
-answer_to history at = cond (is_instant at) (cond (overlaps history at) Overlap Accepted) Horizon
+unfoldable pub answer_to : List ℕ → ℕ → Result (Unit {0}) FeedRefusal
+answer_to history at = cond (is_instant at) (cond (overlaps history at) (Err Overlap) (Ok tt)) (Err Horizon)

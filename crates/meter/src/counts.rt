@@ -1,5 +1,5 @@
 // The count and the share of a meter.
-ghost use Rattle.std.specs.Prelude.{◌≡◌, true, false, ◌≤◌, length};
+ghost use Rattle.std.specs.Prelude.{◌≡◌, true, false, ◌≤◌};
 ghost use Rattle.std.specs.Float.Ieee.Exact.{HasValue};
 ghost use Rattle.meter.specs.Meter.{meter_of, meter_valid, busy_count};
 ghost use Rattle.meter.specs.Share.{share};
@@ -9,8 +9,7 @@ use crate::feeds::right;
 use crate::{CountAnswer, Meter, ShareAnswer};
 
 // How many of the 1,024 cycles were busy: four for each mark, less those that the window cuts off the oldest three places.
-fn busy_count(marks: &[u64], newest: u64) -> u32
-    requires marks_len { length marks.now ≡ 16 }
+fn busy_count(marks: &[u64; 16], newest: u64) -> u32
     requires newest_value { meter_valid (meter_of marks.now newest) ≡ true }
     ensures { (result ≡ busy_count (meter_of marks.now newest)) × (result ≤ 1024) }
 {

@@ -1,11 +1,11 @@
 // A fresh meter, the test of a meter, and one feed by value.
-ghost use Rattle.std.specs.Prelude.{◌≡◌, ◌-◌, length};
+ghost use Rattle.std.specs.Prelude.{◌≡◌, ◌-◌, Err};
 ghost use Rattle.num.specs.Marks.{below};
 ghost use Rattle.meter.specs.Answer.{feed_number};
 ghost use Rattle.meter.specs.Meter.{meter_of, fresh_meter, meter_valid, feed_answer, fed_by};
 ghost use Rattle.meter.specs.Calls.{fed_answered};
 
-use crate::{Fed, FedNumber, FeedAnswer, Meter};
+use crate::{FedNumber, FeedRefusal, Meter};
 use settings::{DataAt, HORIZON_WIDE};
 
 // Before any feed.
@@ -19,8 +19,7 @@ pub fn fresh() -> Meter
 }
 
 // Whether every mark is of instant 4 or later. From 1,027 on no mark can be of an earlier one.
-fn from_4(marks: &[u64], newest: u64) -> bool
-    requires { length marks.now ≡ 16 }
+fn from_4(marks: &[u64; 16], newest: u64) -> bool
     ensures { result ≡ below marks.now (newest - 3) }
 {
     if newest < 3 {
@@ -33,8 +32,7 @@ fn from_4(marks: &[u64], newest: u64) -> bool
 }
 
 // Whether a run of feeds gives a meter.
-pub fn right(marks: &[u64], newest: u64) -> bool
-    requires { length marks.now ≡ 16 }
+pub fn right(marks: &[u64; 16], newest: u64) -> bool
     ensures { result ≡ meter_valid (meter_of marks.now newest) }
 {
     let marked = (newest == 0) | num::bits::first(marks);
@@ -43,68 +41,62 @@ pub fn right(marks: &[u64], newest: u64) -> bool
 }
 
 // 1 for the meter, 7 and 16 for the instant.
-fn answer_to(marks: &[u64], newest: u64, at: u64) -> FeedAnswer
-    requires { length marks.now ≡ 16 }
+fn answer_to(marks: &[u64; 16], newest: u64, at: u64) -> Result<(), FeedRefusal>
     ensures { result ≡ feed_answer (meter_of marks.now newest) at }
 {
     if !right(marks, newest) {
-        return FeedAnswer::Settings;
+        return Err(FeedRefusal::Settings);
     }
     if at < 4 {
-        return FeedAnswer::Horizon;
+        return Err(FeedRefusal::Horizon);
     }
     if HORIZON_WIDE < at {
-        return FeedAnswer::Horizon;
+        return Err(FeedRefusal::Horizon);
     }
     if at < newest + 4 {
-        FeedAnswer::Overlap
-    } else {
-        FeedAnswer::Accepted
+        return Err(FeedRefusal::Overlap);
+    }
+    Ok(())
+}
+
+// The number of a refusal in the tables of documents 01 and 02.
+impl From<FeedRefusal> for u32 {
+    ghost from_gives = { λ why number. number ≡ feed_number (Err why) };
+
+    fn from(why: FeedRefusal) -> u32 {
+        match why {
+            FeedRefusal::Settings => 1,
+            FeedRefusal::Horizon => 7,
+            FeedRefusal::Overlap => 16,
+        }
     }
 }
 
-// The number of an answer in the tables of documents 01 and 02.
-fn number_of(a: FeedAnswer) -> u32
-    ensures { result ≡ feed_number a }
-{
-    match a {
-        FeedAnswer::Accepted => 0,
-        FeedAnswer::Settings => 1,
-        FeedAnswer::Horizon => 7,
-        FeedAnswer::Overlap => 16,
-    }
-}
-
-// One feed: the next meter, or the same and a refusal.
-pub fn step(m: Meter, at: DataAt) -> Fed
+// One feed: the next meter, or why there is none.
+pub fn step(m: Meter, at: DataAt) -> Result<Meter, FeedRefusal>
     ensures { result ≡ fed_by m at.0 }
 {
-    let t = num::wide32(at.0);
+    let t = u64::from(at.0);
     let newest = m.newest;
     // a copy: lent from the struct itself, the marks would cost a call of memcpy
     let marks = m.marks;
-    let answer = answer_to(&marks, newest, t);
-    if number_of(answer) == 0 {
-        let pushed = num::bits::pushed(&marks, t - newest);
-        let meter = Meter {
-            marks: pushed,
-            newest: t,
-        };
-        Fed { meter, answer }
-    } else {
-        Fed { meter: m, answer }
-    }
+    answer_to(&marks, newest, t)?;
+    let pushed = num::bits::pushed(&marks, t - newest);
+    Ok(Meter {
+        marks: pushed,
+        newest: t,
+    })
 }
 
 // One feed in numbers, for the C call.
 pub fn step_at(m: Meter, at: u32) -> FedNumber
     ensures { result ≡ fed_answered m at }
 {
-    let fed = step(m, DataAt(at));
-    let meter = fed.meter;
-    let answer = fed.answer;
-    FedNumber {
-        meter,
-        number: number_of(answer),
+    match step(m, DataAt(at)) {
+        Ok(meter) => FedNumber { meter, number: 0 },
+        Err(why) => FedNumber {
+            meter: m,
+            number: u32::from(why),
+        },
     }
 }

@@ -13,30 +13,23 @@ pub struct Meter {
     pub newest: u64,
 }
 
-// What a feed answers, by the trade words of documents 01 and 02.
+// Why a feed is refused, by the trade words of documents 01 and 02.
 #[derive(Clone, Copy)]
-pub enum FeedAnswer {
-    Accepted,
+pub enum FeedRefusal {
     Settings,
     Horizon,
     Overlap,
 }
 
-// A meter after a feed, and what the feed answers.
-#[derive(Clone, Copy)]
-pub struct Fed {
-    pub meter: Meter,
-    pub answer: FeedAnswer,
-}
-
-// The same with the answer's number.
+// What the C call answers: the meter after a feed, refused or not, and 0 or the refusal's number. No Result, since its contract
+// names both parts of every answer.
 #[derive(Clone, Copy)]
 pub struct FedNumber {
     pub meter: Meter,
     pub number: u32,
 }
 
-// What a count answers: number is 0, or the refusal's.
+// What a count answers: number is 0, or the refusal's. A C struct, as a C caller reads it.
 #[repr(C)]
 #[derive(Clone, Copy)]
 pub struct CountAnswer {
@@ -44,7 +37,7 @@ pub struct CountAnswer {
     pub count: u32,
 }
 
-// What a share answers: number is 0, or the refusal's.
+// What a share answers: number is 0, or the refusal's. A C struct too.
 #[repr(C)]
 #[derive(Clone, Copy)]
 pub struct ShareAnswer {

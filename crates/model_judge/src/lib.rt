@@ -12,7 +12,7 @@ ghost use Rattle.chan_view.specs.Form.Beside.{slot_of, tracks_of};
 ghost use Rattle.chan_view.specs.Form.View.{held_of, centre_of};
 ghost use Rattle.chan_judge.specs.Form.Tests.{act_over, packet_rule};
 
-use chan_judge::acts::act_with;
+use chan_judge::acts::act_by;
 use chan_judge::{data_rule, packet_rule};
 use chan_view::banks::{around, slot_of, unused};
 use chan_view::neighbours::{high_of, low_of};
@@ -20,6 +20,7 @@ use chan_view::views::{centre, held_of, seen_of};
 use chan_view::{Held, Seen, View};
 use record::Record;
 use settings::Settings;
+use spec_model::ModelBytes;
 use spec_rules::BankTrack;
 use state_bytes::reads::{buffer_at, due_at, instant_at, lasts_at, track_at};
 
@@ -58,14 +59,7 @@ fn act_in(s: Settings, b: &[u8], bank: u32) -> u64
     requires in_range { InRange b.now }
     ensures { result ≡ act_over s (channel_in b.now).banks bank }
 {
-    let mut asked: u64 = 0;
-    let mut x: u32 = 0;
-    while x < 32 {
-        let i = x as usize;
-        asked = act_with(s, bank, asked, x, instant_at(b, 4 * i));
-        x += 1;
-    }
-    asked
+    act_by(s, bank, |x| instant_at(b, 4 * (x as usize)))
 }
 
 // The lowest rule that a packet breaks, or 0, where h is the write buffer.
@@ -89,7 +83,7 @@ fn packet_in(s: Settings, b: &[u8], h: Held, v: View) -> u32
 }
 
 // The lowest rule that a record breaks, or 0.
-pub fn judge_in(s: Settings, b: &[u8], r: Record) -> u32
+pub fn judge_in(s: Settings, b: &ModelBytes, r: Record) -> u32
     requires { model_right (context_of s) b.now ≡ true }
     ensures { result ≡ judged (context_of s) (model_in b.now).channel r }
 {

@@ -1,10 +1,10 @@
 -- What the code stores into bytes that are a model's, for a record that breaks no rule, is the model after the record.
 -- Assumes nothing.
+use Rattle.std.specs.Prelude.{None}
 use Prim.Native.Nat.{ℕ, ◌+◌, ◌-◌}
 use mathlib.Core.Path.{◌≡◌, refl, sym, ap, ◌∙◌}
 use mathlib.Core.Bool.{Bool, true, false, cond}
 use mathlib.Core.List.{List, ◌++◌}
-use mathlib.Core.Option.{none}
 use native.Mathlib.Omega.{arith}
 use lib.Dec.{eqb}
 use lib.ListN.{length, get_or}
@@ -95,7 +95,7 @@ module _ (s : Settings) (b : List ℕ) (r : model_right (context_of s) b ≡ tru
       (ap (λ (l : List ℕ). implied_stored (rd_stored l x (t.0 - 3)) x (t.0 + s.offp - 3)) (exact s b r v w)
       ∙ rda-after s v m.channel (channel-right s b r) (tail s b r v w) d x t.0 (rd-in s.columns x c mask true f) (read-open t x c mask j) c mask)
 
-  rd-leaves : (t : PacketAt) (x c mask : ℕ) (close : Bool) → leaving_of (context_of s) m.channel (ColAt t (Rd x c mask close)) ≡ none
+  rd-leaves : (t : PacketAt) (x c mask : ℕ) (close : Bool) → leaving_of (context_of s) m.channel (ColAt t (Rd x c mask close)) ≡ None
   unfolding leaving traits col_traits
   rd-leaves t x c mask close = refl
 

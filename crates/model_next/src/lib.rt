@@ -14,21 +14,21 @@ ghost use Rattle.spec_model.specs.ModelBytes.{model_bytes, model_in, model_right
 
 use crate::cols::{put_col, put_data};
 use crate::rows::put_row;
-use num::wide32;
 use record::Record;
 use settings::Settings;
+use spec_model::ModelBytes;
 
 // The model after a record that breaks no rule.
-pub fn put_next(s: Settings, b: &mut [u8], r: Record)
+pub fn put_next(s: Settings, b: &mut ModelBytes, r: Record)
     requires s_value { valid s ≡ true }
     requires b_value { model_right (context_of s) b.old ≡ true }
     requires r_value { record_fits s r ≡ true }
-    requires r_value_2 { judged (context_of s) (model_in b.old).channel r ≡ 0 }
+    requires breaks_none { judged (context_of s) (model_in b.old).channel r ≡ 0 }
     ensures { b.new ≡ model_bytes (model_next (context_of s) (model_in b.old) r) }
 {
     match r {
-        Record::RowAt(t, p) => put_row(s, b, p, wide32(t.0) - 3),
-        Record::ColAt(t, p) => put_col(s, b, p, wide32(t.0) - 3),
+        Record::RowAt(t, p) => put_row(s, b, p, u64::from(t.0) - 3),
+        Record::ColAt(t, p) => put_col(s, b, p, u64::from(t.0) - 3),
         Record::DataOf(_, d) => put_data(b, d),
     }
 }

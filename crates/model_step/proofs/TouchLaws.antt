@@ -1,10 +1,10 @@
 -- What the call asks of the store is what the definitions of the model do, and in the store.
 -- Assumes nothing.
+use Rattle.std.specs.Prelude.{None, Some}
 use Prim.Native.Nat.{ℕ}
 use mathlib.Core.Path.{◌≡◌, refl}
 use mathlib.Core.Bool.{Bool, true, false, ◌&&◌, cond}
 use mathlib.Core.List.{List, []}
-use mathlib.Core.Option.{none, some}
 use native.Mathlib.Omega.{arith}
 use lib.Dec.{eqb, ltb}
 use lib.ListN.{length}
@@ -28,7 +28,7 @@ use Rattle.spec_rules.specs.History.{only_write, first, passed, leaving, all_wri
 use Rattle.spec_rules.specs.Channel.{state_of, waiting_of}
 use Rattle.spec_rules.proofs.Bools.{and_left, and_right}
 use Rattle.spec_state.specs.Valid.{write_valid, channel_valid}
-use Rattle.spec_state.specs.ChannelBytes.{zero_part, channel_spare}
+use Rattle.spec_state.specs.ChannelBytes.{zero_part, channel_spare, channel_in}
 use Rattle.spec_state.proofs.NextValid.{Sound, valid-sound}
 use Rattle.chan_view.specs.declared.View.{View}
 use Rattle.chan_view.specs.declared.Held.{Held}
@@ -72,7 +72,7 @@ slot_is : (b : ℕ) → ltb b 32 ≡ true → slot_of b ≡ b
 slot_is b e = rw e
 
 -- a ROW packet reads nothing
-row-none : (p : RowPacket) → (row_traits p).reads ≡ none
+row-none : (p : RowPacket) → (row_traits p).reads ≡ None
 unfolding row_traits
 row-none (Act b r) = refl
 row-none (Prer b) = refl
@@ -80,7 +80,7 @@ row-none (Refa b) = refl
 row-none (Refp b) = refl
 
 module _ (cx : Context) (ch : Channel) (k : Sound cx ch) where
-  held_at : (bf : Buffer) (due c : Bool) (w : Write) → all_writes (write_valid cx) (waiting_of bf) ≡ true → only_write c (first (waiting_of bf)) ≡ some w
+  held_at : (bf : Buffer) (due c : Bool) (w : Write) → all_writes (write_valid cx) (waiting_of bf) ≡ true → only_write c (first (waiting_of bf)) ≡ Some w
       → state_of ch (slot_of (held_of bf due).bank) ≡ state_of ch w.bank
   unfolding waiting_of held_of write_valid bank_count
   held_at Empty due true w v e = absurd (let z : ◌≡◌ {A = ℕ} 0 1 = cc in omega arith)
@@ -94,7 +94,7 @@ module _ (cx : Context) (ch : Channel) (k : Sound cx ch) where
       let l : ltb x.bank 32 ≡ true = and_left (ltb x.bank 32) _ (and_left (write_valid cx x) _ v) in
       rw (slot_is x.bank l, q)
 
-  read_at : (r : Record) → record_fits cx.settings r ≡ true → (b : ℕ) → (traits r).reads ≡ some b → state_of ch (slot_of (named (seen_of r))) ≡ state_of ch b
+  read_at : (r : Record) → record_fits cx.settings r ≡ true → (b : ℕ) → (traits r).reads ≡ Some b → state_of ch (slot_of (named (seen_of r))) ≡ state_of ch b
   unfolding record_fits col_fits traits col_traits named seen_of col_view
   read_at (RowAt t p) f b e = absurd (let n = row-none p in let z : ◌≡◌ {A = ℕ} 0 1 = cc in omega arith)
   read_at (ColAt t (Nocop m)) f b e = absurd (let z : ◌≡◌ {A = ℕ} 0 1 = cc in omega arith)
@@ -122,7 +122,7 @@ right-sound cx b r =
     let v = and_right (channel_spare b && zero_part b 754 6) _ (and_right (eqb (length b) model_length) _ r) in
     valid-sound cx (model_in b).channel (and_left (channel_valid cx (model_in b).channel) _ v)
 
-pub asks : (cx : Context) → valid cx.settings ≡ true → (b : List ℕ) → model_right cx b ≡ true → (r : Record) → record_fits cx.settings r ≡ true
+asks : (cx : Context) → valid cx.settings ≡ true → (b : List ℕ) → model_right cx b ≡ true → (r : Record) → record_fits cx.settings r ≡ true
     → Asks cx (model_in b) r (touch_for cx (model_in b).channel r)
 unfolding touch_for
 asks cx v b h r f =
@@ -135,3 +135,9 @@ asks cx v b h r f =
       read = λ store. touch-bytes cx m _ _ store r w;
       within = touch-in cx m _ _ v k r w f;
     }
+
+-- of the bytes of a model
+pub asks_in : (s : Settings) (b : List ℕ) (r : Record) (t : Touch) → valid s ≡ true → model_right (context_of s) b ≡ true → record_fits s r ≡ true
+    → t ≡ touch_for (context_of s) (channel_in b) r → Asks (context_of s) (model_in b) r t
+unfolding context_of model_in
+asks_in s b r t v h f e = rw e (asks (context_of s) v b h r f)

@@ -65,7 +65,7 @@ get_d_set l k j v h = go (eqb j k) refl
     go false e = get_or-set_other l k j v 0 (eqb-false j k e)
 
 module _ (store : List ℕ) (at mask : ℕ) (new : List ℕ) where
-  pub length-up-to : (n : ℕ) → length (masked_up_to store at mask new n) ≡ length store
+  length-up-to : (n : ℕ) → length (masked_up_to store at mask new n) ≡ length store
   unfolding masked_up_to
   length-up-to zero = refl
   length-up-to (suc n) = go (governs mask n) (length-up-to n)
@@ -95,7 +95,7 @@ module _ (store : List ℕ) (at mask : ℕ) (new : List ℕ) where
   and_yes true x y = refl
   and_yes false x y = refl
 
-  pub get_or-outside : (n j : ℕ) → at + n ≤ length store → (j < at ⊎ at + n ≤ j) → get_or (masked_up_to store at mask new n) j 0 ≡ get_or store j 0
+  get_or-outside : (n j : ℕ) → at + n ≤ length store → (j < at ⊎ at + n ≤ j) → get_or (masked_up_to store at mask new n) j 0 ≡ get_or store j 0
   unfolding masked_up_to
   get_or-outside zero j h o = refl
   get_or-outside (suc n) j h o =
@@ -103,7 +103,7 @@ module _ (store : List ℕ) (at mask : ℕ) (new : List ℕ) where
       get_or-next n j (omega arith) ∙ rw (ne_eqb j (at + n) ne) (and_no (governs mask n) _ _)
       ∙ get_or-outside n j (omega arith) (⊎_elim (λ (l : j < at). inl l) (λ (l : at + suc n ≤ j). inr (omega arith)) o)
 
-  pub get_or-inside : (n i : ℕ) → at + n ≤ length store → i < n
+  get_or-inside : (n i : ℕ) → at + n ≤ length store → i < n
       → get_or (masked_up_to store at mask new n) (at + i) 0 ≡ cond (governs mask i) (get_or new i 0) (get_or store (at + i) 0)
   get_or-inside zero i h l = absurd (omega arith)
   get_or-inside (suc n) i h l = get_or-next n (at + i) (omega arith) ∙ go (eqb (at + i) (at + n)) refl (λ m. get_or-inside n i (omega arith) m)
@@ -122,19 +122,19 @@ module _ (store : List ℕ) (at mask : ℕ) (new : List ℕ) where
           and_no (governs mask n) _ _ ∙ ih m
 
   -- one turn of the loop that goes by the bits of the mask
-  pub bit-set : (n m bits : ℕ) → m ≡ n + 1 → bits ≡ mask / 2 ^ n → bits % 2 ≡ 1 → {l : List ℕ} → l ≡ masked_up_to store at mask new n
-      → set l (at + n) (get_or new n 0) ≡ masked_up_to store at mask new m
+  pub bit-set : (n bits : ℕ) → bits ≡ mask / 2 ^ n → bits % 2 ≡ 1 → {l : List ℕ} → l ≡ masked_up_to store at mask new n
+      → set l (at + n) (get_or new n 0) ≡ masked_up_to store at mask new (n + 1)
   unfolding masked_up_to governs
-  bit-set n m bits e b o h = rw (e, add-one, h, eq-eqb (mask / 2 ^ n % 2) 1 (rw (← b) o))
+  bit-set n bits b o h = rw (add-one, h, eq-eqb (mask / 2 ^ n % 2) 1 (rw (← b) o))
 
-  pub bit-clear : (n m bits : ℕ) → m ≡ n + 1 → bits ≡ mask / 2 ^ n → (bits % 2 ≡ 1 → ⊥) → {l : List ℕ} → l ≡ masked_up_to store at mask new n
-      → l ≡ masked_up_to store at mask new m
+  pub bit-clear : (n bits : ℕ) → bits ≡ mask / 2 ^ n → (bits % 2 ≡ 1 → ⊥) → {l : List ℕ} → l ≡ masked_up_to store at mask new n
+      → l ≡ masked_up_to store at mask new (n + 1)
   unfolding masked_up_to governs
-  bit-clear n m bits e b o h = rw (e, add-one, h, ne_eqb (mask / 2 ^ n % 2) 1 (rw (← b) o))
+  bit-clear n bits b o h = rw (add-one, h, ne_eqb (mask / 2 ^ n % 2) 1 (rw (← b) o))
 
 -- the bits that are left, after one more
-pub bits-next : (mask n m bits : ℕ) → m ≡ n + 1 → bits ≡ mask / 2 ^ n → bits / 2 ≡ mask / 2 ^ m
-bits-next mask n m bits e b = rw (e, add-one, b) (half-power mask n)
+pub bits-next : (mask n bits : ℕ) → bits ≡ mask / 2 ^ n → bits / 2 ≡ mask / 2 ^ (n + 1)
+bits-next mask n bits b = rw (add-one, b) (half-power mask n)
 
 -- sixteen bytes from the place of a dualoct on are that dualoct
 pub up-to-masked : (store : List ℕ) (k mask : ℕ) (new : List ℕ) → 16 * k + 16 ≤ length store → masked_up_to store (16 * k) mask new 16 ≡ masked store k mask new

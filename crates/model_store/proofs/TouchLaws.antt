@@ -1,10 +1,10 @@
 -- What the code asks of the store is what the definitions of the model do, in a state that is not refused.
 -- Assumes nothing.
+use Rattle.std.specs.Prelude.{Option, None, Some, Err, Ok}
 use Prim.Native.Nat.{ℕ, ◌<◌, ◌≤◌, ◌^◌}
 use mathlib.Core.Path.{◌≡◌, refl, sym, ap, ◌∙◌}
 use mathlib.Core.Bool.{Bool, true, false, ◌&&◌, cond}
 use mathlib.Core.List.{List, [], ◌∷◌}
-use mathlib.Core.Option.{Option, none, some}
 use native.Mathlib.Omega.{arith}
 use lib.Dec.{leb, ltb}
 use borrow.Author.Tests.{ltb-true}
@@ -31,12 +31,12 @@ use Rattle.spec_rules.proofs.Bools.{and_left, and_right}
 use Rattle.spec_state.specs.Valid.{bank_valid, write_valid}
 use Rattle.spec_state.proofs.NextValid.{Sound}
 use Rattle.spec_model.specs.declared.ModelState.{ModelState}
-use Rattle.spec_model.specs.declared.Stepped.TheVariants.{Refused, Read}
 use Rattle.spec_model.specs.Model.{open_row, retire_mask, retired_write, retired_to, store_next, read_of}
 use Rattle.spec_model.specs.Step.{retire_answer, passed_answer, is_taken, bytes_read}
 use Rattle.model_store.specs.declared.Touch.{Touch}
 use Rattle.model_store.specs.declared.Touch.TheVariants.{Nothing, Reads, Retires}
 use Rattle.model_store.specs.Form.Touch.{retire_touch, col_touch, touch_of, PlaceIn, TouchIn, touch_answer, touch_store, touch_bytes}
+use Rattle.spec_model.specs.declared.Event.TheVariants.{Read}
 
 -- a ROW packet and data retire nothing
 row_keeps : (p : RowPacket) → (row_traits p).not_read ≡ false
@@ -47,12 +47,12 @@ row_keeps (Refa b) = refl
 row_keeps (Refp b) = refl
 
 -- a write that leaves is one of those that wait
-left-fits : (q : Write → Bool) (ws : List Write) (b : Bool) (w : Write) → all_writes q ws ≡ true → only_write b (first ws) ≡ some w → q w ≡ true
+left-fits : (q : Write → Bool) (ws : List Write) (b : Bool) (w : Write) → all_writes q ws ≡ true → only_write b (first ws) ≡ Some w → q w ≡ true
 left-fits q [] true w e h = absurd (let z : ◌≡◌ {A = ℕ} 0 1 = cc in omega arith)
 left-fits q (x ∷ ws) true w e h = let z : x ≡ w = cc in rw z at (and_left (q x) _ e)
 left-fits q ws false w e h = absurd (let z : ◌≡◌ {A = ℕ} 0 1 = cc in omega arith)
 
-read_taken : (b : Bool) → is_taken (cond b Read (Refused Full)) ≡ b
+read_taken : (b : Bool) → is_taken (cond b (Ok Read) (Err Full)) ≡ b
 unfolding is_taken
 read_taken true = refl
 read_taken false = refl
@@ -63,36 +63,36 @@ same-both false x = refl
 
 -- ---- the retire of a write, if one leaves
 
-module _ (cx : Context) (ch : Channel) (o : Option Write) (held : Bank) (at : (w : Write) → o ≡ some w → held ≡ state_of ch w.bank) (mask : ℕ) where
+module _ (cx : Context) (ch : Channel) (o : Option Write) (held : Bank) (at : (w : Write) → o ≡ Some w → held ≡ state_of ch w.bank) (mask : ℕ) where
   retire-answer : (room : ℕ) → retire_answer o mask ≡ touch_answer (retire_touch o held mask) room
   unfolding retire_answer retire_touch touch_answer
   retire-answer room = go o
     where
       go : (o : Option Write) → retire_answer o mask ≡ touch_answer (retire_touch o held mask) room
-      go none = refl
-      go (some w) = refl
+      go None = refl
+      go (Some w) = refl
 
   retire-store : (d : Dualoct) (store : List ℕ) → retired_to cx ch o mask d store ≡ touch_store cx (retire_touch o held mask) d store
   unfolding retire_touch touch_store
   retire-store d store = go o at
     where
-      go : (o : Option Write) → ((w : Write) → o ≡ some w → held ≡ state_of ch w.bank) → retired_to cx ch o mask d store ≡ touch_store cx (retire_touch o held mask) d store
-      go none h = refl
-      go (some w) h = rw (h w refl)
+      go : (o : Option Write) → ((w : Write) → o ≡ Some w → held ≡ state_of ch w.bank) → retired_to cx ch o mask d store ≡ touch_store cx (retire_touch o held mask) d store
+      go None h = refl
+      go (Some w) h = rw (h w refl)
 
   retire-bytes : (room : ℕ) (store : List ℕ) → touch_bytes cx (retire_touch o held mask) store room ≡ []
   unfolding retire_touch touch_bytes
   retire-bytes room store = go o
     where
       go : (o : Option Write) → touch_bytes cx (retire_touch o held mask) store room ≡ []
-      go none = refl
-      go (some w) = refl
+      go None = refl
+      go (Some w) = refl
 
 -- ---- a record: the bank that it reads is in the state own, and that of the write that it retires in the state held
 
 pub record Found (cx : Context) (ch : Channel) (r : Record) (own held : Bank) : Type 0 where
-  pub read : (b : ℕ) → (traits r).reads ≡ some b → own ≡ state_of ch b
-  pub retired : (w : Write) → leaving_of cx ch r ≡ some w → held ≡ state_of ch w.bank
+  pub read : (b : ℕ) → (traits r).reads ≡ Some b → own ≡ state_of ch b
+  pub retired : (w : Write) → leaving_of cx ch r ≡ Some w → held ≡ state_of ch w.bank
 
 module _ (cx : Context) (m : ModelState) (own held : Bank) where
   abbrev pub touched : Record → Touch
@@ -143,10 +143,10 @@ module _ (cx : Context) (m : ModelState) (own held : Bank) where
     found_in x l = row_in (state_of m.channel x) (k.rows_in x l)
 
     retire-in : (b : Bool) (mask : ℕ) → mask < 2 ^ 16 → (o : Option Write) → o ≡ only_write b (first (waiting_of m.channel.buffer))
-        → ((w : Write) → o ≡ some w → held ≡ state_of m.channel w.bank) → TouchIn cx (retire_touch o held mask)
+        → ((w : Write) → o ≡ Some w → held ≡ state_of m.channel w.bank) → TouchIn cx (retire_touch o held mask)
     unfolding retire_touch TouchIn PlaceIn write_valid bank_count
-    retire-in b mask l none q f = tt
-    retire-in b mask l (some w) q f =
+    retire-in b mask l None q f = tt
+    retire-in b mask l (Some w) q f =
         let e = left-fits (write_valid cx) (waiting_of m.channel.buffer) b w k.write (sym q) in
         let bank = ltb-true w.bank 32 (and_left (ltb w.bank 32) _ e) in
         let column = ltb-true _ _ (and_left (ltb w.column cx.settings.columns) _ (and_right (ltb w.bank 32) _ e)) in

@@ -16,7 +16,7 @@ use crate::dualocts::{dualoct_at, put_dualoct};
 use packet::FULL;
 use record::{Dualoct, Place, Refusal};
 use settings::Settings;
-use spec_model::Stepped;
+use spec_model::Event;
 
 // What a record that breaks no rule asks of the store: nothing, a dualoct, or a write under a mask.
 #[derive(Clone, Copy)]
@@ -49,7 +49,7 @@ fn ones_of(mask: u32) -> u32
     requires { mask < 2 ^ 16 }
     ensures { result ≡ ones mask }
 {
-    u16::count_ones(mask as u16)
+    (mask as u16).count_ones()
 }
 
 // Puts 16 bytes into dualoct k, byte i where mask bit i is 1.
@@ -59,14 +59,11 @@ fn put_masked(store: &mut [u8], k: usize, mask: u32, new: &[u8; 16])
 {
     let at = 16 * k;
     let mut bits = mask;
-    let mut left = 16;
-    while 0 < left {
-        let i = 16 - left;
+    for i in 0..16 {
         if bits % 2 == 1 {
             store[at + i] = new[i];
         }
         bits = bits / 2;
-        left -= 1;
     }
 }
 
@@ -85,20 +82,26 @@ fn retire_to(store: &mut [u8], k: usize, mask: u32, d: Dualoct)
 }
 
 // Copies dualoct k into the answer buffer, where it has room.
-fn read_out(store: &[u8], k: usize, room: &mut [u8]) -> Stepped
+fn read_out(store: &[u8], k: usize, room: &mut [u8]) -> Result<Event, Refusal>
     requires { 16 * k + 16 ≤ length store.now }
-    ensures value { result ≡ cond (leb 16 (length room.old)) Stepped.Read (Stepped.Refused Refusal.Full) }
+    ensures value { result ≡ cond (leb 16 (length room.old)) (Ok Event.Read) (Err Refusal.Full) }
     ensures room_after { room.new ≡ splice room.old 0 (cond (leb 16 (length room.old)) (dualoct store.now k) []) }
 {
     if room.len() < 16 {
-        return Stepped::Refused(Refusal::Full);
+        return Err(Refusal::Full);
     }
     put_dualoct(room, 0, dualoct_at(store, 16 * k));
-    Stepped::Read
+    Ok(Event::Read)
 }
 
 // Does what a record asks of the store.
-pub fn access(s: Settings, t: Touch, d: Dualoct, store: &mut [u8], room: &mut [u8]) -> Stepped
+pub fn access(
+    s: Settings,
+    t: Touch,
+    d: Dualoct,
+    store: &mut [u8],
+    room: &mut [u8],
+) -> Result<Event, Refusal>
     requires s_value { valid s ≡ true }
     requires store_len { length store.old ≡ store_length (context_of s) }
     requires touch_in { TouchIn (context_of s) t }
@@ -107,11 +110,11 @@ pub fn access(s: Settings, t: Touch, d: Dualoct, store: &mut [u8], room: &mut [u
     ensures room_after { room.new ≡ splice room.old 0 (touch_bytes (context_of s) t store.old (length room.old)) }
 {
     match t {
-        Touch::Nothing => Stepped::Neither,
+        Touch::Nothing => Ok(Event::Neither),
         Touch::Reads(p) => read_out(store, number_of(s, p), room),
         Touch::Retires(p, mask) => {
             retire_to(store, number_of(s, p), mask, d);
-            Stepped::Retired(ones_of(mask))
+            Ok(Event::Retired(ones_of(mask)))
         }
     }
 }

@@ -1,6 +1,5 @@
 // What a record asks of the store, from the state of the channel before it.
 ghost use Rattle.std.specs.Prelude.{◌≡◌};
-ghost use Rattle.std.proofs.Math.Option.{some};
 ghost use Rattle.spec_rules.specs.History.{only_write, first};
 ghost use Rattle.spec_rules.specs.Channel.{waiting_of};
 ghost use Rattle.spec_model.specs.Model.{open_row};
@@ -36,7 +35,7 @@ fn place_of(w: Write, held: BankTrack) -> Place
 
 // The retire of a write, if it leaves, under the mask of the packet that retires it.
 fn leave_touch(w: Write, leaves: bool, held: BankTrack, mask: u32) -> Touch
-    ensures { result ≡ retire_touch (only_write leaves (some w)) held.bank mask }
+    ensures { result ≡ retire_touch (only_write leaves (Some w)) held.bank mask }
 {
     if leaves {
         Touch::Retires(place_of(w, held), mask)

@@ -1,6 +1,6 @@
 // 1,024 marks in sixteen words of 64 bits, low word and low bit first. No loop ends early, so that one instruction takes several
 // words.
-ghost use Rattle.std.specs.Prelude.{◌≡◌, ◌-◌, ◌≤◌, ◌<◌, length, cond};
+ghost use Rattle.std.specs.Prelude.{◌≡◌, ◌≤◌, ◌<◌, length, cond};
 ghost use Rattle.num.specs.Marks.{bit, mark, count_up_to, all_apart, below, pushed};
 ghost use Rattle.num.specs.Form.Across.{across, lone, under, back};
 
@@ -21,18 +21,15 @@ fn lone(low: u64, high: u64) -> bool
 }
 
 // Whether no mark stands less than four after another.
-pub fn apart(ws: &[u64]) -> bool
-    requires { length ws.now ≡ 16 }
+pub fn apart(ws: &[u64; 16]) -> bool
     ensures { result ≡ all_apart ws.now }
 {
     let mut right = true;
     let mut low = ws[0];
-    let mut k = 0;
-    while k < 15 {
+    for k in 0..15 {
         let high = ws[k + 1];
         right = right & lone(low, high);
         low = high;
-        k += 1;
     }
     right & lone(low, 0)
 }
@@ -44,25 +41,15 @@ fn under(w: u64, n: u64) -> bool
     if n < 64 { w >> n == 0 } else { true }
 }
 
-// What is left of n past a word.
-fn past(n: u64) -> u64
-    ensures { result ≡ n - 64 }
-{
-    if n < 64 { 0 } else { n - 64 }
-}
-
 // Whether every mark is below n.
-pub fn below(ws: &[u64], n: u64) -> bool
-    requires { length ws.now ≡ 16 }
+pub fn below(ws: &[u64; 16], n: u64) -> bool
     ensures { result ≡ below ws.now n }
 {
     let mut right = true;
     let mut left = n;
-    let mut k = 0;
-    while k < 16 {
+    for k in 0..16 {
         right = right & under(ws[k], left);
-        left = past(left);
-        k += 1;
+        left = left.saturating_sub(64);
     }
     right
 }
@@ -76,42 +63,35 @@ fn back(ws: &[u64], q: usize, k: usize) -> u64
 }
 
 // Every mark d later, but for those that pass the last word, and a new one at 0.
-pub fn pushed(ws: &[u64], d: u64) -> [u64; 16]
-    requires { length ws.now ≡ 16 }
+pub fn pushed(ws: &[u64; 16], d: u64) -> [u64; 16]
     ensures { result ≡ pushed ws.now d }
 {
     let q = (d / 64) as usize;
     let r = d % 64;
     let mut out = [0; 16];
     let mut low = 0;
-    let mut k = 0;
-    while k < 16 {
+    for k in 0..16 {
         let high = back(ws, q, k);
         out[k] = across(low, high, r);
         low = high;
-        k += 1;
     }
     out[0] = out[0] | 1;
     out
 }
 
 // How many marks there are.
-pub fn count(ws: &[u64]) -> u32
-    requires { length ws.now ≡ 16 }
+pub fn count(ws: &[u64; 16]) -> u32
     ensures { (result ≡ count_up_to (mark ws.now) 1024) × (result ≤ 1024) }
 {
     let mut n = 0;
-    let mut k = 0;
-    while k < 16 {
-        n += u64::count_ones(ws[k]);
-        k += 1;
+    for k in 0..16 {
+        n += ws[k].count_ones();
     }
     n
 }
 
 // Whether there is a mark at 0.
-pub fn first(ws: &[u64]) -> bool
-    requires { length ws.now ≡ 16 }
+pub fn first(ws: &[u64; 16]) -> bool
     ensures { result ≡ mark ws.now 0 }
 {
     ws[0] % 2 == 1

@@ -29,16 +29,14 @@ pub fn put_u64(b: &mut [u8], at: usize, x: u64)
     put_u32(b, at + 4, x / 4294967296);
 }
 
-// Copies all of one slice into another from a place on.
+// Copies all of one slice into another from a place on, in a loop: `copy_from_slice` would have the archive call `memmove`, and it calls
+// nothing but `memcpy` and `memset`.
 pub fn put_bytes(out: &mut [u8], at: usize, src: &[u8])
     requires { at + length src.now ≤ length out.old }
     ensures { out.new ≡ splice out.old at src.now }
 {
-    let n = src.len();
-    let mut j = 0;
-    while j < n {
+    for j in 0..src.len() {
         out[at + j] = src[j];
-        j += 1;
     }
 }
 
@@ -47,9 +45,5 @@ pub fn put_zeros(out: &mut [u8], at: usize, n: usize)
     requires { at + n ≤ length out.old }
     ensures { out.new ≡ splice out.old at (zeros n) }
 {
-    let mut j = 0;
-    while j < n {
-        out[at + j] = 0;
-        j += 1;
-    }
+    out[at..at + n].fill(0);
 }

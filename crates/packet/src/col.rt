@@ -2,8 +2,7 @@
 ghost use Rattle.std.specs.Prelude.{◌≡◌, cond, ◌&&◌, ◌+◌, ◌/◌, ◌%◌, ◌^◌, ◌<◌, eqb, ltb};
 ghost use Rattle.packet.specs.Col.{mask_bit, mask_field, col_fields, close_bit, col_word, col_fits, col_coded, mask_said, mask_of, col_of, col_decoded};
 
-use crate::{Coded, ColDecoded, ColPacket, FULL};
-use num::wide32;
+use crate::{ColPacket, FULL};
 
 // Opcodes by command: NOCOP, WR, RD. A WR or RD that closes its bank (WRA, RDA) has bit 2 too.
 const COP: [u32; 3] = [0, 1, 3];
@@ -39,9 +38,9 @@ fn mask_field(device: u32, mask: u32) -> u64
     ensures { (result ≡ mask_field device mask) × (result < 2 ^ 43) }
 {
     if mask == FULL {
-        wide32(device) * AGAIN_BIT
+        u64::from(device) * AGAIN_BIT
     } else {
-        wide32(mask)
+        u64::from(mask)
     }
 }
 
@@ -50,8 +49,8 @@ fn col_fields(device: u32, bank: u32, column: u32, cop: u32, mask: u32) -> u64
     requires { device < 32 }
     ensures { result ≡ col_fields device bank column cop (mask_bit mask) (mask_field device mask) }
 {
-    let top = S_BIT + wide32(device) * DEVICE_BIT + wide32(bank) * BANK_BIT;
-    let middle = wide32(column) * COLUMN_BIT + wide32(cop) * COP_BIT;
+    let top = S_BIT + u64::from(device) * DEVICE_BIT + u64::from(bank) * BANK_BIT;
+    let middle = u64::from(column) * COLUMN_BIT + u64::from(cop) * COP_BIT;
     top + middle + mask_bit(mask) * M_BIT + mask_field(device, mask)
 }
 
@@ -89,12 +88,7 @@ pub fn col_word(device: u32, p: ColPacket) -> u64
 fn access_fits(columns: u32, bank: u32, column: u32, mask: u32) -> bool
     ensures { result ≡ (ltb bank 32 && (ltb column columns && ltb mask (2 ^ 16))) }
 {
-    if bank < 32 {
-        if column < columns {
-            return mask < 65536;
-        }
-    }
-    false
+    bank < 32 && column < columns && mask < 65536
 }
 
 // Whether a COL packet has a word under the settings.
@@ -119,14 +113,14 @@ fn col_fits(columns: u32, p: ColPacket) -> bool
 }
 
 // The word of a COL packet, where it has one under the settings.
-pub fn encode_col(device: u32, columns: u32, p: ColPacket) -> Coded
+pub fn encode_col(device: u32, columns: u32, p: ColPacket) -> Option<u64>
     requires { device < 32 }
     ensures { result ≡ col_coded device columns p }
 {
     if col_fits(columns, p) {
-        Coded::Word(col_word(device, p))
+        Some(col_word(device, p))
     } else {
-        Coded::NoWord
+        None
     }
 }
 
@@ -134,11 +128,7 @@ pub fn encode_col(device: u32, columns: u32, p: ColPacket) -> Coded
 fn head_fits(device: u32, w: u64) -> bool
     ensures { result ≡ (eqb (w / 2 ^ 34) (2 ^ 5 + device) && eqb (w / 2 ^ 28 % 2) 0) }
 {
-    if w / DEVICE_BIT == 32 + wide32(device) {
-        w / GAP_BIT % 2 == 0
-    } else {
-        false
-    }
+    w / DEVICE_BIT == 32 + u64::from(device) && w / GAP_BIT % 2 == 0
 }
 
 // Whether M and the bits below it say a mask.
@@ -148,7 +138,7 @@ fn mask_said(device: u32, m: u32, low: u32) -> bool
     if m == 1 {
         low < FULL
     } else {
-        wide32(low) == wide32(device) * AGAIN_BIT
+        u64::from(low) == u64::from(device) * AGAIN_BIT
     }
 }
 
@@ -160,22 +150,21 @@ fn mask_of(m: u32, low: u32) -> u32
 }
 
 // NOCOP, which has bank and column 0.
-fn nocop_of(bank: u32, column: u32, mask: u32) -> ColDecoded
-    ensures { result ≡ cond (eqb bank 0 && eqb column 0) (ColDecoded.Col (ColPacket.Nocop mask)) ColDecoded.NoCol }
+fn nocop_of(bank: u32, column: u32, mask: u32) -> Option<ColPacket>
+    ensures { result ≡ cond (eqb bank 0 && eqb column 0) (Some (ColPacket.Nocop mask)) None }
 {
-    if bank == 0 {
-        if column == 0 {
-            return ColDecoded::Col(ColPacket::Nocop { mask });
-        }
+    if bank == 0 && column == 0 {
+        Some(ColPacket::Nocop { mask })
+    } else {
+        None
     }
-    ColDecoded::NoCol
 }
 
-// WR or WRA.
-fn wr_of(bank: u32, column: u32, mask: u32, close: bool) -> ColDecoded
-    ensures { result ≡ ColDecoded.Col (ColPacket.Wr bank column mask close) }
+// WR or WRA. One function for each of the two variants, since a variant with named fields is no function that could be handed on.
+fn wr_of(bank: u32, column: u32, mask: u32, close: bool) -> Option<ColPacket>
+    ensures { result ≡ Some (ColPacket.Wr bank column mask close) }
 {
-    ColDecoded::Col(ColPacket::Wr {
+    Some(ColPacket::Wr {
         bank,
         column,
         mask,
@@ -184,10 +173,10 @@ fn wr_of(bank: u32, column: u32, mask: u32, close: bool) -> ColDecoded
 }
 
 // RD or RDA.
-fn rd_of(bank: u32, column: u32, mask: u32, close: bool) -> ColDecoded
-    ensures { result ≡ ColDecoded.Col (ColPacket.Rd bank column mask close) }
+fn rd_of(bank: u32, column: u32, mask: u32, close: bool) -> Option<ColPacket>
+    ensures { result ≡ Some (ColPacket.Rd bank column mask close) }
 {
-    ColDecoded::Col(ColPacket::Rd {
+    Some(ColPacket::Rd {
         bank,
         column,
         mask,
@@ -196,14 +185,14 @@ fn rd_of(bank: u32, column: u32, mask: u32, close: bool) -> ColDecoded
 }
 
 // The packet of an opcode.
-fn col_of(columns: u32, bank: u32, column: u32, cop: u32, mask: u32) -> ColDecoded
+fn col_of(columns: u32, bank: u32, column: u32, cop: u32, mask: u32) -> Option<ColPacket>
     ensures { result ≡ col_of columns bank column cop mask }
 {
     if cop == COP[0] {
         return nocop_of(bank, column, mask);
     }
     if column >= columns {
-        return ColDecoded::NoCol;
+        return None;
     }
     if cop == COP[1] {
         return wr_of(bank, column, mask, false);
@@ -217,20 +206,20 @@ fn col_of(columns: u32, bank: u32, column: u32, cop: u32, mask: u32) -> ColDecod
     if cop == COP[2] + CLOSE_BIT {
         return rd_of(bank, column, mask, true);
     }
-    ColDecoded::NoCol
+    None
 }
 
 // The packet of a COL word under the settings.
-pub fn decode_col(device: u32, columns: u32, w: u64) -> ColDecoded
+pub fn decode_col(device: u32, columns: u32, w: u64) -> Option<ColPacket>
     ensures { result ≡ col_decoded device columns w }
 {
     let m = (w / M_BIT % 2) as u32;
     let low = (w % M_BIT) as u32;
     if !head_fits(device, w) {
-        return ColDecoded::NoCol;
+        return None;
     }
     if !mask_said(device, m, low) {
-        return ColDecoded::NoCol;
+        return None;
     }
     let bank = (w / BANK_BIT % 32) as u32;
     let column = (w / COLUMN_BIT % 128) as u32;

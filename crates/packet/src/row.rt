@@ -2,8 +2,7 @@
 ghost use Rattle.std.specs.Prelude.{◌≡◌, ◌^◌, ◌<◌};
 ghost use Rattle.packet.specs.Row.{device_head, row_fields, row_word, row_fits, row_coded, row_of, row_decoded};
 
-use crate::{Coded, RowDecoded, RowPacket};
-use num::wide32;
+use crate::RowPacket;
 
 // Opcodes by command: PRER, REFA, REFP.
 const ROP: [u32; 3] = [0x600, 0x0C0, 0x540];
@@ -12,7 +11,7 @@ const ROP: [u32; 3] = [0x600, 0x0C0, 0x540];
 fn device_head(device: u32) -> u64
     ensures { (result ≡ device_head device) × (result < 2 ^ 6) }
 {
-    let low = wide32(device % 16);
+    let low = u64::from(device % 16);
     if device < 16 { 16 + low } else { 32 + low }
 }
 
@@ -20,7 +19,7 @@ fn device_head(device: u32) -> u64
 fn row_fields(device: u32, bank: u32, av: u32, low: u32) -> u64
     ensures { result ≡ row_fields device bank av low }
 {
-    device_head(device) * 262144 + wide32(bank) * 8192 + wide32(av) * 4096 + wide32(low)
+    device_head(device) * 262144 + u64::from(bank) * 8192 + u64::from(av) * 4096 + u64::from(low)
 }
 
 // The word of a ROW packet, whether or not the packet fits the settings.
@@ -40,7 +39,7 @@ fn row_fits(rows: u32, p: RowPacket) -> bool
     ensures { result ≡ row_fits rows p }
 {
     match p {
-        RowPacket::Act { bank, row } => { if bank < 32 { row < rows } else { false } }
+        RowPacket::Act { bank, row } => bank < 32 && row < rows,
         RowPacket::Prer { bank } => bank < 32,
         RowPacket::Refa { bank } => bank < 32,
         RowPacket::Refp { bank } => bank < 32,
@@ -48,38 +47,38 @@ fn row_fits(rows: u32, p: RowPacket) -> bool
 }
 
 // The word of a ROW packet, where it has one under the settings.
-pub fn encode_row(device: u32, rows: u32, p: RowPacket) -> Coded
+pub fn encode_row(device: u32, rows: u32, p: RowPacket) -> Option<u64>
     ensures { result ≡ row_coded device rows p }
 {
     if row_fits(rows, p) {
-        Coded::Word(row_word(device, p))
+        Some(row_word(device, p))
     } else {
-        Coded::NoWord
+        None
     }
 }
 
 // The packet of an opcode.
-fn row_of(bank: u32, rop: u32) -> RowDecoded
+fn row_of(bank: u32, rop: u32) -> Option<RowPacket>
     ensures { result ≡ row_of bank rop }
 {
     if rop == ROP[0] {
-        return RowDecoded::Row(RowPacket::Prer { bank });
+        return Some(RowPacket::Prer { bank });
     }
     if rop == ROP[1] {
-        return RowDecoded::Row(RowPacket::Refa { bank });
+        return Some(RowPacket::Refa { bank });
     }
     if rop == ROP[2] {
-        return RowDecoded::Row(RowPacket::Refp { bank });
+        return Some(RowPacket::Refp { bank });
     }
-    RowDecoded::NoRow
+    None
 }
 
 // The packet of a ROW word under the settings.
-pub fn decode_row(device: u32, rows: u32, w: u64) -> RowDecoded
+pub fn decode_row(device: u32, rows: u32, w: u64) -> Option<RowPacket>
     ensures { result ≡ row_decoded device rows w }
 {
     if w / 262144 != device_head(device) {
-        return RowDecoded::NoRow;
+        return None;
     }
     let bank = (w / 8192 % 32) as u32;
     let low = (w % 4096) as u32;
@@ -87,7 +86,7 @@ pub fn decode_row(device: u32, rows: u32, w: u64) -> RowDecoded
         return row_of(bank, low);
     }
     if low < rows {
-        return RowDecoded::Row(RowPacket::Act { bank, row: low });
+        return Some(RowPacket::Act { bank, row: low });
     }
-    RowDecoded::NoRow
+    None
 }

@@ -1,26 +1,24 @@
--- The masks that a packet carries and leaves, and whether waiting writes ask for a NOCOP, by what code sees.
+-- The masks that a packet carries and leaves, by what code sees.
 -- Assumes nothing.
+use Rattle.std.specs.Prelude.{Option, None, Some}
 use Prim.Native.Nat.{ℕ}
-use mathlib.Core.Path.{◌≡◌, refl, sym, ap, ◌∙◌}
-use mathlib.Core.Bool.{Bool, true, false, ◌&&◌, ◌||◌, cond, and-false, or-false}
-use mathlib.Core.List.{List, [], ◌∷◌}
-use mathlib.Core.Option.{Option, none, some}
+use mathlib.Core.Path.{◌≡◌, refl, ◌∙◌}
+use mathlib.Core.Bool.{Bool, true, false, ◌&&◌, cond}
 use native.Mathlib.Omega.{arith}
 use Rattle.settings.specs.declared.Settings.{Settings}
 use Rattle.settings.specs.declared.DataAt.{DataAt}
-use Rattle.record.specs.declared.Place.{Place}
 use Rattle.record.specs.declared.Record.{Record}
 use Rattle.record.specs.declared.Record.TheVariants.{RowAt, ColAt, DataOf}
 use Rattle.spec_rules.specs.declared.Write.{Write}
 use Rattle.spec_rules.specs.declared.Buffer.{Buffer}
 use Rattle.spec_rules.specs.declared.Buffer.TheVariants.{Empty, One, Two}
-use Rattle.spec_rules.specs.Neighbour.{context_of, near}
+use Rattle.spec_rules.specs.Neighbour.{context_of}
 use Rattle.spec_rules.specs.Packets.{traits}
-use Rattle.spec_rules.specs.History.{only_write, first, leaving, retire_implies, any_write, two, only, has}
+use Rattle.spec_rules.specs.History.{only_write, first, leaving, retire_implies, only, has}
 use Rattle.spec_rules.specs.Rules.{implied_delay}
 use Rattle.spec_rules.specs.Channel.{waiting_of, leaving_of}
 use Rattle.spec_plan.specs.declared.PlannerState.{PlannerState}
-use Rattle.spec_plan.specs.Plan.{carried, shifted, hits, delays}
+use Rattle.spec_plan.specs.Plan.{carried, shifted}
 use Rattle.chan_view.specs.declared.View.{View}
 use Rattle.chan_view.specs.declared.Held.{Held}
 use Rattle.chan_view.specs.declared.Seen.{Seen}
@@ -28,23 +26,20 @@ use Rattle.chan_view.specs.declared.Seen.TheVariants.{Packet, Data}
 use Rattle.chan_view.specs.Form.View.{seen_of, held_of, leaves}
 use Rattle.chan_step.specs.Form.Lasts.{retires_by}
 use Rattle.chan_view.proofs.ViewLaws.{seen-shows, leaving-is}
-use Rattle.plan_by_value.specs.declared.Before.{Before}
-use Rattle.plan_by_value.specs.declared.Before.TheVariants.{Rd}
-use Rattle.plan_by_value.specs.Form.Drawn.{concerns, reads, holds_up}
 
 -- ---- what a packet retires
 
 -- some write, or none
 abbrev some_write : Option Write → Bool
-some_write none = false
-some_write (some w) = true
+some_write None = false
+some_write (Some w) = true
 
-some-where : (c : Bool) (x : Write) → c ≡ some_write (only_write c (some x))
+some-where : (c : Bool) (x : Write) → c ≡ some_write (only_write c (Some x))
 some-where true x = refl
 some-where false x = refl
 
 -- data retire nothing
-data-keeps : (s : Settings) (p : PlannerState) (q : Record) (t : DataAt) → seen_of q ≡ Data t → leaving_of (context_of s) p.channel q ≡ none
+data-keeps : (s : Settings) (p : PlannerState) (q : Record) (t : DataAt) → seen_of q ≡ Data t → leaving_of (context_of s) p.channel q ≡ None
 unfolding seen_of leaving traits
 data-keeps s p (RowAt u k) t e = absurd (let z : ◌≡◌ {A = ℕ} 0 1 = cc in omega arith)
 data-keeps s p (ColAt u k) t e = absurd (let z : ◌≡◌ {A = ℕ} 0 1 = cc in omega arith)
@@ -74,26 +69,26 @@ module _ (s : Settings) (p : PlannerState) (q : Record) where
     carried-by = rw (h ∙ retires-is) (go (leaving_of (context_of s) p.channel q))
       where
         go : (o : Option Write) → cond (some_write o) p.mask 0xFFFF ≡ carried o p.mask
-        go none = refl
-        go (some w) = refl
+        go None = refl
+        go (Some w) = refl
 
     pub shifted_by : cond l p.second p.mask ≡ shifted (leaving_of (context_of s) p.channel q) p.mask p.second
     shifted_by = rw (h ∙ retires-is) (go (leaving_of (context_of s) p.channel q))
       where
         go : (o : Option Write) → cond (some_write o) p.second p.mask ≡ shifted o p.mask p.second
-        go none = refl
-        go (some w) = refl
+        go None = refl
+        go (Some w) = refl
 
   -- what the retire implies
   pub implied-by : (l : Bool) → l ≡ retires_by s held (seen_of q) → cond (l && held.close) s.offp 0 ≡ implied_delay (context_of s) (leaving_of (context_of s) p.channel q)
   unfolding retires_by held_of waiting_of context_of
   implied-by l h = rw h (go (seen_of q) refl)
     where
-      closing : (c : Bool) (x : Write) → cond (c && x.close) s.offp 0 ≡ cond (has (retire_implies (only_write c (some x)))) s.offp 0
+      closing : (c : Bool) (x : Write) → cond (c && x.close) s.offp 0 ≡ cond (has (retire_implies (only_write c (Some x)))) s.offp 0
       closing false x = refl
       closing true x = by x.close
         where
-          by : (z : Bool) → cond z s.offp 0 ≡ cond (has (only z (some x.bank))) s.offp 0
+          by : (z : Bool) → cond z s.offp 0 ≡ cond (has (only z (Some x.bank))) s.offp 0
           by true = refl
           by false = refl
 
@@ -107,35 +102,3 @@ module _ (s : Settings) (p : PlannerState) (q : Record) where
       go : (x : Seen) → seen_of q ≡ x → cond (retires_by s held x && held.close) s.offp 0 ≡ implied_delay (context_of s) (leaving_of (context_of s) p.channel q)
       go (Packet v) e = rw (leaving-is s p.channel.buffer p.channel.due q v (seen-shows q v e)) (oldest p.channel.buffer v)
       go (Data t) e = rw (data-keeps s p q t e)
-
--- ---- whether the waiting writes ask for a NOCOP, by the state of the buffer
-
-abbrev pub held_back : Settings → Before → Buffer → Bool
-held_back s next Empty = false
-held_back s next (One x) = concerns s next x
-held_back s next (Two x y) = reads next || (concerns s next x || concerns s next y)
-
-pub holds_by : (s : Settings) (next : Before) (b : Buffer) → holds_up s next (waiting_of b) ≡ held_back s next b
-unfolding waiting_of
-holds_by s next Empty = rw (and-false (reads next))
-holds_by s next (One x) = rw (and-false (reads next), or-false (concerns s next x))
-holds_by s next (Two x y) = rw (or-false (concerns s next y)) (go (reads next) (concerns s next x || concerns s next y))
-  where
-    go : (a b : Bool) → (a && true) || b ≡ a || b
-    go true b = refl
-    go false b = refl
-
--- before an RD or RDA
-any-either : (f g : Write → Bool) (c : Bool) (ws : List Write) → any_write (λ w. f w || (c && g w)) ws ≡ any_write f ws || (c && any_write g ws)
-any-either f g c [] = sym (and-false c)
-any-either f g c (w ∷ ws) = ap (λ (b : Bool). (f w || (c && g w)) || b) (any-either f g c ws) ∙ go (f w) (g w) c (any_write f ws) (any_write g ws)
-  where
-    go : (a b c x y : Bool) → (a || (c && b)) || (x || (c && y)) ≡ (a || x) || (c && (b || y))
-    go true b c x y = refl
-    go false b false x y = refl
-    go false true true true y = refl
-    go false true true false y = refl
-    go false false true x y = refl
-
-pub reads-hold : (s : Settings) (close : Bool) (at : Place) (ws : List Write) → holds_up s (Rd at.bank at.column close) ws ≡ delays (context_of s) close at ws
-reads-hold s close at ws = ap (λ (b : Bool). two ws || b) (any-either (hits at.bank at.column) (λ w. near (context_of s) at.bank w.bank) close ws)

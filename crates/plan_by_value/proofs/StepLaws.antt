@@ -1,5 +1,6 @@
 -- Each step on a draft in code is that step on the draft which it draws.
 -- Assumes nothing.
+use Rattle.std.specs.Prelude.{None, Some}
 use Prim.Native.Nat.{ℕ, zero, suc, ◌+◌, ◌%◌, ◌≤◌, max}
 use mathlib.Core.Path.{◌≡◌, refl, sym, ◌∙◌, ap}
 use mathlib.Core.Bool.{Bool, true, false, not, ◌&&◌, ◌||◌, cond, or-true, or-false}
@@ -11,7 +12,6 @@ use native.Mathlib.Omega.{arith}
 use Rattle.settings.specs.declared.Settings.{Settings}
 use Rattle.settings.specs.declared.PacketAt.{PacketAt}
 use Rattle.settings.specs.declared.DataAt.{DataAt}
-use Rattle.settings.specs.declared.Arrival.TheVariants.{Late, At}
 use Rattle.settings.specs.Instants.{horizon, arrival}
 use Rattle.packet.specs.declared.RowPacket.TheVariants.{Act, Prer, Refa, Refp}
 use Rattle.packet.specs.declared.ColPacket.TheVariants.{Nocop}
@@ -29,7 +29,7 @@ use Rattle.spec_rules.specs.Earliest.{placed_at}
 use Rattle.spec_rules.proofs.Bools.{not-both, not-fails, and_left, neither, leb-max}
 use Rattle.spec_rules.proofs.EarliestLaws.{moved-instant}
 use Rattle.spec_plan.specs.declared.PlannerState.{PlannerState}
-use Rattle.spec_plan.specs.Plan.{Draft, row_packet, col_packet, when, waiting, state_in, open_on, carried, shifted, slot, leaver, placed_in, sent, flushed, flushed_while, closed, closed_up_to, reached, loaded, turned, planned_wait}
+use Rattle.spec_plan.specs.Plan.{Draft, row_packet, col_packet, when, waiting, state_in, open_on, carried, shifted, slot, leaver, sent, flushed, flushed_while, closed, closed_up_to, reached, loaded, turned, planned_wait}
 use Rattle.spec_plan.specs.Call.{in_time, timely}
 use Rattle.spec_plan.proofs.Timely.{Walked, walked_one, latest-one, latest_of, timely-latest, sent-walked, sent-latest, now-sent}
 use Rattle.plan_by_value.specs.declared.Command.{Command}
@@ -76,11 +76,11 @@ placed-in-range s p t c = rw (moved-instant (context_of s) p.channel (clip t) (c
     go true e = leb-true t horizon e
     go false e = omega arith
 
-pub arrival-in : (n : PacketAt) (d : ℕ) (t : DataAt) → arrival n d ≡ At t → t.0 ≤ horizon
+pub arrival-in : (n : PacketAt) (d : ℕ) (t : DataAt) → arrival n d ≡ Some t → t.0 ≤ horizon
 unfolding arrival
 arrival-in n d t e = go (leb (n.0 + d) horizon) refl e
   where
-    go : (b : Bool) → leb (n.0 + d) horizon ≡ b → cond b (At (record { 0 = n.0 + d })) Late ≡ At t → t.0 ≤ horizon
+    go : (b : Bool) → leb (n.0 + d) horizon ≡ b → cond b (Some (record { 0 = n.0 + d })) None ≡ Some t → t.0 ≤ horizon
     go true h q = let z : t ≡ record { 0 = n.0 + d } = cc in rw z (leb-true (n.0 + d) horizon h)
     go false h q = absurd (let z : ◌≡◌ {A = ℕ} 0 1 = cc in omega arith)
 
@@ -138,13 +138,6 @@ module _ (s : Settings) (from : PlannerState) where
       same : d.planner ≡ e.planner → leb (t + delay_at d.planner r (clip t)) horizon ≡ true
           → (packet_at d.planner (clip t) r ≡ (sent cx r e).planner) × ((sent cx r e).records ≡ e.records ++ (placed_by s d.planner (clip t) r ∷ []))
       same q h = rw (clip-in t _ h, q) (refl, refl)
-
-  -- NOCOPs by the same test
-  pub while-ext : (test other : List Write → Bool) → ((ws : List Write) → test ws ≡ other ws) → (e : Draft) → flushed_while cx test e ≡ flushed_while cx other e
-  unfolding flushed_while
-  while-ext test other same e =
-      let z : Draft = when (other (waiting e)) (flushed cx) e in
-      rw (same (waiting e), same (waiting z))
 
   -- ---- no step undoes lateness
 
@@ -241,12 +234,12 @@ module _ (s : Settings) (from : PlannerState) where
   loaded-grows mask bytes e w = (loaded-walked mask bytes e w, λ h. and_left (timely cx from e) _ (sym (loaded-timely mask bytes e) ∙ h))
 
   -- the data pass the last instant
-  pub draws-unloaded : (d : Drawn) (e : Draft) (mask : ℕ) (bytes : Dualoct) → Draws s from d e → arrival d.planner.now s.cwd ≡ Late
+  pub draws-unloaded : (d : Drawn) (e : Draft) (mask : ℕ) (bytes : Dualoct) → Draws s from d e → arrival d.planner.now s.cwd ≡ None
       → Draws s from (moved_to d d.planner true) (loaded cx mask bytes e)
   unfolding arrival
   draws-unloaded d e mask bytes k a = draws-late s from (moved_to d d.planner true) (loaded cx mask bytes e) (loaded-walked mask bytes e k.walked) (or-true d.late) (go d.late refl)
     where
-      past : (b : Bool) → cond b (At (record { 0 = d.planner.now.0 + s.cwd })) Late ≡ Late → b ≡ false
+      past : (b : Bool) → (let t : DataAt = record { 0 = d.planner.now.0 + s.cwd } in cond b (Some t) None ≡ None) → b ≡ false
       past true h = cc
       past false h = refl
 
@@ -265,12 +258,12 @@ module _ (s : Settings) (from : PlannerState) where
         second = cond (two (waiting_of p.channel.buffer)) mask p.second;
       }
 
-  pub draws-loaded : (d : Drawn) (e : Draft) (mask : ℕ) (bytes : Dualoct) (t : DataAt) → length d.list ≡ 32 → Draws s from d e → arrival d.planner.now s.cwd ≡ At t
+  pub draws-loaded : (d : Drawn) (e : Draft) (mask : ℕ) (bytes : Dualoct) (t : DataAt) → length d.list ≡ 32 → Draws s from d e → arrival d.planner.now s.cwd ≡ Some t
       → Draws s from (added_to d (loaded_at d.planner mask (DataOf t bytes)) (DataOf t bytes) false) (loaded cx mask bytes e)
   unfolding loaded arrival context_of
   draws-loaded d e mask bytes t size k a = draws-added s from d e (loaded cx mask bytes e) _ _ _ size k (loaded-grows mask bytes e) (λ f. (timed f, λ g. same (k.planner f)))
     where
-      found : (b : Bool) → leb (d.planner.now.0 + s.cwd) horizon ≡ b → cond b (At (record { 0 = d.planner.now.0 + s.cwd })) Late ≡ At t
+      found : (b : Bool) → leb (d.planner.now.0 + s.cwd) horizon ≡ b → cond b (Some (record { 0 = d.planner.now.0 + s.cwd })) None ≡ Some t
           → (leb (d.planner.now.0 + s.cwd) horizon ≡ true) × (t ≡ record { 0 = d.planner.now.0 + s.cwd })
       found true h q = (h, cc)
       found false h q = not-both false (cc) refl

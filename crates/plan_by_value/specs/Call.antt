@@ -1,19 +1,18 @@
 -- A plan call by value, on any settings and any state of a planner.
 -- Assumes nothing.
-use Rattle.std.specs.Prelude.{ℕ, ◌&&◌, cond, List, length}
+use Rattle.std.specs.Prelude.{ℕ, ◌&&◌, cond, List, length, Err, Result}
 use Rattle.settings.specs.declared.Settings.{Settings}
 use Rattle.settings.specs.Settings.{valid}
 use Rattle.record.specs.declared.Refusal.TheVariants.{Settings as OutOfRange}
 use Rattle.spec_rules.specs.Neighbour.{context_of}
 use Rattle.spec_plan.specs.declared.PlannerState.{PlannerState}
-use Rattle.spec_plan.specs.declared.Outcome.{Outcome}
-use Rattle.spec_plan.specs.declared.Outcome.TheVariants.{Refused}
 use Rattle.spec_plan.specs.Planner.{planner_valid}
 use Rattle.spec_plan.specs.Call.{plan_outcome, plan_next, plan_room}
+use Rattle.record.specs.declared.Refusal.{Refusal}
 
 -- what a call hands back: its answer, the planner that goes on, and the bytes of the lent buffer
 pub record Planning : Type 0 where
-  pub outcome : Outcome
+  pub outcome : Result ℕ Refusal
   pub planner : PlannerState
   pub room : List ℕ
 
@@ -27,4 +26,4 @@ planning s p request room =
       planner = plan_next (context_of s) p request (length room);
       room = plan_room (context_of s) p request room;
     })
-    (record { outcome = Refused OutOfRange; planner = p; room = room })
+    (record { outcome = Err OutOfRange; planner = p; room = room })

@@ -1,3 +1,4 @@
 pub mod Answered
 pub mod Drawn
 pub mod Tested
+pub mod Told

@@ -1,63 +1,66 @@
 // What the steps ask of a planner.
-ghost use Rattle.std.specs.Prelude.{◌≡◌, not, ◌&&◌};
+ghost use Rattle.std.specs.Prelude.{◌≡◌, Bool, true, not};
+ghost use Rattle.spec_rules.specs.declared.Write.{Write as WriteOf};
 ghost use Rattle.spec_rules.specs.Neighbour.{context_of};
-ghost use Rattle.spec_rules.specs.History.{is_closed, two};
+ghost use Rattle.spec_rules.specs.History.{is_closed, any_write, two};
 ghost use Rattle.spec_rules.specs.Rules.{implied_delay};
 ghost use Rattle.spec_rules.specs.Channel.{track_of, state_of, waiting_of, leaving_of};
-ghost use Rattle.spec_plan.specs.Plan.{carried, shifted, open_on};
+ghost use Rattle.spec_plan.specs.Plan.{carried, shifted, open_on, loses, delays};
 ghost use Rattle.spec_plan.specs.Call.{unretired};
-ghost use Rattle.plan_by_value.specs.Form.Drawn.{concerns, reads, holds_up, bank_in};
+ghost use Rattle.plan_by_value.specs.Form.Told.{Tells};
 
-use crate::{Banks, Before};
 use chan_step::retires;
 use chan_view::banks::{is_closed, slot_of, track_of};
 use chan_view::neighbours::is_near;
 use chan_view::views::held_of;
 use packet::FULL;
-use record::{Record, Request};
+use record::{Place, Record, Request};
 use settings::Settings;
 use spec_plan::PlannerState;
 use spec_rules::{Bank, BankTrack, Buffer, Write};
 
-// Whether a waiting write concerns what is sent next.
-fn concerns(s: Settings, next: Before, w: Write) -> bool
-    ensures { result ≡ concerns s next w }
+// Whether a write waits that passes a test.
+fn any_write<F: Fn(Write) -> bool>(b: Buffer, test: F) -> bool
+    requires { F.IsAlwaysCallable test }
+    ensures { (asks : WriteOf → Bool) → Tells (F.post test) asks → result ≡ any_write asks (waiting_of b) }
 {
-    match next {
-        Before::Prer(x) => is_near(s, x, w.bank),
-        Before::Rd(bank, column, close) => ((w.bank == bank) & (w.column == column))
-            | (close & is_near(s, bank, w.bank)),
-        Before::Flush => true,
-        Before::WriteEnd => w.close,
-    }
-}
-
-fn reads(next: Before) -> bool
-    ensures { result ≡ reads next }
-{
-    match next {
-        Before::Prer(_) => false,
-        Before::Rd(_, _, _) => true,
-        Before::Flush => false,
-        Before::WriteEnd => false,
-    }
-}
-
-// Whether the writes that wait ask for a NOCOP first.
-pub(crate) fn holds_up(s: Settings, next: Before, p: PlannerState) -> bool
-    ensures { result ≡ holds_up s next (waiting_of p.channel.buffer) }
-{
-    let ch = p.channel;
-    let b = ch.buffer;
     match b {
         Buffer::Empty => false,
-        Buffer::One(w) => concerns(s, next, w),
-        Buffer::Two(x, y) => reads(next) | (concerns(s, next, x) | concerns(s, next, y)),
+        Buffer::One(w) => test(w),
+        Buffer::Two(x, y) => test(x) | test(y),
     }
+}
+
+pub(crate) fn waits(b: Buffer) -> bool
+    ensures { result ≡ any_write (λ w. true) (waiting_of b) }
+{
+    any_write(b, |_| true)
+}
+
+// Whether a WRA waits.
+pub(crate) fn closing(b: Buffer) -> bool
+    ensures { result ≡ any_write (λ w. w.close) (waiting_of b) }
+{
+    any_write(b, |w| w.close)
+}
+
+// Whether a PRER to a bank would lose a waiting write.
+pub(crate) fn loses(s: Settings, x: u32, b: Buffer) -> bool
+    ensures { result ≡ loses (context_of s) x (waiting_of b) }
+{
+    any_write(b, move |w| is_near(s, x, w.bank))
+}
+
+// Whether an RD or RDA must not come yet.
+pub(crate) fn delays(s: Settings, close: bool, at: Place, b: Buffer) -> bool
+    ensures { result ≡ delays (context_of s) close at (waiting_of b) }
+{
+    let hit = any_write(b, move |w| (w.bank == at.bank) & (w.column == at.column));
+    two(b) | (hit | (close & loses(s, at.bank, b)))
 }
 
 // Whether a request is a close while a write waits.
-pub(crate) fn unretired(s: Settings, q: Request, p: PlannerState) -> bool
+pub(crate) fn unretired(q: Request, p: PlannerState) -> bool
     ensures { result ≡ unretired q p }
 {
     match q {
@@ -66,16 +69,14 @@ pub(crate) fn unretired(s: Settings, q: Request, p: PlannerState) -> bool
         Request::Refresh => false,
         Request::Wait(_) => false,
         Request::Flush => false,
-        Request::Close => holds_up(s, Before::Flush, p),
+        Request::Close => waits(p.channel.buffer),
     }
 }
 
 // Whether two writes wait.
-pub(crate) fn two_wait(p: PlannerState) -> bool
-    ensures { result ≡ two (waiting_of p.channel.buffer) }
+pub(crate) fn two(b: Buffer) -> bool
+    ensures { result ≡ two (waiting_of b) }
 {
-    let ch = p.channel;
-    let b = ch.buffer;
     match b {
         Buffer::Empty => false,
         Buffer::One(_) => false,
@@ -128,20 +129,11 @@ fn track_in(p: PlannerState, x: u32) -> BankTrack
     track_of(x, ch.banks[i])
 }
 
-fn among(s: Settings, banks: Banks, x: u32) -> bool
-    ensures { result ≡ bank_in s banks x }
+// Whether a bank is not closed.
+pub(crate) fn not_closed(p: PlannerState, x: u32) -> bool
+    ensures { result ≡ not (is_closed (state_of p.channel x)) }
 {
-    match banks {
-        Banks::Near(b) => is_near(s, b, x),
-        Banks::All => true,
-    }
-}
-
-// Whether a bank is one to close and is not closed.
-pub(crate) fn to_close(s: Settings, banks: Banks, x: u32, p: PlannerState) -> bool
-    ensures { result ≡ (bank_in s banks x && not (is_closed (state_of p.channel x))) }
-{
-    among(s, banks, x) & !is_closed(track_in(p, x))
+    !is_closed(track_in(p, x))
 }
 
 fn open_row(b: Bank, row: u32) -> bool

@@ -92,9 +92,9 @@ pub(crate) fn waited(cycles: u32, d: Draft) -> Draft
     ensures { (s : SettingsOf) (p : PlannerOf) (e : DraftOf) → Draws s p d e → Draws s p result (planned_wait (context_of s) cycles e) }
 {
     let p = d.planner;
-    let slot = num::wide32(p.now.0);
+    let slot = u64::from(p.now.0);
     let planner = PlannerState {
-        now: clipped(slot + num::wide32(cycles)),
+        now: clipped(slot + u64::from(cycles)),
         ..p
     };
     moved(d, planner, is_late(slot, cycles))

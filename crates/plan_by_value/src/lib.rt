@@ -17,31 +17,13 @@ ghost use Rattle.plan_by_value.specs.Call.{planning};
 use packet::{ColPacket, RowPacket};
 use record::{Record, Refusal};
 use settings::{PacketAt, Settings};
-use spec_plan::{Outcome, PlannerState};
+use spec_plan::PlannerState;
 
 // A ROW or COL packet that has no instant and no mask yet; a full mask stands for none.
 #[derive(Clone, Copy)]
 pub(crate) enum Command {
     Row(RowPacket),
     Col(ColPacket),
-}
-
-// What NOCOPs are sent before: a PRER to a bank, which writes near it concern; an RD or RDA of a bank and column, which a write of these
-// concerns, two writes of any, and an RDA also writes near the bank; the end of a flush, which every write concerns; or the end of a
-// closing write, which a WRA that waits concerns.
-#[derive(Clone, Copy)]
-pub(crate) enum Before {
-    Prer(u32),
-    Rd(u32, u32, bool),
-    Flush,
-    WriteEnd,
-}
-
-// Which banks are closed: those near a bank, or all.
-#[derive(Clone, Copy)]
-pub(crate) enum Banks {
-    Near(u32),
-    All,
 }
 
 // A record of a draft.
@@ -51,7 +33,8 @@ pub(crate) struct Entry {
 }
 
 // A planner with the records that it has made for a request so far: the first count of the list. Late: the instant of a packet
-// or of its data, or now, passed the last one; then the rest says nothing.
+// or of its data, or now, passed the last one; then the rest says nothing. A flag and no `Result`: the definition's steps go on from a
+// late draft too, and each step here says only what one of those does.
 #[derive(Clone, Copy)]
 pub(crate) struct Draft {
     pub planner: PlannerState,
@@ -70,7 +53,7 @@ pub struct Planner {
 #[derive(Clone, Copy)]
 pub struct Planned {
     pub planner: Planner,
-    pub outcome: Outcome,
+    pub outcome: Result<u64, Refusal>,
 }
 
 impl Planner {

@@ -71,18 +71,11 @@ pub(crate) fn placed_in(s: Settings, p: PlannerState, at: PacketAt, c: Command) 
     record_at(at, under_mask(mask, c))
 }
 
-// The longer of two delays.
-pub(crate) fn longer(a: u32, b: u32) -> u32
-    ensures { result ≡ max a b }
-{
-    if a < b { b } else { a }
-}
-
 // The data of an RD, and the PRER that an RDA implies.
 fn read_delay(s: Settings, close: bool) -> u32
     ensures { result ≡ cond close (max s.cac s.offp) s.cac }
 {
-    if close { longer(s.cac, s.offp) } else { s.cac }
+    if close { s.cac.max(s.offp) } else { s.cac }
 }
 
 fn col_delay(s: Settings, p: ColPacket) -> u32
@@ -112,7 +105,7 @@ pub(crate) fn is_late(slot: u64, delay: u32) -> bool
     if HORIZON_WIDE < slot {
         return true;
     }
-    HORIZON_WIDE < slot + num::wide32(delay)
+    HORIZON_WIDE < slot + u64::from(delay)
 }
 
 // A slot, or the last instant where it would pass that.

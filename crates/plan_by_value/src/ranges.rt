@@ -3,12 +3,13 @@ ghost use Rattle.std.specs.Prelude.{◌≡◌, true};
 ghost use Rattle.num.specs.Search.{all_up_to};
 ghost use Rattle.settings.specs.Instants.{is_instant};
 ghost use Rattle.spec_rules.specs.Neighbour.{bank_count, context_of};
-ghost use Rattle.spec_rules.specs.History.{is_open, any_write, all_writes};
+ghost use Rattle.spec_rules.specs.History.{is_open, all_writes};
 ghost use Rattle.spec_rules.specs.Channel.{track_of, state_of, waiting_of};
 ghost use Rattle.spec_state.specs.Valid.{is_stamp, bank_valid, track_valid, write_valid, lasts_valid, apart, channel_valid};
 ghost use Rattle.spec_plan.specs.Planner.{not_refresh, planner_valid};
 ghost use Rattle.plan_by_value.specs.Form.Tested.{low_apart};
 
+use crate::asks::{closing, waits};
 use chan_view::banks::{is_closed, is_open, slot_of, track_of};
 use chan_view::neighbours::low_of;
 use settings::{HORIZON, PacketAt, Settings};
@@ -50,11 +51,9 @@ fn tracks_valid(s: Settings, ch: Channel) -> bool
     ensures { result ≡ all_up_to (λ x. track_valid (context_of s) (track_of ch x)) bank_count }
 {
     let mut right = true;
-    let mut x = 0;
-    while x < 32 {
+    for x in 0..32 {
         let t = ch.banks[x];
         right = right & track_valid(s, t);
-        x += 1;
     }
     right
 }
@@ -100,10 +99,8 @@ fn apart(s: Settings, ch: Channel) -> bool
     ensures { result ≡ apart (context_of s) (state_of ch) }
 {
     let mut right = true;
-    let mut x: u32 = 0;
-    while x < 32 {
+    for x in 0..32 {
         right = right & low_apart(s, ch, x);
-        x += 1;
     }
     right
 }
@@ -124,27 +121,6 @@ fn writes_open(ch: Channel) -> bool
         Buffer::Empty => true,
         Buffer::One(w) => write_open(ch, w),
         Buffer::Two(x, y) => write_open(ch, x) & write_open(ch, y),
-    }
-}
-
-fn waits(b: Buffer) -> bool
-    ensures { result ≡ any_write (λ w. true) (waiting_of b) }
-{
-    match b {
-        Buffer::Empty => false,
-        Buffer::One(_) => true,
-        Buffer::Two(_, _) => true,
-    }
-}
-
-// Whether a WRA waits.
-fn closing(b: Buffer) -> bool
-    ensures { result ≡ any_write (λ w. w.close) (waiting_of b) }
-{
-    match b {
-        Buffer::Empty => false,
-        Buffer::One(w) => w.close,
-        Buffer::Two(x, y) => x.close | y.close,
     }
 }
 
@@ -172,11 +148,9 @@ fn none_refreshed(ch: Channel) -> bool
     ensures { result ≡ all_up_to (λ x. not_refresh (state_of ch x)) bank_count }
 {
     let mut right = true;
-    let mut x = 0;
-    while x < 32 {
+    for x in 0..32 {
         let t = ch.banks[x];
         right = right & not_refresh(t);
-        x += 1;
     }
     right
 }

@@ -12,11 +12,9 @@ pub(crate) fn put_list(s: Settings, room: &mut [u8], list: [Entry; 32], n: usize
     requires { (n ≤ 32) × (32 * n ≤ length room.old) × (s.device < 32) }
     ensures { room.new ≡ splice room.old 0 (list_bytes s (records_of list n)) }
 {
-    let mut i = 0;
-    while i < n {
+    for i in 0..n {
         let e = list[i];
         let r = e.made;
         record_bytes::put_record(s, room, 32 * i, r);
-        i += 1;
     }
 }

@@ -1,21 +1,28 @@
 // The steps of the plan's definition (spec_plan/specs/Plan.antt).
-ghost use Rattle.std.specs.Prelude.{◌≡◌, true, cond, ◌≤◌, leb};
+ghost use Rattle.std.specs.Prelude.{◌≡◌, ℕ, Bool, true, ◌≤◌, ◌<◌, List, leb};
 ghost use Rattle.settings.specs.Instants.{horizon};
+ghost use Rattle.spec_rules.specs.declared.Write.{Write as WriteOf};
 ghost use Rattle.spec_rules.specs.Neighbour.{bank_count, context_of};
+ghost use Rattle.spec_rules.specs.Channel.{waiting_of};
 ghost use Rattle.spec_plan.specs.declared.PlannerState.{PlannerState as PlannerOf};
 ghost use Rattle.spec_plan.specs.Plan.{Draft as DraftOf, when, waiting, sent, flushed, flushed_while, closed, closed_up_to, reached, planned_read, loaded, written, planned_write, planned_refresh, planned_flush, planned_close, planned};
-ghost use Rattle.plan_by_value.specs.Form.Drawn.{packet_of, holds_up, bank_in, Draws};
+ghost use Rattle.plan_by_value.specs.Form.Drawn.{packet_of, Draws};
+ghost use Rattle.plan_by_value.specs.Form.Told.{Tells};
 
-use crate::asks::{holds_up, implied_delay, open_on, shifted, to_close, two_wait};
+use crate::asks::{
+    closing, delays, implied_delay, loses, not_closed, open_on, shifted, two, waits,
+};
 use crate::drafts::{added, moved, start, turned, waited};
-use crate::packets::{clipped, data_delay, is_late, longer, placed_in, record_at};
-use crate::{Banks, Before, Command, Draft};
+use crate::packets::{clipped, data_delay, is_late, placed_in, record_at};
+use crate::{Command, Draft};
 use chan_least::least_from;
 use chan_step::after;
+use chan_view::neighbours::is_near;
 use packet::{ColPacket, FULL, RowPacket};
 use record::{Dualoct, Place, Record, Request};
-use settings::{Arrival, PacketAt, Settings};
+use settings::{PacketAt, Settings};
 use spec_plan::PlannerState;
+use spec_rules::Buffer;
 
 // A packet sent at its least instant, under the mask of the write that it retires.
 fn sent(s: Settings, c: Command, d: Draft) -> Draft
@@ -34,7 +41,7 @@ fn sent(s: Settings, c: Command, d: Draft) -> Draft
         mask: shifted(s, p, record_at(at, c)),
         ..p
     };
-    let delay = longer(data_delay(s, c), implied_delay(s, p, record_at(at, c)));
+    let delay = data_delay(s, c).max(implied_delay(s, p, record_at(at, c)));
     added(d, planner, q, is_late(slot, delay))
 }
 
@@ -46,24 +53,27 @@ fn flushed(s: Settings, d: Draft) -> Draft
     sent(s, Command::Col(ColPacket::Nocop { mask: FULL }), d)
 }
 
-// NOCOP where the waiting writes ask for one.
-fn flushed_if(s: Settings, next: Before, d: Draft) -> Draft
-    requires { s.offp ≤ 32 }
-    ensures { (p : PlannerOf) (e : DraftOf) → Draws s p d e → Draws s p result (when (holds_up s next (waiting e)) (flushed (context_of s)) e) }
+// NOCOP where a test of the buffer passes.
+fn flushed_if<F: Fn(Buffer) -> bool>(s: Settings, test: F, d: Draft) -> Draft
+    requires offp_bound { s.offp ≤ 32 }
+    requires callable { F.IsAlwaysCallable test }
+    ensures { (asks : List WriteOf → Bool) → Tells (F.post test) (λ b. asks (waiting_of b)) → (p : PlannerOf) (e : DraftOf) → Draws s p d e → Draws s p result (when (asks (waiting e)) (flushed (context_of s)) e) }
 {
     let p = d.planner;
-    if holds_up(s, next, p) {
+    let ch = p.channel;
+    if test(ch.buffer) {
         return flushed(s, d);
     }
     d
 }
 
-// NOCOP while the waiting writes ask for one; two wait at most.
-fn flushed_while(s: Settings, next: Before, d: Draft) -> Draft
-    requires { s.offp ≤ 32 }
-    ensures { (p : PlannerOf) (e : DraftOf) → Draws s p d e → Draws s p result (flushed_while (context_of s) (holds_up s next) e) }
+// NOCOP while the test passes; two writes wait at most.
+fn flushed_while<F: Fn(Buffer) -> bool + Copy>(s: Settings, test: F, d: Draft) -> Draft
+    requires offp_bound { s.offp ≤ 32 }
+    requires callable { F.IsAlwaysCallable test }
+    ensures { (asks : List WriteOf → Bool) → Tells (F.post test) (λ b. asks (waiting_of b)) → (p : PlannerOf) (e : DraftOf) → Draws s p d e → Draws s p result (flushed_while (context_of s) asks e) }
 {
-    flushed_if(s, next, flushed_if(s, next, d))
+    flushed_if(s, test, flushed_if(s, test, d))
 }
 
 // PRER; first NOCOP until no write waits in a bank that it closes.
@@ -71,23 +81,22 @@ fn closed(s: Settings, x: u32, d: Draft) -> Draft
     requires { s.offp ≤ 32 }
     ensures { (p : PlannerOf) (e : DraftOf) → Draws s p d e → Draws s p result (closed (context_of s) x e) }
 {
-    let z = flushed_while(s, Before::Prer(x), d);
+    let z = flushed_while(s, move |b| loses(s, x, b), d);
     sent(s, Command::Row(RowPacket::Prer { bank: x }), z)
 }
 
-// Of these banks, the open ones in rising order.
-fn closed_up_to(s: Settings, banks: Banks, d: Draft) -> Draft
-    requires { s.offp ≤ 32 }
-    ensures { (p : PlannerOf) (e : DraftOf) → Draws s p d e → Draws s p result (closed_up_to (context_of s) (bank_in s banks) bank_count e) }
+// Of the banks that a test picks, the open ones in rising order.
+fn closed_up_to<F: Fn(u32) -> bool>(s: Settings, banks: F, d: Draft) -> Draft
+    requires offp_bound { s.offp ≤ 32 }
+    requires callable { F.IsAlwaysCallable banks }
+    ensures { (pick : ℕ → Bool) → Tells (λ x r. (x < 32) × F.post banks x r) pick → (p : PlannerOf) (e : DraftOf) → Draws s p d e → Draws s p result (closed_up_to (context_of s) pick bank_count e) }
 {
     let mut z = d;
-    let mut x: u32 = 0;
-    while x < 32 {
+    for x in 0..32 {
         let p = z.planner;
-        if to_close(s, banks, x, p) {
+        if banks(x) & not_closed(p, x) {
             z = closed(s, x, z);
         }
-        x += 1;
     }
     z
 }
@@ -101,7 +110,7 @@ fn reached(s: Settings, bank: u32, row: u32, d: Draft) -> Draft
     if open_on(p, bank, row) {
         return d;
     }
-    let z = closed_up_to(s, Banks::Near(bank), d);
+    let z = closed_up_to(s, move |x| is_near(s, bank, x), d);
     sent(s, Command::Row(RowPacket::Act { bank, row }), z)
 }
 
@@ -111,7 +120,7 @@ fn planned_read(s: Settings, close: bool, at: Place, d: Draft) -> Draft
     ensures { (p : PlannerOf) (e : DraftOf) → Draws s p d e → Draws s p result (planned_read (context_of s) close at e) }
 {
     let y = reached(s, at.bank, at.row, d);
-    let z = flushed_while(s, Before::Rd(at.bank, at.column, close), y);
+    let z = flushed_while(s, move |b| delays(s, close, at, b), y);
     let rd = ColPacket::Rd {
         bank: at.bank,
         column: at.column,
@@ -121,28 +130,22 @@ fn planned_read(s: Settings, close: bool, at: Place, d: Draft) -> Draft
     sent(s, Command::Col(rd), z)
 }
 
-fn pick(test: bool, yes: u32, no: u32) -> u32
-    ensures { result ≡ cond test yes no }
-{
-    if test { yes } else { no }
-}
-
 // D after a WR, which now waits with its own mask, beside an older write or alone.
 fn loaded(s: Settings, mask: u32, bytes: Dualoct, d: Draft) -> Draft
     requires { s.offp ≤ 32 }
     ensures { (p : PlannerOf) (e : DraftOf) → Draws s p d e → Draws s p result (loaded (context_of s) mask bytes e) }
 {
     let p = d.planner;
-    let Arrival::At(t) = settings::instants::write_arrival(s, p.now) else {
+    let Some(t) = settings::instants::write_arrival(s, p.now) else {
         return moved(d, p, true);
     };
     let q = Record::DataOf(t, bytes);
     let ch = p.channel;
-    let beside = two_wait(p);
+    let beside = two(ch.buffer);
     let planner = PlannerState {
         channel: after(s, ch, q),
-        mask: pick(beside, p.mask, mask),
-        second: pick(beside, mask, p.second),
+        mask: if beside { p.mask } else { mask },
+        second: if beside { mask } else { p.second },
         ..p
     };
     added(d, planner, q, false)
@@ -168,7 +171,7 @@ fn planned_write(s: Settings, close: bool, at: Place, mask: u32, bytes: Dualoct,
     ensures { (p : PlannerOf) (e : DraftOf) → Draws s p d e → Draws s p result (planned_write (context_of s) close at mask bytes e) }
 {
     let z = written(s, close, at, mask, bytes, reached(s, at.bank, at.row, d));
-    flushed_while(s, Before::WriteEnd, z)
+    flushed_while(s, |b| closing(b), z)
 }
 
 // Close as above, REFA, REFP, next bank modulo 32.
@@ -177,7 +180,7 @@ fn planned_refresh(s: Settings, d: Draft) -> Draft
     ensures { (p : PlannerOf) (e : DraftOf) → Draws s p d e → Draws s p result (planned_refresh (context_of s) e) }
 {
     let bank = d.planner.refresh;
-    let y = closed_up_to(s, Banks::Near(bank), d);
+    let y = closed_up_to(s, move |x| is_near(s, bank, x), d);
     let z = sent(s, Command::Row(RowPacket::Refa { bank }), y);
     turned(sent(s, Command::Row(RowPacket::Refp { bank }), z))
 }
@@ -187,7 +190,7 @@ fn planned_flush(s: Settings, d: Draft) -> Draft
     requires { s.offp ≤ 32 }
     ensures { (p : PlannerOf) (e : DraftOf) → Draws s p d e → Draws s p result (planned_flush (context_of s) e) }
 {
-    flushed_while(s, Before::Flush, d)
+    flushed_while(s, |b| waits(b), d)
 }
 
 // PRER to each open bank in rising order.
@@ -195,7 +198,7 @@ fn planned_close(s: Settings, d: Draft) -> Draft
     requires { s.offp ≤ 32 }
     ensures { (p : PlannerOf) (e : DraftOf) → Draws s p d e → Draws s p result (planned_close (context_of s) e) }
 {
-    closed_up_to(s, Banks::All, d)
+    closed_up_to(s, |_| true, d)
 }
 
 // What a request makes of a planner, with its records.

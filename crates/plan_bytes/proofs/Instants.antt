@@ -1,10 +1,10 @@
 -- Stored instants: the instant that a stored number says goes through the later of two and through a distance.
 -- Assumes nothing.
+use Rattle.std.specs.Prelude.{Option, None}
 use Prim.Native.Nat.{ℕ, ◌+◌, ◌-◌, ◌≤◌, max}
 use mathlib.Core.Path.{◌≡◌, refl, ap, ◌∙◌}
 use mathlib.Core.Bool.{false}
 use mathlib.Core.List.{List, [], ◌∷◌}
-use mathlib.Core.Option.{Option, none}
 use native.Mathlib.Omega.{arith}
 use Rattle.record.specs.declared.Record.{Record}
 use Rattle.spec_rules.specs.declared.Write.{Write}
@@ -54,7 +54,7 @@ pub floored : (p : PlannerState) → 4 ≤ p.now.0 → (base k : ℕ)
 floored p low base k = rw (since_none p.channel.lasts.packet.0) (floor p.now.0 p.channel.lasts.packet.0 base k low)
 
 -- a packet that implies no PRER is asked for itself alone
-pub own-earliest : (cx : Context) (ch : Channel) (r : Record) → (traits r).implies ≡ none → earliest cx ch r ≡ max 4 (bounds cx ch (traits r))
+pub own-earliest : (cx : Context) (ch : Channel) (r : Record) → (traits r).implies ≡ None → earliest cx ch r ≡ max 4 (bounds cx ch (traits r))
 unfolding earliest
 own-earliest cx ch r e = ap (λ (o : Option ℕ). max 4 (max (bounds cx ch (traits r)) (bound_implied cx ch r o - cx.settings.offp))) e ∙ go (bounds cx ch (traits r)) cx.settings.offp
   where
@@ -63,10 +63,10 @@ own-earliest cx ch r e = ap (λ (o : Option ℕ). max 4 (max (bounds cx ch (trai
 
 -- what the table asks tOFFP after a packet that has an instant
 pub said-less : (a v n g : ℕ) → 1 ≤ v → instant_of v ≡ n → instant_of (max v (a - g)) ≡ max n (instant_of a - g)
-said-less a v n g l e = rw (← e, said-max v (a - g), said-some v l) (either-instant (λ a. max (v + 3) (instant_of (a - g)) ≡ max (v + 3) (instant_of a - g)) a (none g) (some-a a))
+said-less a v n g l e = rw (← e, said-max v (a - g), said-some v l) (either-instant (λ a. max (v + 3) (instant_of (a - g)) ≡ max (v + 3) (instant_of a - g)) a (None g) (some-a a))
   where
-    none : (g : ℕ) → max (v + 3) (instant_of (0 - g)) ≡ max (v + 3) (instant_of 0 - g)
-    none g = let z : 0 - g ≡ 0 = omega arith in rw z refl
+    None : (g : ℕ) → max (v + 3) (instant_of (0 - g)) ≡ max (v + 3) (instant_of 0 - g)
+    None g = let z : 0 - g ≡ 0 = omega arith in rw z refl
 
     some-a : (a : ℕ) → 1 ≤ a → max (v + 3) (instant_of (a - g)) ≡ max (v + 3) (instant_of a - g)
     some-a a m = rw (said-some a m) (either-instant (λ z. a - g ≡ z → max (v + 3) (instant_of z) ≡ max (v + 3) (a + 3 - g)) (a - g) (λ q. omega (arith, q)) (λ o q. rw (said-some (a - g) o) (omega arith)) refl)

@@ -1,10 +1,10 @@
 -- No instant of a state is above a top: a record at most at a later one keeps that, and every packet stands at most 64 after it.
 -- Assumes nothing.
+use Rattle.std.specs.Prelude.{Option, None, Some}
 use Prim.Native.Nat.{ℕ, ◌+◌, ◌-◌, ◌<◌, ◌≤◌, max}
 use mathlib.Core.Path.{◌≡◌}
 use mathlib.Core.Bool.{Bool, true, false, not, ◌&&◌, ◌||◌, cond}
 use mathlib.Core.List.{List, [], ◌∷◌}
-use mathlib.Core.Option.{Option, none, some}
 use native.Mathlib.Omega.{arith}
 use lib.Dec.{eqb, leb}
 use Rattle.settings.specs.declared.Settings.{Settings}
@@ -14,10 +14,10 @@ use Rattle.record.specs.declared.Record.{Record}
 use Rattle.spec_rules.specs.declared.Write.{Write}
 use Rattle.spec_rules.specs.declared.Channel.{Channel}
 use Rattle.spec_rules.specs.Neighbour.{bank_count, Context, near}
-use Rattle.spec_rules.specs.Packets.{Traits, traits, retire_traits, implied_traits, instant}
+use Rattle.spec_rules.specs.Packets.{Traits, traits, retire_traits, implied_traits}
 use Rattle.spec_rules.specs.History.{only, retire_implies}
 use Rattle.spec_rules.specs.Distances.{Kind, packet, ROW, COL, ACT, only_act, PRER, RD, WR, retire, implied, bank_as, Banks, any, same, same_or_neighbour, others, same_neighbour_or_closed, Distance, distances}
-use Rattle.spec_rules.specs.Channel.{track_of, waiting_of, after}
+use Rattle.spec_rules.specs.Channel.{track_of, waiting_of}
 use Rattle.spec_rules.specs.Checks.{asks, bound_of, max_line, last_on, last_at, bound_banks, bound_by, bound, bounds}
 use Rattle.spec_rules.specs.Earliest.{earliest, bound_implied, may_stay, retire_bound, slot_from, least_from}
 use Rattle.spec_state.proofs.EachInstant.{WritesAll, All, all_more}
@@ -81,7 +81,7 @@ module _ (cx : Context) (ch : Channel) (top : ℕ) (k : Under top ch) where
   banks-top : (counts : ℕ → ℕ → Bool) (a : Kind) (g b : ℕ) → g ≤ 64 → bound_banks cx ch counts a g b ≤ top + 64
   banks-top counts a g b l = max-top _ bank_count (top + 64) (λ x m. go (counts b x) (last_at (track_of ch x) a) (at_top a x m))
     where
-      go : (q : Bool) (t : ℕ) → t ≤ top → asks (only q (some g)) t ≤ top + 64
+      go : (q : Bool) (t : ℕ) → t ≤ top → asks (only q (Some g)) t ≤ top + 64
       go true t h = since-top t g top h l
       go false t h = omega arith
 
@@ -96,8 +96,8 @@ module _ (cx : Context) (ch : Channel) (top : ℕ) (k : Under top ch) where
   bound-top d t l = go (bank_as d.later t)
     where
       go : (o : Option ℕ) → bound_of o (bound_by cx ch d.banks d.earlier d.cycles) ≤ top + 64
-      go none = omega arith
-      go (some b) = by-top d.banks d.earlier d.cycles b l
+      go None = omega arith
+      go (Some b) = by-top d.banks d.earlier d.cycles b l
 
   lines-top : (l : List Distance) (t : Traits) → Lines l → max_line (λ d. bound cx ch d t) l ≤ top + 64
   unfolding Lines
@@ -109,8 +109,8 @@ module _ (cx : Context) (ch : Channel) (top : ℕ) (k : Under top ch) where
   bounds-top v t = lines-top (distances cx.settings) t (lines cx.settings v)
 
   implied-top : valid cx.settings ≡ true → (r : Record) (o : Option ℕ) → bound_implied cx ch r o ≤ top + 64
-  implied-top v r none = omega arith
-  implied-top v r (some b) = bounds-top v (implied_traits b)
+  implied-top v r None = omega arith
+  implied-top v r (Some b) = bounds-top v (implied_traits b)
 
   -- every packet
   pub least-top : valid cx.settings ≡ true → (r : Record) (now : ℕ) → now ≤ top → least_from cx ch r now ≤ top + 64
@@ -132,7 +132,7 @@ module _ (cx : Context) (ch : Channel) (top : ℕ) (k : Under top ch) where
       either : (w : Write) → w.at.0 ≤ top → (q : Bool) → cond q (max t0 (retire_bound cx ch r w)) t0 ≤ top + 64
       either w e true =
           let late : w.at.0 + cx.settings.rtr ≤ top + 64 = omega (arith, (timing-range cx.settings v 6 (omega arith)).1) in
-          most _ _ (top + 64) base (most _ _ (top + 64) late (most _ _ (top + 64) (bounds-top v (retire_traits w.bank)) (less _ cx.settings.offp (top + 64) (implied-top v r (retire_implies (some w))))))
+          most _ _ (top + 64) base (most _ _ (top + 64) late (most _ _ (top + 64) (bounds-top v (retire_traits w.bank)) (less _ cx.settings.offp (top + 64) (implied-top v r (retire_implies (Some w))))))
       either w e false = base
 
       go : (ws : List Write) → WritesAll (λ t. t ≤ top) ws → slot_from cx ch r t0 ws ≤ top + 64

@@ -3,7 +3,7 @@
 
 pub mod calm;
 
-ghost use Rattle.std.specs.Prelude.{◌≡◌, ◌+◌, ◌<◌, ◌≤◌, max, ◌^◌, length};
+ghost use Rattle.std.specs.Prelude.{◌≡◌, ◌+◌, ◌<◌, ◌≤◌, ◌^◌, length};
 ghost use Rattle.num.specs.Bytes.{splice};
 ghost use Rattle.record.specs.Record.{record_fields};
 ghost use Rattle.spec_rules.specs.Checks.{since};
@@ -14,13 +14,14 @@ use num::put::{put_u32, put_u64};
 use num::u32_at;
 use record::Dualoct;
 use settings::{DataAt, PacketAt};
+use spec_plan::PlannerBytes;
 
 // The stored instant at a place.
 pub fn stored(b: &[u8], at: usize) -> u64
     requires { at + 4 ≤ length b.now }
     ensures { result ≡ word b.now at }
 {
-    num::wide32(u32_at(b, at))
+    u64::from(u32_at(b, at))
 }
 
 // What the instant at a place and a distance ask; none asks nothing.
@@ -31,43 +32,32 @@ pub fn after(b: &[u8], at: usize, gap: u32) -> u64
     after_gap(PacketAt(u32_at(b, at)), gap)
 }
 
-// The later of two.
-pub fn latest(a: u32, b: u32) -> u32
-    ensures { result ≡ max a b }
-{
-    if a < b { b } else { a }
-}
-
 // Whether a write waits.
-pub fn waits(b: &[u8]) -> bool
-    requires { length b.now ≡ 768 }
+pub fn waits(b: &PlannerBytes) -> bool
     ensures { result ≡ waits_in b.now }
 {
-    num::wide(b[728]) != 0
+    b[728] != 0
 }
 
 // The bank of the older one.
-pub fn held_bank(b: &[u8]) -> u32
-    requires { length b.now ≡ 768 }
+pub fn held_bank(b: &PlannerBytes) -> u32
     ensures { (result ≡ held_bank b.now) × (result < 256) }
 {
-    num::wide(b[736])
+    u32::from(b[736])
 }
 
 // Whether two writes wait.
-pub fn two(b: &[u8]) -> bool
-    requires { length b.now ≡ 768 }
+pub fn two(b: &PlannerBytes) -> bool
     ensures { result ≡ two_in b.now }
 {
-    1 < num::wide(b[728])
+    1 < b[728]
 }
 
 // The bank of the newer one.
-pub fn next_bank(b: &[u8]) -> u32
-    requires { length b.now ≡ 768 }
+pub fn next_bank(b: &PlannerBytes) -> u32
     ensures { (result ≡ next_bank b.now) × (result < 256) }
 {
-    num::wide(b[744])
+    u32::from(b[744])
 }
 
 // Now after a packet at t, as it is stored.
@@ -105,5 +95,5 @@ pub fn put_data(out: &mut [u8], at: usize, t: DataAt, d: Dualoct)
     requires { at + 32 ≤ length out.old }
     ensures { out.new ≡ splice out.old at (record_fields t.0 2 0 d.dqa d.dqb) }
 {
-    put_record(out, at, num::wide32(t.0), 2, 0, d.dqa, d.dqb);
+    put_record(out, at, u64::from(t.0), 2, 0, d.dqa, d.dqb);
 }

@@ -31,14 +31,13 @@ use Rattle.spec_plan.specs.Looked.{looked_up_to, looked}
 use Rattle.spec_plan.specs.PlannerBytes.{planner_bytes, planner_in, planner_right}
 use Rattle.spec_plan.proofs.CallLaws.{planned-made}
 use Rattle.spec_plan.proofs.LookedLaws.{looked-le}
-use Rattle.spec_plan.proofs.PlannerRoundTrip.{planner-length}
 use Rattle.spec_plan.proofs.Timely.{last_delay, data_before, last_instant, data-before, timely-is}
 use Rattle.plan_bytes.specs.Form.Numbers.{word, Below}
 use Rattle.plan_bytes.specs.Form.Drawn.{bare, drafted, Ready, Rested, Drawn}
 use Rattle.plan_bytes.proofs.Since.{since-some}
 use Rattle.plan_bytes.proofs.Marks.{far, Marked, marked_more, marked-read, marked-write, marked-refresh, marked-flush, marked-close}
 use Rattle.plan_bytes.proofs.Puts.{now-stored}
-use Rattle.plan_bytes.proofs.ReadyLaws.{readies, inv, ready, at_rest}
+use Rattle.plan_bytes.proofs.ReadyLaws.{readies, ready, at_rest}
 use Rattle.plan_bytes.proofs.Again.{start, After, after-step, rested-below, rested-call}
 use Rattle.plan_in_place.proofs.Planned.{now-some, now-is}
 
@@ -146,9 +145,6 @@ module _ (s : Settings) (b : List ℕ) (k : Rested s 999999997 b) (q : Request) 
   pub left_alone : data_before (context_of s) q (planner_in b) ≡ 0 → left_ends ≡ timely (context_of s) (planner_in b) (planned (context_of s) q (planner_in b))
   left_alone z = left-timely 0 (sym z)
 
-pub left-length : (p : PlannerState) (left : List ℕ) → left ≡ planner_bytes p → length left ≡ 768
-left-length p left e = ap length e ∙ planner-length p
-
 pub wait-timely : (s : Settings) (b : List ℕ) → Ready s 999999997 b → (n : ℕ) → leb (since (word b 752) n) 999999997 ≡ timely (context_of s) (planner_in b) (planned (context_of s) (Wait n) (planner_in b))
 unfolding planned steps_of planned_wait timely in_time
 wait-timely s b k n = ends_by (word b 752) (planner_in b).now.0 n (now-is s 999999997 b k) (now-some s 999999997 b k)
@@ -158,16 +154,21 @@ wait-timely s b k n = ends_by (word b 752) (planner_in b).now.0 n (now-is s 9999
 pub rested-low : (s : Settings) (b : List ℕ) → valid s ≡ true → Bytes b → planner_right (context_of s) b ≡ true → (top : ℕ) → Below top b → Rested s top b
 rested-low s b v w r top t = rested-below s 999999997 top b (rested-call s b v w r) t
 
+-- what a request leaves and counts
+pub record Calls (s : Settings) (p : PlannerState) (room b1 room1 : List ℕ) (q : Request) (n banks due : ℕ) : Type 0 where
+  pub planner_after : b1 ≡ planner_bytes (planned (context_of s) q p).planner
+  pub room_after : room1 ≡ splice room 0 (list_bytes s (planned (context_of s) q p).records)
+  pub records_value : n ≡ length (planned (context_of s) q p).records
+  pub banks_value : banks ≡ looked q p
+  pub due_value : due ≡ data_before (context_of s) q p
+
 module _ (s : Settings) (p : PlannerState) (room b1 room1 : List ℕ) (to : ℕ) where
-  -- what a request leaves and counts
   abbrev Called : Request → ℕ → ℕ → ℕ → Type 0
-  Called q n banks due =
-      (b1 ≡ planner_bytes (planned (context_of s) q p).planner)
-      × ((room1 ≡ splice room 0 (list_bytes s (planned (context_of s) q p).records)) × ((n ≡ length (planned (context_of s) q p).records) × ((banks ≡ looked q p) × (due ≡ data_before (context_of s) q p))))
+  Called = Calls s p room b1 room1
 
   called : (q : Request) (n banks due : ℕ) → n ≡ to / 32 → banks ≡ looked q p → due ≡ data_before (context_of s) q p → Drawn s (steps_of (context_of s) q (bare p)) room 0 b1 room1 to → Called q n banks due
   unfolding planned
-  called q n banks due e f g w = (w.planner, (w.records, (omega (arith, e, w.next), (f, g))))
+  called q n banks due e f g w = record { planner_after = w.planner; room_after = w.records; records_value = omega (arith, e, w.next); banks_value = f; due_value = g }
 
   module _ (n banks due : ℕ) where
     pub called-write : (at : Place) (mask : ℕ) (d : Dualoct) (close : Bool) (made : ℕ) → (n ≡ to / 32) × ((banks ≡ 0) × (due ≡ made)) → made ≡ data_before (context_of s) (WriteTo at mask d close) p
@@ -178,7 +179,7 @@ module _ (s : Settings) (p : PlannerState) (room b1 room1 : List ℕ) (to : ℕ)
     module _ (c : (n ≡ to / 32) × ((banks ≡ 0) × (due ≡ 0))) where
       pub called-wait : (cycles : ℕ) → b1 ≡ planner_bytes (planned_wait (context_of s) cycles (bare p)).planner → room1 ≡ room → to ≡ 0 → Called (Wait cycles) n banks due
       unfolding planned steps_of planned_wait list_bytes looked
-      called-wait cycles e f z = (e, (f ∙ splice-none room 0, (omega (arith, c.0), (c.1.0, c.1.1))))
+      called-wait cycles e f z = record { planner_after = e; room_after = f ∙ splice-none room 0; records_value = omega (arith, c.0); banks_value = c.1.0; due_value = c.1.1 }
 
       pub called-read : (at : Place) (close : Bool) → Drawn s (planned_read (context_of s) close at (bare p)) room 0 b1 room1 to → Called (Read at close) n banks due
       unfolding steps_of looked

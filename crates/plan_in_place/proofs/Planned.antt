@@ -1,10 +1,10 @@
 -- The requests on bytes, one step after the other.
 -- Assumes nothing.
+use Rattle.std.specs.Prelude.{Option}
 use Prim.Native.Nat.{ℕ, zero, suc, ◌+◌, ◌%◌, ◌<◌, ◌≤◌, ◌^◌}
 use mathlib.Core.Path.{◌≡◌, refl, sym, ap, ◌∙◌}
 use mathlib.Core.Bool.{Bool, true, false, not, ◌&&◌, cond, and-false}
 use mathlib.Core.List.{List, []}
-use mathlib.Core.Option.{Option}
 use native.Mathlib.Omega.{arith}
 use lib.ListN.{length}
 use Rattle.num.specs.Bytes.{bytes, splice}
@@ -28,7 +28,6 @@ use Rattle.spec_plan.specs.declared.PlannerState.{PlannerState}
 use Rattle.spec_plan.specs.Plan.{Draft, row_packet, col_packet, state_in, open_on, delays, any_waits, any_closes, leaver, waiting, sent, flushed, flushed_while, closed, closed_up_to, reached, planned_read, loaded, written, planned_write, turned, planned_refresh, planned_flush, planned_close, steps_of, planned}
 use Rattle.spec_plan.specs.Call.{unretired}
 use Rattle.spec_plan.specs.PlannerBytes.{planner_bytes, planner_in}
-use Rattle.spec_plan.proofs.PlannerRoundTrip.{planner-length}
 use Rattle.spec_plan.proofs.SentLaws.{when-either, wr_packet, sent-refresh, newer, written-waits, written-plain, while-idle, while-keeps, while-state}
 use Rattle.spec_plan.proofs.PlanLaws.{good-written, good-while, good-reached}
 use Rattle.spec_plan.proofs.Invariant.{left-plain}
@@ -39,9 +38,9 @@ use Rattle.plan_bytes.specs.Form.Drawn.{bare, drafted, Ready, Rested, OpenAt, Fi
 use Rattle.plan_bytes.proofs.Marks.{Marked, marked_more, marked-while, marked-reached, marked-written}
 use Rattle.plan_bytes.proofs.Instants.{said-some, some-said}
 use Rattle.plan_bytes.proofs.Puts.{refresh-stored}
-use Rattle.plan_bytes.proofs.ReadyLaws.{readies, inv, ready-length, now-top, ready, at_rest}
+use Rattle.plan_bytes.proofs.ReadyLaws.{readies, inv, now-top, ready, at_rest}
 use Rattle.plan_bytes.proofs.Again.{start, After, after-step, AtRest}
-use Rattle.plan_bytes.proofs.Compose.{Blind, sent-blind, while-blind, written-blind, drawn-none, drawn-room, fits-first, fits-then, drawn-then, one-sent}
+use Rattle.plan_bytes.proofs.Compose.{Blind, sent-blind, while-blind, written-blind, drawn-none, fits-first, fits-then, drawn-then, one-sent}
 use Rattle.plan_steps.proofs.Stepwise.{G, good, after-of, row_open, row-not, cleared-first, cleared-fits, cleared-drawn}
 use Rattle.plan_steps.specs.Form.Closing.{NewestCloses}
 use Rattle.plan_steps.proofs.Closing.{newest-closes}
@@ -88,10 +87,6 @@ module _ (s : Settings) (b : List ℕ) (k : Rested s 999999997 b) (room : List �
   -- no request makes more than 32 records
   enough : (q : Request) → unretired q (planner_in b) ≡ false → Fits (planned cx q (planner_in b)) room 0
   enough q u = omega (arith, most-made s (planner_in b) (at_rest s 999999997 b k) q u)
-
-  -- a request leaves both buffers as long as they were
-  lengths : (z : Draft) → Fits z room 0 → (b1 room1 : List ℕ) (to1 : ℕ) → Drawn s z room 0 b1 room1 to1 → (length b1 ≡ length b) × (length room1 ≡ length room)
-  lengths z f b1 room1 to1 w = (ap length w.planner ∙ planner-length z.planner ∙ sym (ready-length s 999999997 b r), drawn-room s z room 0 b1 room1 to1 w f)
 
   module _ (at : Place) (i : InPlace s at) where
     -- the row reached
@@ -157,10 +152,6 @@ module _ (s : Settings) (b : List ℕ) (k : Rested s 999999997 b) (room : List �
           after-of s 999999997 b k (1000009312 + 192) 1000012000 clean (omega arith) (omega arith) (marked-while s v test 1000009312 there reached-marked (omega arith))
           (good-while cx (core-neighbours s) (planner_in b) there reached-good.0 test quiet)
 
-      pub read-lengths : (b1 room1 : List ℕ) (to1 : ℕ) → Drawn s (planned_read cx close at d) room 0 b1 room1 to1 → (length b1 ≡ length b) × (length room1 ≡ length room)
-      unfolding planned_read
-      read-lengths = lengths (sent cx rd clean) read_fits
-
       module _ (b1 room1 : List ℕ) (to1 : ℕ) (w : Drawn s there room 0 b1 room1 to1) where
         back : planner_in b1 ≡ there.planner
         back = (reached-after b1 w.planner).back
@@ -175,8 +166,8 @@ module _ (s : Settings) (b : List ℕ) (k : Rested s 999999997 b) (room : List �
           rest : AtRest s 1000012000 clean b2
           rest = clean_after b2 clean-drawn.planner
 
-          pub read-after : Ready s 1000012000 b2 × (length b2 ≡ 768)
-          read-after = (ready s 1000012000 b2 rest.ready, rest.size)
+          pub read-after : Ready s 1000012000 b2
+          read-after = ready s 1000012000 b2 rest.ready
 
           pub read-open : OpenAt b2 at.bank
           unfolding bank_count is_closed
@@ -199,15 +190,8 @@ module _ (s : Settings) (b : List ℕ) (k : Rested s 999999997 b) (room : List �
       unfolding planned steps_of planned_write unretired
       write-fits = enough (WriteTo at mask bytes' close) refl
 
-      pub write-lengths : (b1 room1 : List ℕ) (to1 : ℕ) → Drawn s (planned_write cx close at mask bytes' d) room 0 b1 room1 to1 → (length b1 ≡ length b) × (length room1 ≡ length room)
-      unfolding planned_write
-      write-lengths = lengths (flushed_while cx any_closes (wr there)) write-fits
-
       wr-fits : Fits (wr there) room 0
       wr-fits = fits-first (flushed_while cx any_closes) (while-blind cx any_closes) (wr there) room 0 write-fits
-
-      pub write-first : Fits there room 0
-      write-first = fits-first wr (written-blind cx close at mask bytes') there room 0 wr-fits
 
       module _ (b1 room1 : List ℕ) (to1 : ℕ) (w : Drawn s there room 0 b1 room1 to1) where
         abbrev here : planner_in b1 ≡ there.planner

@@ -1,5 +1,6 @@
 -- Worked records (document 01, "Blocks") under set H: their 32 bytes, as the paper's fields give them by hand.
 -- Assumes nothing.
+use Rattle.std.specs.Prelude.{Some}
 use Prim.Native.Nat.{ℕ}
 use mathlib.Core.Path.{◌≡◌, refl}
 use mathlib.Core.Bool.{false}
@@ -12,7 +13,6 @@ use Rattle.packet.specs.Row.{device_head, row_fields, row_word, row_decoded}
 use Rattle.packet.specs.Col.{mask_bit, mask_field, mask_said, mask_of, col_fields, close_bit, col_word, col_of, col_decoded}
 use Rattle.record.specs.declared.Record.{Record}
 use Rattle.record.specs.declared.Record.TheVariants.{RowAt, ColAt, DataOf}
-use Rattle.record.specs.declared.RecordRead.TheVariants.{Known}
 use Rattle.record.specs.Record.{record_fields, record_bytes, row_record, col_record, record_of, record_read}
 
 -- ACT 0/0 at 4, RD 0/1 at 13, and the data F0 to FF at the last instant
@@ -51,6 +51,6 @@ unfoldable pub paper : List (List ℕ)
 paper = act_bytes ∷ rd_bytes ∷ data_bytes ∷ []
 
 -- written and read
-pub worked : (map (record_bytes set_h) records ≡ paper) × (map (record_read set_h) paper ≡ map Known records)
+pub worked : (map (record_bytes set_h) records ≡ paper) × (map (record_read set_h) paper ≡ map Some records)
 unfolding set_of set_h records act_bytes rd_bytes data_bytes paper bytes number device_head row_fields row_word row_decoded mask_bit mask_field mask_said mask_of col_fields close_bit col_word col_of col_decoded record_fields record_bytes row_record col_record record_of record_read
 worked = (refl, refl)

@@ -6,63 +6,50 @@ pub mod requests;
 
 ghost use Rattle.std.specs.Prelude.{◌≡◌, ◌+◌, ◌<◌, ◌≤◌, length};
 ghost use Rattle.num.specs.Bytes.{part, splice};
-ghost use Rattle.record.specs.Record.{record_fields, record_bytes, record_fits, row_record, col_record, record_of, record_read, well_formed, first_bad};
+ghost use Rattle.record.specs.Record.{record_fields, record_bytes, record_fits, record_of, record_read, well_formed, first_bad};
 
-use packet::{ColDecoded, RowDecoded};
-use record::{Dualoct, Record, RecordRead};
+use record::{Dualoct, Record};
 use settings::{DataAt, PacketAt, Settings};
 
-fn row_record(at: u32, d: RowDecoded) -> RecordRead
-    ensures { result ≡ row_record at d }
-{
-    match d {
-        RowDecoded::NoRow => RecordRead::NoRecord,
-        RowDecoded::Row(p) => RecordRead::Known(Record::RowAt(PacketAt(at), p)),
-    }
-}
-
-fn col_record(at: u32, d: ColDecoded) -> RecordRead
-    ensures { result ≡ col_record at d }
-{
-    match d {
-        ColDecoded::NoCol => RecordRead::NoRecord,
-        ColDecoded::Col(p) => RecordRead::Known(Record::ColAt(PacketAt(at), p)),
-    }
-}
-
 // The record that these fields say under the settings.
-fn record_of(s: Settings, at: u32, kind: u32, word: u64, d: Dualoct) -> RecordRead
+fn record_of(s: Settings, at: u32, kind: u32, word: u64, d: Dualoct) -> Option<Record>
     ensures { result ≡ record_of s at kind word d.dqa d.dqb }
 {
     if kind == 2 {
         if word == 0 {
-            return RecordRead::Known(Record::DataOf(DataAt(at), d));
+            return Some(Record::DataOf(DataAt(at), d));
         }
-        return RecordRead::NoRecord;
+        return None;
     }
     if d.dqa != 0 {
-        return RecordRead::NoRecord;
+        return None;
     }
     if d.dqb != 0 {
-        return RecordRead::NoRecord;
+        return None;
     }
     if kind == 0 {
-        return row_record(at, packet::row::decode_row(s.device, s.rows, word));
+        return packet::row::decode_row(s.device, s.rows, word).map(|p| Record::RowAt(
+            PacketAt(at),
+            p,
+        ));
     }
     if kind == 1 {
-        return col_record(at, packet::col::decode_col(s.device, s.columns, word));
+        return packet::col::decode_col(s.device, s.columns, word).map(|p| Record::ColAt(
+            PacketAt(at),
+            p,
+        ));
     }
-    RecordRead::NoRecord
+    None
 }
 
 // The record in the 32 bytes from a place on.
-pub fn read_record(s: Settings, b: &[u8], at: usize) -> RecordRead
+pub fn read_record(s: Settings, b: &[u8], at: usize) -> Option<Record>
     requires { at + 32 ≤ length b.now }
     ensures { result ≡ record_read s (part b.now at 32) }
 {
     let head = num::u32_at(b, at + 4);
     if head / 256 != 0 {
-        return RecordRead::NoRecord;
+        return None;
     }
     let instant = num::u32_at(b, at);
     let word = num::u64_at(b, at + 8);
@@ -78,10 +65,7 @@ fn well_formed(s: Settings, b: &[u8], at: usize) -> bool
     requires { at + 32 ≤ length b.now }
     ensures { result ≡ well_formed s (part b.now at 32) }
 {
-    match read_record(s, b, at) {
-        RecordRead::NoRecord => false,
-        RecordRead::Known(_) => true,
-    }
+    read_record(s, b, at).is_some()
 }
 
 // The first record of a list that is not one under the settings, or the number of whole records.
@@ -89,11 +73,8 @@ pub fn first_bad(s: Settings, list: &[u8]) -> usize
     ensures { result ≡ first_bad s list.now }
 {
     let n = list.len() / 32;
-    let mut i = 0;
-    while i < n {
-        if well_formed(s, list, 32 * i) {
-            i += 1;
-        } else {
+    for i in 0..n {
+        if !well_formed(s, list, 32 * i) {
             return i;
         }
     }
@@ -105,8 +86,8 @@ fn put_fields(out: &mut [u8], at: usize, instant: u32, kind: u32, word: u64, d: 
     requires { (at + 32 ≤ length out.old) × (kind < 256) }
     ensures { out.new ≡ splice out.old at (record_fields instant kind word d.dqa d.dqb) }
 {
-    num::put::put_u32(out, at, num::wide32(instant));
-    num::put::put_u32(out, at + 4, num::wide32(kind));
+    num::put::put_u32(out, at, u64::from(instant));
+    num::put::put_u32(out, at + 4, u64::from(kind));
     num::put::put_u64(out, at + 8, word);
     num::put::put_u64(out, at + 16, d.dqa);
     num::put::put_u64(out, at + 24, d.dqb);

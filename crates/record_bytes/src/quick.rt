@@ -1,13 +1,12 @@
 // A quick test of records: where it passes, none of them is bad; where it fails, each record is read. It has no branches, since
 // kinds and commands follow no pattern, and takes 32 bits at a time, so that the compiler tests four records at once.
-ghost use Rattle.std.specs.Prelude.{◌≡◌, ◌+◌, ◌*◌, ◌^◌, ◌≤◌, min, true, length};
+ghost use Rattle.std.specs.Prelude.{◌≡◌, ◌+◌, ◌*◌, ◌^◌, ◌≤◌, true, length};
 ghost use Rattle.num.specs.Bytes.{number, part};
 ghost use Rattle.num.specs.Search.{all_up_to};
 ghost use Rattle.packet.specs.Row.{row_decoded};
 ghost use Rattle.packet.specs.Col.{col_decoded};
 ghost use Rattle.record.specs.Record.{is_known, row_record, col_record, record_of, well_formed, record_at, first_bad};
 
-use num::wide;
 use packet::RowPacket;
 use settings::Settings;
 
@@ -16,7 +15,10 @@ fn number_at(b: &[u8], at: usize) -> u32
     requires { at + 4 ≤ length b.now }
     ensures { result ≡ number (part b.now at 4) }
 {
-    wide(b[at]) + 256 * wide(b[at + 1]) + 65536 * wide(b[at + 2]) + 16777216 * wide(b[at + 3])
+    u32::from(b[at])
+        + 256 * u32::from(b[at + 1])
+        + 65536 * u32::from(b[at + 2])
+        + 16777216 * u32::from(b[at + 3])
 }
 
 // Whether a ROW word, which has 24 bits, says a packet; the word without its bank is compared with the device's.
@@ -24,8 +26,8 @@ fn row_right(device: u32, rows: u32, w: u32) -> bool
     ensures { result ≡ true → is_known (row_record 0 (row_decoded device rows w)) ≡ true }
 {
     let head = packet::row::row_word(device, RowPacket::Prer { bank: 0 }) as u32;
-    let low = std::num::wrapping_sub_u32(w / 262144 * 262144 + w % 8192, head / 262144 * 262144);
-    let row = std::num::wrapping_sub_u32(low, 4096);
+    let low = (w / 262144 * 262144 + w % 8192).wrapping_sub(head / 262144 * 262144);
+    let row = low.wrapping_sub(4096);
     let act = (row < 4096) & (row < rows);
     act | (low == 0x600) | (low == 0x0C0) | (low == 0x540)
 }
@@ -37,7 +39,7 @@ fn col_right(device: u32, columns: u32, lo: u32, hi: u32) -> bool
 {
     let d = device % 32;
     let low = lo % 0x2_0000;
-    let sent = std::num::wrapping_sub_u32(low, 0x1_0000);
+    let sent = low.wrapping_sub(0x1_0000);
     let mask = (sent < 0xFFFF) | (low == d * 2048);
     let cop = lo / 0x2_0000 % 16;
     let column = lo / 0x20_0000 % 256;
@@ -74,10 +76,8 @@ fn part_right(s: Settings, list: &[u8], i: usize, n: usize) -> bool
     ensures { result ≡ true → all_up_to (λ j. well_formed s (record_at list.now (i + j))) n ≡ true }
 {
     let mut right = true;
-    let mut k = 0;
-    while k < n {
+    for k in 0..n {
         right = right & record_right(s, list, 32 * (i + k));
-        k += 1;
     }
     right
 }
@@ -106,18 +106,12 @@ fn all_right(s: Settings, b: &[u8], n: usize) -> bool
     }
     let mut right = true;
     let mut k = 0;
+    // a `while`, since the count goes by four
     while k < n {
-        right = right & four_right(s, b, lesser(k, n - 4));
+        right = right & four_right(s, b, k.min(n - 4));
         k += 4;
     }
     right
-}
-
-// The lesser of two numbers.
-pub fn lesser(a: usize, b: usize) -> usize
-    ensures { result ≡ min a b }
-{
-    if a < b { a } else { b }
 }
 
 // The first bad record of a list, or the number of whole records; 61 records pass the quick test at a time, of which the compiler
@@ -127,8 +121,9 @@ pub fn first_bad(s: Settings, list: &[u8]) -> usize
 {
     let n = list.len() / 32;
     let mut i = 0;
+    // a `while`, since the last part may be shorter than those before it
     while i < n {
-        let m = lesser(61, n - i);
+        let m = (n - i).min(61);
         if part_right(s, list, i, m) {
             i += m;
         } else {

@@ -2,39 +2,34 @@
 ghost use Rattle.std.specs.Prelude.{◌≡◌, ◌≤◌, true, false, length};
 ghost use Rattle.record.proofs.RequestLaws.{InPlace};
 ghost use Rattle.record.specs.declared.Request.TheVariants.{Read};
-ghost use Rattle.record.specs.declared.RequestRead.TheVariants.{Accepted};
 ghost use Rattle.record.specs.Request.{kind_of, spare_right, place_of, placed, request_of, request_read};
 
-use record::{Dualoct, Place, Refusal, Request, RequestRead};
+use record::{Dualoct, Place, Refusal, Request};
 use settings::Settings;
 
 // Whether every byte that the kind does not use is zero.
-fn spare_right(b: &[u8]) -> bool
-    requires { length b.now ≡ 24 }
+fn spare_right(b: &[u8; 24]) -> bool
     ensures { result ≡ spare_right b.now }
 {
     let kind = b[0];
-    let place = num::either((kind <= 1) | (6 <= kind), num::u32_at(b, 1) == 0);
+    let place = (kind <= 1) | (6 <= kind) | (num::u32_at(b, 1) == 0);
     let none = b[5] == 0;
     let mask = num::u16_at(b, 6) == 0;
-    let cycles = num::either(kind == 3, num::u32_at(b, 8) == 0);
-    let rest = num::both(num::u32_at(b, 12) == 0, num::u64_at(b, 16) == 0);
-    let data = num::both(mask, num::both(cycles, rest));
-    num::both(
-        place,
-        num::both(none, num::either((kind == 1) | (kind == 7), data)),
-    )
+    let cycles = (kind == 3) | (num::u32_at(b, 8) == 0);
+    let rest = (num::u32_at(b, 12) == 0) & (num::u64_at(b, 16) == 0);
+    let data = mask & cycles & rest;
+    place & none & ((kind == 1) | (kind == 7) | data)
 }
 
-// The bank, row and column of a request.
+// The bank, row and column of a request. A slice, since a caller has tested its length with `plain_read`.
 pub fn place_of(b: &[u8]) -> Place
     requires { length b.now ≡ 24 }
     ensures { result ≡ place_of b.now }
 {
     Place {
-        bank: num::wide(b[1]),
+        bank: u32::from(b[1]),
         row: num::u16_at(b, 2),
-        column: num::wide(b[4]),
+        column: u32::from(b[4]),
     }
 }
 
@@ -47,11 +42,11 @@ fn in_place(s: Settings, p: Place) -> bool
 
 // Whether bytes say a read in range that leaves its bank open: most requests do, and a caller who knows it makes no request of them.
 pub fn plain_read(s: Settings, b: &[u8]) -> bool
-    ensures { result ≡ true → (length b.now ≡ 24) × InPlace s (place_of b.now) × (request_read s b.now ≡ Accepted (Read (place_of b.now) false)) }
+    ensures { result ≡ true → (length b.now ≡ 24) × InPlace s (place_of b.now) × (request_read s b.now ≡ Ok (Read (place_of b.now) false)) }
 {
-    if b.len() != 24 {
+    let Some(b) = b.as_array::<24>() else {
         return false;
-    }
+    };
     if b[0] != 0 {
         return false;
     }
@@ -62,24 +57,24 @@ pub fn plain_read(s: Settings, b: &[u8]) -> bool
 }
 
 // The request, where its place is in range.
-fn placed(s: Settings, p: Place, q: Request) -> RequestRead
+fn placed(s: Settings, p: Place, q: Request) -> Result<Request, Refusal>
     ensures { result ≡ placed s p q }
 {
     if 32 <= p.bank {
-        return RequestRead::Refused(Refusal::Bank);
+        return Err(Refusal::Bank);
     }
     if s.rows <= p.row {
-        return RequestRead::Refused(Refusal::Row);
+        return Err(Refusal::Row);
     }
     if s.columns <= p.column {
-        return RequestRead::Refused(Refusal::Column);
+        return Err(Refusal::Column);
     }
-    RequestRead::Accepted(q)
+    Ok(q)
 }
 
 // The request of 24 bytes whose kind and spare bytes are right; kinds 6 and 7 are 0 and 1 that close their bank.
-fn request_of(s: Settings, b: &[u8]) -> RequestRead
-    requires { (length b.now ≡ 24) × (kind_of b.now ≤ 7) }
+fn request_of(s: Settings, b: &[u8; 24]) -> Result<Request, Refusal>
+    requires { kind_of b.now ≤ 7 }
     ensures { result ≡ request_of s b.now }
 {
     let kind = b[0];
@@ -95,29 +90,29 @@ fn request_of(s: Settings, b: &[u8]) -> RequestRead
         return placed(s, p, Request::Write(p, num::u16_at(b, 6), data, kind == 7));
     }
     if kind == 2 {
-        return RequestRead::Accepted(Request::Refresh);
+        return Ok(Request::Refresh);
     }
     if kind == 3 {
-        return RequestRead::Accepted(Request::Wait(num::u32_at(b, 8)));
+        return Ok(Request::Wait(num::u32_at(b, 8)));
     }
     if kind == 4 {
-        return RequestRead::Accepted(Request::Flush);
+        return Ok(Request::Flush);
     }
-    RequestRead::Accepted(Request::Close)
+    Ok(Request::Close)
 }
 
 // The request that bytes say under the settings, or its refusal.
-pub fn read_request(s: Settings, b: &[u8]) -> RequestRead
+pub fn read_request(s: Settings, b: &[u8]) -> Result<Request, Refusal>
     ensures { result ≡ request_read s b.now }
 {
-    if b.len() != 24 {
-        return RequestRead::Refused(Refusal::Length);
-    }
+    let Some(b) = b.as_array::<24>() else {
+        return Err(Refusal::Length);
+    };
     if 7 < b[0] {
-        return RequestRead::Refused(Refusal::Kind);
+        return Err(Refusal::Kind);
     }
     if spare_right(b) {
         return request_of(s, b);
     }
-    RequestRead::Refused(Refusal::Spare)
+    Err(Refusal::Spare)
 }

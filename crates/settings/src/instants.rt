@@ -2,23 +2,23 @@
 ghost use Rattle.std.specs.Prelude.{◌≡◌, ◌+◌, ◌<◌, ◌^◌};
 ghost use Rattle.settings.specs.Instants.{arrival, arrival_number, horizon_number};
 
-use crate::{Arrival, DataAt, HORIZON_WIDE, PacketAt, Settings};
+use crate::{DataAt, HORIZON_WIDE, PacketAt, Settings};
 
 // The data instant `delay` cycles after a packet; the sum is made in 64 bits.
-fn arrival_after(t: PacketAt, delay: u32) -> Arrival
+fn arrival_after(t: PacketAt, delay: u32) -> Option<DataAt>
     ensures value { result ≡ arrival t delay }
     ensures result_value { arrival_number result ≡ horizon_number t delay }
 {
-    let sum = num::wide32(t.0) + num::wide32(delay);
+    let sum = u64::from(t.0) + u64::from(delay);
     if sum <= HORIZON_WIDE {
-        Arrival::At(DataAt(sum as u32))
+        Some(DataAt(sum as u32))
     } else {
-        Arrival::Late
+        None
     }
 }
 
-// Read data come tCAC after their RD.
-pub fn read_arrival(s: Settings, t: PacketAt) -> Arrival
+// Read data come tCAC after their RD. One function for reads and one for writes, so that a caller names the packet and not the figure.
+pub fn read_arrival(s: Settings, t: PacketAt) -> Option<DataAt>
     ensures value { result ≡ arrival t s.cac }
     ensures result_value { arrival_number result ≡ horizon_number t s.cac }
 {
@@ -26,7 +26,7 @@ pub fn read_arrival(s: Settings, t: PacketAt) -> Arrival
 }
 
 // Write data go tCWD after their WR.
-pub fn write_arrival(s: Settings, t: PacketAt) -> Arrival
+pub fn write_arrival(s: Settings, t: PacketAt) -> Option<DataAt>
     ensures value { result ≡ arrival t s.cwd }
     ensures result_value { arrival_number result ≡ horizon_number t s.cwd }
 {

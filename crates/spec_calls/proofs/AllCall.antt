@@ -1,5 +1,6 @@
 -- A call of rdram_plan_all from the bytes of a planner that is not refused: 13, or what its requests leave in turn.
 -- Assumes nothing.
+use Rattle.std.specs.Prelude.{Some}
 use Prim.Native.Nat.{ℕ, ◌/◌, ◌%◌}
 use mathlib.Core.Path.{◌≡◌, refl, sym, ap, subst}
 use mathlib.Core.Bool.{Bool, true, false}
@@ -10,7 +11,6 @@ use native.Mathlib.Omega.{arith}
 use Rattle.num.specs.Bytes.{Bytes}
 use Rattle.num.proofs.SpliceLaws.{splice-none}
 use Rattle.settings.specs.declared.Settings.{Settings}
-use Rattle.settings.specs.declared.SettingsRead.TheVariants.{Accepted}
 use Rattle.settings.specs.Settings.{settings_read, valid}
 use Rattle.settings.proofs.SettingsLaws.{accepted-valid}
 use Rattle.record.specs.declared.Refusal.TheVariants as refusal
@@ -29,7 +29,7 @@ use Rattle.spec_calls.specs.Runs.{requests_fed}
 use Rattle.spec_calls.proofs.OneCall.{call-under}
 use Rattle.spec_calls.proofs.PlanAllLaws.{Stands, left_by, turns, Reached, reached}
 
-module _ (settings : List ℕ) (s : Settings) (a : settings_read settings ≡ Accepted s) (p : PlannerState) (h : planner_valid (context_of s) p ≡ true)
+module _ (settings : List ℕ) (s : Settings) (a : settings_read settings ≡ Some s) (p : PlannerState) (h : planner_valid (context_of s) p ≡ true)
     (requests : List ℕ) (b : Bytes requests) (room : List ℕ) where
   v : valid s ≡ true
   v = accepted-valid settings s a

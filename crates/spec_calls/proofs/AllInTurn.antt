@@ -1,5 +1,6 @@
 -- rdram_plan_all is calls of rdram_plan made in turn, up to the first that is refused.
 -- Assumes nothing.
+use Rattle.std.specs.Prelude.{None, Option, Some}
 use Prim.Native.Nat.{ℕ, zero, suc, ◌*◌, ◌/◌, ◌%◌}
 use mathlib.Core.Path.{◌≡◌, refl, sym, ap, ◌∙◌, subst}
 use mathlib.Core.Bool.{Bool, true, false}
@@ -12,8 +13,6 @@ use native.Mathlib.Omega.{arith}
 use Rattle.num.specs.Bytes.{Bytes}
 use Rattle.num.proofs.PartLaws.{Bytes-part}
 use Rattle.settings.specs.declared.Settings.{Settings}
-use Rattle.settings.specs.declared.SettingsRead.{SettingsRead}
-use Rattle.settings.specs.declared.SettingsRead.TheVariants as read
 use Rattle.settings.specs.Settings.{settings_read, valid}
 use Rattle.settings.proofs.SettingsLaws.{accepted-valid}
 use Rattle.record.specs.declared.Refusal.{Refusal}
@@ -53,7 +52,7 @@ refused-in-turn settings planner requests room why n =
 
 -- ---- requests in turn, from a planner that is not refused
 
-module _ (settings : List ℕ) (s : Settings) (a : settings_read settings ≡ read.Accepted s) (p : PlannerState) (h : planner_valid (context_of s) p ≡ true)
+module _ (settings : List ℕ) (s : Settings) (a : settings_read settings ≡ Some s) (p : PlannerState) (h : planner_valid (context_of s) p ≡ true)
     (requests : List ℕ) (b : Bytes requests) (room : List ℕ) where
   v : valid s ≡ true
   v = accepted-valid settings s a
@@ -118,7 +117,7 @@ module _ (settings : List ℕ) (s : Settings) (a : settings_read settings ≡ re
 -- ---- any bytes
 
 module _ (settings planner requests room : List ℕ) (wp : Bytes planner) (b : Bytes requests) where
-  by_state : (s : Settings) → settings_read settings ≡ read.Accepted s → (t : Bool) → planner_right (context_of s) planner ≡ t
+  by_state : (s : Settings) → settings_read settings ≡ Some s → (t : Bool) → planner_right (context_of s) planner ≡ t
       → AllInTurn settings planner requests room (plan_all_call settings planner requests room)
   unfolding plan_all_call plan_all_under under_settings answer_of
   by_state s a true e =
@@ -130,6 +129,6 @@ module _ (settings planner requests room : List ℕ) (wp : Bytes planner) (b : B
   unfolding plan_all_call under_settings answer_of
   all-in-turn = go (settings_read settings) refl
     where
-      go : (x : SettingsRead) → settings_read settings ≡ x → AllInTurn settings planner requests room (plan_all_call settings planner requests room)
-      go read.Refused e = rw e (refused-in-turn settings planner requests room refusal.Settings (inl refl))
-      go (read.Accepted s) e = by_state s e (planner_right (context_of s) planner) refl
+      go : (x : Option Settings) → settings_read settings ≡ x → AllInTurn settings planner requests room (plan_all_call settings planner requests room)
+      go None e = rw e (refused-in-turn settings planner requests room refusal.Settings (inl refl))
+      go (Some s) e = by_state s e (planner_right (context_of s) planner) refl

@@ -1,13 +1,13 @@
 -- Calls of rdram_plan and rdram_plan_all in a row are plan calls on the planner's states: the bytes left are those of the planner, the
 -- list those of the records, and flat memory is fed the same.
 -- Assumes nothing.
+use Rattle.std.specs.Prelude.{Some}
 use Prim.Native.Nat.{ℕ}
 use mathlib.Core.Path.{◌≡◌, refl, sym, ap}
 use mathlib.Core.Bool.{Bool, true}
 use mathlib.Core.List.{List, [], ◌∷◌, ◌++◌, append_assoc, append-nil}
 use lib.ListN.{length}
 use Rattle.settings.specs.declared.Settings.{Settings}
-use Rattle.settings.specs.declared.SettingsRead.TheVariants.{Accepted}
 use Rattle.settings.specs.Settings.{settings_read, valid}
 use Rattle.settings.proofs.SettingsLaws.{accepted-valid}
 use Rattle.record.specs.declared.Record.{Record}
@@ -60,7 +60,7 @@ fed-same : (request : List ℕ) (p q : Bool) → p ≡ q
     → ◌≡◌ {A = List Fed} (record { request = request; accepted = p } ∷ []) (record { request = request; accepted = q } ∷ [])
 fed-same request p q e = rw e
 
-module _ (settings : List ℕ) (s : Settings) (a : settings_read settings ≡ Accepted s) (p : PlannerState) (k : planner_valid (context_of s) p ≡ true) (list : List ℕ) where
+module _ (settings : List ℕ) (s : Settings) (a : settings_read settings ≡ Some s) (p : PlannerState) (k : planner_valid (context_of s) p ≡ true) (list : List ℕ) where
   v : valid s ≡ true
   v = accepted-valid settings s a
 
@@ -93,7 +93,7 @@ module _ (settings : List ℕ) (s : Settings) (a : settings_read settings ≡ Ac
 
 -- ---- calls in a row
 
-module _ (settings : List ℕ) (s : Settings) (a : settings_read settings ≡ Accepted s) where
+module _ (settings : List ℕ) (s : Settings) (a : settings_read settings ≡ Some s) where
   pub bench-from : (calls : List PlanCall) → BytesIn calls → (p : PlannerState) → planner_valid (context_of s) p ≡ true → (list : List ℕ) →
       bench_after settings calls (record { planner = planner_bytes p; list = list })
       ≡ record {

@@ -2,6 +2,7 @@
 -- planner makes a list that rdram_check passes and that rdram_model_step takes from a fresh model, with flat memory's answers in order,
 -- and after an accepted flush with flat memory as store; the numbers of bytes written sum to the ones in the masks.
 -- Assumes nothing.
+use Rattle.std.specs.Prelude.{Some}
 use Prim.Native.Nat.{ℕ, ◌+◌, ◌-◌, ◌/◌, ◌<◌, ◌≤◌}
 use mathlib.Core.Path.{◌≡◌, refl, sym, ap, ◌∙◌}
 use mathlib.Core.Bool.{true, cond}
@@ -11,7 +12,6 @@ use lib.ListN.{length, take, drop, length-append, length-drop}
 use native.Mathlib.Omega.{arith}
 use Rattle.num.specs.Bytes.{Bytes}
 use Rattle.settings.specs.declared.Settings.{Settings}
-use Rattle.settings.specs.declared.SettingsRead.TheVariants.{Accepted}
 use Rattle.settings.specs.Settings.{settings_read, valid}
 use Rattle.settings.proofs.SettingsLaws.{accepted-valid}
 use Rattle.record.specs.declared.Record.{Record}
@@ -83,7 +83,7 @@ last-call cx p (c ∷ l) [] last e =
     record { first = []; call = c; ends = rw none; request = rw same; taken = rw same }
 last-call cx p (c ∷ l) (f ∷ before) last e = one-before cx p c l last (last-call cx (plan_next cx p c.request c.room) l before last cc)
 
-module _ (settings : List ℕ) (s : Settings) (a : settings_read settings ≡ Accepted s) (calls : List PlanCall) (b : BytesIn calls)
+module _ (settings : List ℕ) (s : Settings) (a : settings_read settings ≡ Some s) (calls : List PlanCall) (b : BytesIn calls)
     (store : List ℕ) (stored : length store ≡ store_length (context_of s)) (w : Bytes store) where
   v : valid s ≡ true
   v = accepted-valid settings s a
@@ -193,6 +193,6 @@ module _ (settings : List ℕ) (s : Settings) (a : settings_read settings ≡ Ac
             ap (λ (x : Device). x.next) (sym (device-more settings list rooms room (fresh_device store)) ∙ device-end (rooms ++ (room ∷ []))) in
             omega (arith, size, before, after, more, count, within rooms)
 
-pub calls-run : (settings : List ℕ) (s : Settings) → settings_read settings ≡ Accepted s → (calls : List PlanCall) → BytesIn calls
+pub calls-run : (settings : List ℕ) (s : Settings) → settings_read settings ≡ Some s → (calls : List PlanCall) → BytesIn calls
     → (store : List ℕ) → length store ≡ store_length (context_of s) → Bytes store → (rooms : List (List ℕ)) → CallsRun settings s calls store rooms
 calls-run settings s a calls b store stored w rooms = run-calls settings s a calls b store stored w rooms

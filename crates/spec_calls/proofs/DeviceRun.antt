@@ -1,11 +1,11 @@
 -- Calls of rdram_model_step in a row are model calls on the model's states: the bytes left are those of the model, the store and
 -- the dualocts are the same, and the record that comes next is the first that waits.
 -- Assumes nothing.
+use Rattle.std.specs.Prelude.{Option, None, Some, Err, Ok, Result}
 use Prim.Native.Nat.{ℕ, suc, ◌+◌, ◌-◌, ◌*◌, ◌/◌, ◌≤◌, ◌<◌}
 use mathlib.Core.Path.{◌≡◌, refl, sym, ap, ◌∙◌}
 use mathlib.Core.Bool.{Bool, true, false, not, ◌||◌, cond}
 use mathlib.Core.List.{List, [], ◌∷◌, ◌++◌, append_assoc}
-use mathlib.Core.Option.{Option, none, some}
 use lib.Dec.{eqb, ltb}
 use lib.ListN.{length, take, length-append}
 use borrow.Author.Tests.{ltb-true, lt-ltb, le-ltb, eq-eqb}
@@ -14,7 +14,6 @@ use Rattle.num.specs.Bytes.{part, splice}
 use Rattle.num.proofs.PartLaws.{length_part}
 use Rattle.num.proofs.SpliceLaws.{part-splice}
 use Rattle.settings.specs.declared.Settings.{Settings}
-use Rattle.settings.specs.declared.SettingsRead.TheVariants.{Accepted}
 use Rattle.settings.specs.Settings.{settings_read, valid}
 use Rattle.settings.proofs.SettingsLaws.{bounds, accepted-valid}
 use Rattle.packet.specs.declared.ColPacket.TheVariants.{Nocop, Wr, Rd}
@@ -22,7 +21,6 @@ use Rattle.packet.specs.Col.{col_fits}
 use Rattle.record.specs.declared.Record.{Record}
 use Rattle.record.specs.declared.Record.TheVariants.{RowAt, ColAt, DataOf}
 use Rattle.record.specs.declared.Refusal.{Refusal}
-use Rattle.record.specs.declared.RecordRead.TheVariants.{Known}
 use Rattle.record.specs.Refusal.{answer_of}
 use Rattle.record.specs.Record.{record_bytes, record_fits, record_read}
 use Rattle.spec_rules.specs.declared.Bank.{Bank}
@@ -39,8 +37,6 @@ use Rattle.spec_state.specs.Valid.{bank_valid, channel_valid}
 use Rattle.spec_state.proofs.NextValid.{valid-sound}
 use Rattle.spec_plan.specs.Call.{list_bytes}
 use Rattle.spec_model.specs.declared.ModelState.{ModelState}
-use Rattle.spec_model.specs.declared.Stepped.{Stepped}
-use Rattle.spec_model.specs.declared.Stepped.TheVariants.{Refused, Read, Retired, Neither}
 use Rattle.spec_model.specs.Store.{store_length, dualoct, dualoct_at}
 use Rattle.spec_model.specs.Model.{model_valid, open_row, bytes_left, bytes_next, second_next, model_next, store_next, read_of, retired_write, retire_mask}
 use Rattle.spec_model.specs.ModelBytes.{model_bytes}
@@ -57,48 +53,50 @@ use Rattle.spec_calls.specs.Models.{stepped_answer, StepResult, step_by, step_un
 use Rattle.spec_calls.specs.Runs.{Device, device_by, device_next, device_after}
 use Rattle.spec_calls.proofs.ListOf.{list-next}
 use Rattle.spec_calls.proofs.OneCall.{refusal-number}
+use Rattle.spec_model.specs.declared.Event.TheVariants.{Neither, Read, Retired}
+use Rattle.spec_model.specs.declared.Event.{Event}
 
 -- ---- a model call's answer in numbers
 
 -- what the caller keeps of an answer buffer
-kept-answer : (a : Stepped) (room new : List ℕ) → (a ≡ Read → take 16 room ≡ new) → cond (eqb (stepped_answer a).event 1) (take 16 room ∷ []) [] ≡ returned a new
+kept-answer : (a : Result Event Refusal) (room new : List ℕ) → (a ≡ (Ok Read) → take 16 room ≡ new) → cond (eqb (stepped_answer a).event 1) (take 16 room ∷ []) [] ≡ returned a new
 unfolding stepped_answer returned
-kept-answer (Refused why) room new f = refl
-kept-answer Read room new f = rw (f refl)
-kept-answer (Retired n) room new f = refl
-kept-answer Neither room new f = refl
+kept-answer (Err why) room new f = refl
+kept-answer (Ok Read) room new f = rw (f refl)
+kept-answer (Ok (Retired n)) room new f = refl
+kept-answer (Ok Neither) room new f = refl
 
 -- the record that comes next
-kept_next : (a : Stepped) (r : Record) (l : List Record) (k : ℕ) → suc (length l) ≤ k
+kept_next : (a : Result Event Refusal) (r : Record) (l : List Record) (k : ℕ) → suc (length l) ≤ k
     → cond (eqb (stepped_answer a).number 0) (k - suc (length l) + 1) (k - suc (length l)) ≡ k - length (left_by a r l)
 unfolding stepped_answer left_by
-kept_next (Refused why) r l k h = rw (refusal-number why)
-kept_next Read r l k h = omega arith
-kept_next (Retired n) r l k h = omega arith
-kept_next Neither r l k h = omega arith
+kept_next (Err why) r l k h = rw (refusal-number why)
+kept_next (Ok Read) r l k h = omega arith
+kept_next (Ok (Retired n)) r l k h = omega arith
+kept_next (Ok Neither) r l k h = omega arith
 
 -- a refusal other than 8
-kept-failed : (a : Stepped) → not (eqb (stepped_answer a).number 0 || eqb (stepped_answer a).number 8) ≡ fails a
+kept-failed : (a : Result Event Refusal) → not (eqb (stepped_answer a).number 0 || eqb (stepped_answer a).number 8) ≡ fails a
 unfolding stepped_answer fails
-kept-failed (Refused why) = rw (refusal-number why)
-kept-failed Read = refl
-kept-failed (Retired n) = refl
-kept-failed Neither = refl
+kept-failed (Err why) = rw (refusal-number why)
+kept-failed (Ok Read) = refl
+kept-failed (Ok (Retired n)) = refl
+kept-failed (Ok Neither) = refl
 
 -- the number of bytes written
-kept-written : (a : Stepped) → (stepped_answer a).bytes ≡ written_by a
+kept-written : (a : Result Event Refusal) → (stepped_answer a).bytes ≡ written_by a
 unfolding stepped_answer written_by
-kept-written (Refused why) = refl
-kept-written Read = refl
-kept-written (Retired n) = refl
-kept-written Neither = refl
+kept-written (Err why) = refl
+kept-written (Ok Read) = refl
+kept-written (Ok (Retired n)) = refl
+kept-written (Ok Neither) = refl
 
 -- ---- the dualoct that is read is in the store
 
 -- an answer of 16 bytes, where there is one
 abbrev Sixteen : List ℕ → Option ℕ → Type 0
-Sixteen store none = Unit {0}
-Sixteen store (some k) = length (dualoct store k) ≡ 16
+Sixteen store None = Unit {0}
+Sixteen store (Some k) = length (dualoct store k) ≡ 16
 
 row_in : (cx : Context) (b : Bank) → 1 ≤ cx.settings.rows → bank_valid cx b ≡ true → open_row b < cx.settings.rows
 unfolding open_row bank_valid
@@ -126,12 +124,12 @@ device-same : (m n st su : List ℕ) (a b : List (List ℕ)) (c d i j : ℕ) (p 
     ◌≡◌ {A = Device} (record { model = m; store = st; answers = a; written = c; next = i; failed = p }) (record { model = n; store = su; answers = b; written = d; next = j; failed = q })
 device-same m n st su a b c d i j p q e f g h k l = rw (e, f, g, h, k, l)
 
-module _ (settings : List ℕ) (s : Settings) (a : settings_read settings ≡ Accepted s) (m : ModelState) (k : model_valid (context_of s) m ≡ true) (d : HeldFits m) (store given room : List ℕ) where
+module _ (settings : List ℕ) (s : Settings) (a : settings_read settings ≡ Some s) (m : ModelState) (k : model_valid (context_of s) m ≡ true) (d : HeldFits m) (store given room : List ℕ) where
   v : valid s ≡ true
   v = accepted-valid settings s a
 
   -- the call on the state that the bytes say
-  abbrev called : Stepped
+  abbrev called : Result Event Refusal
   called = step_answer (context_of s) m (length store) given (length room)
 
   step-result : step_call settings (model_bytes m) store given room ≡ step_by (model_bytes m) store given room (context_of s) m called
@@ -141,44 +139,44 @@ module _ (settings : List ℕ) (s : Settings) (a : settings_read settings ≡ Ac
   pub step-answer : (step_call settings (model_bytes m) store given room).answer ≡ stepped_answer called
   step-answer = ap (λ (x : StepResult). x.answer) step-result ∙ go called
     where
-      go : (o : Stepped) → (step_by (model_bytes m) store given room (context_of s) m o).answer ≡ stepped_answer o
-      go (Refused why) = refl
-      go Read = refl
-      go (Retired n) = refl
-      go Neither = refl
+      go : (o : Result Event Refusal) → (step_by (model_bytes m) store given room (context_of s) m o).answer ≡ stepped_answer o
+      go (Err why) = refl
+      go (Ok Read) = refl
+      go (Ok (Retired n)) = refl
+      go (Ok Neither) = refl
 
   pub step-model : (step_call settings (model_bytes m) store given room).model ≡ model_bytes (step_model (context_of s) m (length store) given (length room))
   unfolding step_model is_taken
   step-model = ap (λ (x : StepResult). x.model) step-result ∙ go called refl
     where
-      go : (o : Stepped) → called ≡ o → (step_by (model_bytes m) store given room (context_of s) m o).model ≡ model_bytes (step_model (context_of s) m (length store) given (length room))
-      go (Refused why) e = rw e
-      go Read e = refl
-      go (Retired n) e = refl
-      go Neither e = refl
+      go : (o : Result Event Refusal) → called ≡ o → (step_by (model_bytes m) store given room (context_of s) m o).model ≡ model_bytes (step_model (context_of s) m (length store) given (length room))
+      go (Err why) e = rw e
+      go (Ok Read) e = refl
+      go (Ok (Retired n)) e = refl
+      go (Ok Neither) e = refl
 
   step-store : (step_call settings (model_bytes m) store given room).store ≡ step_store (context_of s) m store given (length room)
   unfolding step_store is_taken
   step-store = ap (λ (x : StepResult). x.store) step-result ∙ go called refl
     where
-      go : (o : Stepped) → called ≡ o → (step_by (model_bytes m) store given room (context_of s) m o).store ≡ step_store (context_of s) m store given (length room)
-      go (Refused why) e = rw e
-      go Read e = refl
-      go (Retired n) e = refl
-      go Neither e = refl
+      go : (o : Result Event Refusal) → called ≡ o → (step_by (model_bytes m) store given room (context_of s) m o).store ≡ step_store (context_of s) m store given (length room)
+      go (Err why) e = rw e
+      go (Ok Read) e = refl
+      go (Ok (Retired n)) e = refl
+      go (Ok Neither) e = refl
 
   step_room_lem : (step_call settings (model_bytes m) store given room).room ≡ step_room (context_of s) m store given room
   unfolding step_room is_taken
   step_room_lem = ap (λ (x : StepResult). x.room) step-result ∙ go called refl
     where
-      go : (o : Stepped) → called ≡ o → (step_by (model_bytes m) store given room (context_of s) m o).room ≡ step_room (context_of s) m store given room
-      go (Refused why) e = rw e
-      go Read e = refl
-      go (Retired n) e = refl
-      go Neither e = refl
+      go : (o : Result Event Refusal) → called ≡ o → (step_by (model_bytes m) store given room (context_of s) m o).room ≡ step_room (context_of s) m store given room
+      go (Err why) e = rw e
+      go (Ok Read) e = refl
+      go (Ok (Retired n)) e = refl
+      go (Ok Neither) e = refl
 
   -- what the caller keeps of the answer
-  step-returned : (new : List ℕ) → (called ≡ Read → take 16 (step_room (context_of s) m store given room) ≡ new) →
+  step-returned : (new : List ℕ) → (called ≡ (Ok Read) → take 16 (step_room (context_of s) m store given room) ≡ new) →
       cond (eqb (step_call settings (model_bytes m) store given room).answer.event 1) (take 16 (step_call settings (model_bytes m) store given room).room ∷ []) [] ≡ returned called new
   step-returned new f = rw (step-answer, step_room_lem) (kept-answer called (step_room (context_of s) m store given room) new f)
 
@@ -193,24 +191,24 @@ module _ (settings : List ℕ) (s : Settings) (a : settings_read settings ≡ Ac
   step-failed = rw step-answer (kept-failed called)
 
   -- an RD that is taken leaves its dualoct in the buffer
-  passed_none : (w : Option Write) (mask : ℕ) → retire_answer w mask ≡ Read → ⊥
+  passed_none : (w : Option Write) (mask : ℕ) → retire_answer w mask ≡ (Ok Read) → ⊥
   unfolding retire_answer
-  passed_none none mask e = absurd (let z : ◌≡◌ {A = ℕ} 0 1 = cc in omega arith)
-  passed_none (some w) mask e = absurd (let z : ◌≡◌ {A = ℕ} 0 1 = cc in omega arith)
+  passed_none None mask e = absurd (let z : ◌≡◌ {A = ℕ} 0 1 = cc in omega arith)
+  passed_none (Some w) mask e = absurd (let z : ◌≡◌ {A = ℕ} 0 1 = cc in omega arith)
 
-  room-read : (r : Record) → length store ≡ store_length (context_of s) → length given ≡ 32 → record_read s given ≡ Known r → record_fits s r ≡ true → judged (context_of s) m.channel r ≡ 0
-      → called ≡ Read → take 16 (step_room (context_of s) m store given room) ≡ bytes_by (context_of s) m (record_read s given) store
+  room-read : (r : Record) → length store ≡ store_length (context_of s) → length given ≡ 32 → record_read s given ≡ Some r → record_fits s r ≡ true → judged (context_of s) m.channel r ≡ 0
+      → called ≡ (Ok Read) → take 16 (step_room (context_of s) m store given room) ≡ bytes_by (context_of s) m (record_read s given) store
   unfolding step_room model_valid step_answer read_answer record_answer passed_answer bytes_read bytes_by is_taken context_of
   room-read r n g e f j read =
       let o : Option ℕ = read_of (context_of s) m.channel r in
       let full = read-sixteen (context_of s) v m.channel (and_left (channel_valid (context_of s) m.channel) _ k) store n r f in
-      let passed : passed_answer o (retire_answer (retired_write (context_of s) m r) (retire_mask r)) (length room) ≡ Read = rw (eq-eqb _ _ n, eq-eqb _ _ g, e, j) at read in
+      let passed : passed_answer o (retire_answer (retired_write (context_of s) m r) (retire_mask r)) (length room) ≡ (Ok Read) = rw (eq-eqb _ _ n, eq-eqb _ _ g, e, j) at read in
       rw (read, e) (go o full passed)
     where
-      go : (o : Option ℕ) → Sixteen store o → passed_answer o (retire_answer (retired_write (context_of s) m r) (retire_mask r)) (length room) ≡ Read
+      go : (o : Option ℕ) → Sixteen store o → passed_answer o (retire_answer (retired_write (context_of s) m r) (retire_mask r)) (length room) ≡ (Ok Read)
           → take 16 (splice room 0 (bytes_read o store)) ≡ bytes_read o store
-      go none h p = absurd (passed_none (retired_write (context_of s) m r) (retire_mask r) p)
-      go (some i) h p = part-splice room 0 (dualoct store i) 16 h (omega arith)
+      go None h p = absurd (passed_none (retired_write (context_of s) m r) (retire_mask r) p)
+      go (Some i) h p = part-splice room 0 (dualoct store i) 16 h (omega arith)
 
 -- ---- the same of records in a list of bytes
 
@@ -241,15 +239,15 @@ bytes-held cx m (RowAt t p) i h = h
 bytes-held cx m (ColAt t p) i h = (go (retired_write cx m (ColAt t p)), h.1)
   where
     go : (o : Option Write) → DataFits (bytes_left o m.bytes m.second)
-    go none = h.0
-    go (some w) = h.1
+    go None = h.0
+    go (Some w) = h.1
 bytes-held cx m (DataOf t d) i h = go (two (waiting_of m.channel.buffer))
   where
     go : (b : Bool) → (DataFits (cond b m.bytes d)) × (DataFits (cond b d m.second))
     go true = (h.0, i)
     go false = (i, h.1)
 
-module _ (settings : List ℕ) (s : Settings) (a : settings_read settings ≡ Accepted s) (list : List ℕ) (n : ℕ) (whole : length list ≡ 32 * n) where
+module _ (settings : List ℕ) (s : Settings) (a : settings_read settings ≡ Some s) (list : List ℕ) (n : ℕ) (whole : length list ≡ 32 * n) where
   stands-next : (m : ModelState) (store : List ℕ) (r : Record) (l : List Record) → Stands s list n m store (r ∷ l) → Stands s list n (model_next (context_of s) m r) (store_next (context_of s) m r store) l
   unfolding list_bytes model_next context_of
   stands-next m store r l k =

@@ -2,6 +2,7 @@
 -- bytes and refused ones among them, it answers 11 with rule n if and only if settings, store, length and record have nothing
 -- against them (1, 9, 13, 10), and n is the lowest rule that the record breaks after those that were taken.
 -- Assumes nothing.
+use Rattle.std.specs.Prelude.{Err, None, Ok, Result, Some}
 use Prim.Native.Nat.{ℕ}
 use mathlib.Core.Path.{◌≡◌, refl, sym, ap, ◌∙◌}
 use mathlib.Core.Bool.{Bool, true, cond}
@@ -12,7 +13,6 @@ use lib.ListN.{length}
 use native.Mathlib.Omega.{arith}
 use Rattle.num.specs.Bytes.{Bytes}
 use Rattle.settings.specs.declared.Settings.{Settings}
-use Rattle.settings.specs.declared.SettingsRead.TheVariants.{Refused, Accepted}
 use Rattle.settings.specs.Settings.{settings_read, AcceptedWith}
 use Rattle.settings.proofs.SettingsLaws.{accepted-valid, accepted-iff}
 use Rattle.record.specs.declared.Record.{Record}
@@ -25,8 +25,6 @@ use Rattle.record.proofs.RefusalLaws.{rule-number}
 use Rattle.spec_rules.specs.Neighbour.{Context, context_of}
 use Rattle.spec_rules.proofs.NeighbourLaws.{core-neighbours}
 use Rattle.spec_model.specs.declared.ModelState.{ModelState}
-use Rattle.spec_model.specs.declared.Stepped.{Stepped}
-use Rattle.spec_model.specs.declared.Stepped.TheVariants as stepped
 use Rattle.spec_model.specs.Model.{fresh_model, model_valid}
 use Rattle.spec_model.specs.ModelBytes.{model_bytes}
 use Rattle.spec_model.specs.Step.{step_answer, is_taken, step_model}
@@ -41,29 +39,32 @@ use Rattle.spec_calls.specs.Models.{stepped_answer, step_call}
 use Rattle.spec_calls.specs.Judges.{model_left, records_accepted, GivenBytes}
 use Rattle.spec_calls.proofs.OneCall.{refusal-number}
 use Rattle.spec_calls.proofs.DeviceRun.{step-answer, step-model, bytes-held}
+use Rattle.spec_model.specs.declared.Event.TheVariants.{Neither, Read, Retired}
+use Rattle.spec_model.specs.declared.Event.{Event}
+use Rattle.record.specs.declared.Refusal.{Refusal}
 
 -- ---- the answer in numbers
 
 -- a call that answers 0 has taken its record
-taken-number : (a : Stepped) → eqb (stepped_answer a).number 0 ≡ is_taken a
+taken-number : (a : Result Event Refusal) → eqb (stepped_answer a).number 0 ≡ is_taken a
 unfolding stepped_answer is_taken
-taken-number (stepped.Refused why) = refusal-number why
-taken-number stepped.Read = refl
-taken-number (stepped.Retired n) = refl
-taken-number stepped.Neither = refl
+taken-number (Err why) = refusal-number why
+taken-number (Ok Read) = refl
+taken-number (Ok (Retired n)) = refl
+taken-number (Ok Neither) = refl
 
 -- 11 with rule n
 abbrev broken : ℕ → StepAnswer
 broken n = record { number = 11; rule = n; event = 0; bytes = 0 }
 
-named : {R : Type 0} (a : Stepped) (n : ℕ) → stepped_answer a ≡ broken n → ((p : ℕ) → a ≡ stepped.Refused (refusal.Rule n p) → R) → R
+named : {R : Type 0} (a : Result Event Refusal) (n : ℕ) → stepped_answer a ≡ broken n → ((p : ℕ) → a ≡ Err (refusal.Rule n p) → R) → R
 unfolding stepped_answer
-named (stepped.Refused r) n e f =
+named (Err r) n e f =
     let rule : (answer_of r).rule ≡ n = ap (λ (x : StepAnswer). x.rule) e in
-    f (answer_of r).place (ap stepped.Refused (rule-number r (ap (λ (x : StepAnswer). x.number) e) ∙ rw rule))
-named stepped.Read n e f = absurd (let z = ap (λ (x : StepAnswer). x.number) e in omega arith)
-named (stepped.Retired b) n e f = absurd (let z = ap (λ (x : StepAnswer). x.number) e in omega arith)
-named stepped.Neither n e f = absurd (let z = ap (λ (x : StepAnswer). x.number) e in omega arith)
+    f (answer_of r).place (ap Err (rule-number r (ap (λ (x : StepAnswer). x.number) e) ∙ rw rule))
+named (Ok Read) n e f = absurd (let z = ap (λ (x : StepAnswer). x.number) e in omega arith)
+named (Ok (Retired b)) n e f = absurd (let z = ap (λ (x : StepAnswer). x.number) e in omega arith)
+named (Ok Neither) n e f = absurd (let z = ap (λ (x : StepAnswer). x.number) e in omega arith)
 
 -- ---- calls on bytes as calls on the model's states
 
@@ -80,7 +81,7 @@ step_fits cx m d stored given room w =
 taken-same : (said : List Record) (p q : Bool) (es fs : List Record) → p ≡ q → es ≡ fs → cond p said [] ++ es ≡ cond q said [] ++ fs
 taken-same said p q es fs e f = rw (e, f)
 
-module _ (settings : List ℕ) (s : Settings) (a : settings_read settings ≡ Accepted s) where
+module _ (settings : List ℕ) (s : Settings) (a : settings_read settings ≡ Some s) where
   -- the bytes that calls leave, and the records of those that answered 0
   record Follows (cs : List StepCall) : Type 0 where
     good : model_valid (context_of s) (model_after (context_of s) cs) ≡ true
@@ -98,7 +99,7 @@ module _ (settings : List ℕ) (s : Settings) (a : settings_read settings ≡ Ac
   follows (c ∷ cs) w =
       let f : Follows cs = follows cs w.1 in
       let m : ModelState = model_after (context_of s) cs in
-      let x : Stepped = step_answer (context_of s) m (length c.store) c.given (length c.room) in
+      let x : Result Event Refusal = step_answer (context_of s) m (length c.store) c.given (length c.room) in
       let zero-taken = ap (λ (y : StepAnswer). eqb y.number 0) (answer-is cs f c.store c.given c.room) ∙ taken-number x in
       record {
         good = step-valid (context_of s) (accepted-valid settings s a) (core-neighbours s) m f.good (length c.store) c.given (length c.room);
@@ -121,7 +122,7 @@ module _ (settings : List ℕ) (s : Settings) (a : settings_read settings ≡ Ac
       )
 
 -- settings out of range have 1, not 11
-refused-number : (settings model store given room : List ℕ) → settings_read settings ≡ Refused → (step_call settings model store given room).answer.number ≡ 1
+refused-number : (settings model store given room : List ℕ) → settings_read settings ≡ None → (step_call settings model store given room).answer.number ≡ 1
 unfolding under_settings step_call stepped_answer answer_of
 refused-number settings model store given room e = rw e
 

@@ -1,5 +1,6 @@
 -- The bytes of a list of records: record j of them, and what rdram_check answers where the records break no rule.
 -- Assumes nothing.
+use Rattle.std.specs.Prelude.{Err, Ok, Result, Some}
 use Prim.Native.Nat.{ℕ, zero, suc, ◌+◌, ◌*◌, ◌/◌, ◌%◌, ◌≤◌, ◌<◌}
 use mathlib.Core.Path.{◌≡◌, refl, sym, ap, ◌∙◌}
 use mathlib.Core.Bool.{true, false}
@@ -12,23 +13,20 @@ use Rattle.num.specs.Bytes.{part}
 use Rattle.num.proofs.PartLaws.{part_right, part-seam}
 use Rattle.num.proofs.SearchLaws.{first-none}
 use Rattle.settings.specs.declared.Settings.{Settings}
-use Rattle.settings.specs.declared.SettingsRead.TheVariants.{Accepted}
 use Rattle.settings.specs.Settings.{settings_read}
 use Rattle.record.specs.declared.Record.{Record}
-use Rattle.record.specs.declared.RecordRead.TheVariants.{Known}
 use Rattle.record.specs.Record.{record_bytes, record_read, is_known, well_formed, record_at, records_in, first_bad}
 use Rattle.spec_rules.specs.Neighbour.{context_of}
 use Rattle.spec_rules.specs.Broken.{record_in, every_rule}
 use Rattle.spec_rules.proofs.Bools.{not-both}
 use Rattle.spec_plan.specs.Call.{list_bytes}
 use Rattle.spec_runs.proofs.DriveLaws.{Every, Coded, length-record}
-use Rattle.spec_check.specs.declared.Judged.{Judged}
-use Rattle.spec_check.specs.declared.Judged.TheVariants.{Passed, Refused}
 use Rattle.spec_check.specs.Check.{known}
 use Rattle.spec_check.specs.Check.{records_up_to, records_of, list_answer}
 use Rattle.spec_check.proofs.PassLaws.{is_passed, list-passes}
 use Rattle.spec_calls.specs.Settings.{under_settings}
 use Rattle.spec_calls.specs.Checks.{check_answer, check_call}
+use Rattle.record.specs.declared.Refusal.{Refusal}
 
 module _ (s : Settings) where
   pub length-list : (l : List Record) → length (list_bytes s l) ≡ 32 * length l
@@ -66,7 +64,7 @@ module _ (s : Settings) where
   coded-at (r ∷ l) c (suc j) m = coded-at l c.1 j (omega arith)
 
   module _ (l : List Record) (c : Every (Coded (context_of s)) l) where
-    read_at : (j : ℕ) → j < length l → record_read s (record_at (list_bytes s l) j) ≡ Known (record_in l j)
+    read_at : (j : ℕ) → j < length l → record_read s (record_at (list_bytes s l) j) ≡ Some (record_in l j)
     unfolding context_of
     read_at j m = ap (record_read s) (list_at l j m) ∙ coded-at l c j m
 
@@ -91,12 +89,12 @@ module _ (s : Settings) where
         let whole : length (list_bytes s l) % 32 ≡ 0 = rw (length-list l) (omega arith) in
         list-passes (context_of s) (list_bytes s l) ∙ rw (whole, eq-eqb _ _ none-bad, records-of, e)
 
-  passed-number : (a : Judged) → is_passed a ≡ true → (check_answer a).number ≡ 0
+  passed-number : (a : Result (Unit {0}) Refusal) → is_passed a ≡ true → (check_answer a).number ≡ 0
   unfolding check_answer
-  passed-number Passed e = refl
-  passed-number (Refused r) e = not-both false e refl
+  passed-number (Ok tt) e = refl
+  passed-number (Err r) e = not-both false e refl
 
-  pub list-checked : (settings : List ℕ) → settings_read settings ≡ Accepted s → (l : List Record) → Every (Coded (context_of s)) l → every_rule (context_of s) l ≡ true
+  pub list-checked : (settings : List ℕ) → settings_read settings ≡ Some s → (l : List Record) → Every (Coded (context_of s)) l → every_rule (context_of s) l ≡ true
       → (check_call settings (list_bytes s l)).number ≡ 0
   unfolding check_call under_settings
   list-checked settings a l c e = rw a (passed-number (list_answer (context_of s) (list_bytes s l)) (list-passed l c e))

@@ -1,5 +1,6 @@
 -- A refused C call changes nothing: each result is given as it was lent, or has number 0.
 -- Assumes nothing.
+use Rattle.std.specs.Prelude.{Err, None, Ok, Option, Result, Some}
 use Prim.Native.Nat.{ℕ}
 use mathlib.Core.Path.{◌≡◌, refl}
 use mathlib.Core.Bool.{Bool, true, false, cond}
@@ -9,24 +10,16 @@ use lib.Dec.{eqb}
 use lib.ListN.{length}
 use borrow.Author.Tests.{ne_eqb}
 use Rattle.settings.specs.declared.Settings.{Settings}
-use Rattle.settings.specs.declared.SettingsRead.{SettingsRead}
-use Rattle.settings.specs.declared.SettingsRead.TheVariants as read
 use Rattle.settings.specs.Settings.{settings_read}
 use Rattle.record.specs.declared.Refusal.{Refusal}
 use Rattle.record.specs.declared.Refusal.TheVariants as refusal
 use Rattle.spec_rules.specs.Neighbour.{Context, context_of}
 use Rattle.spec_plan.specs.declared.PlannerState.{PlannerState}
-use Rattle.spec_plan.specs.declared.Outcome.{Outcome}
-use Rattle.spec_plan.specs.declared.Outcome.TheVariants as outcome
 use Rattle.spec_plan.specs.PlannerBytes.{planner_in, planner_right}
 use Rattle.spec_plan.specs.Call.{plan_outcome}
 use Rattle.spec_model.specs.declared.ModelState.{ModelState}
-use Rattle.spec_model.specs.declared.Stepped.{Stepped}
-use Rattle.spec_model.specs.declared.Stepped.TheVariants as stepped
 use Rattle.spec_model.specs.ModelBytes.{model_in, model_right}
 use Rattle.spec_model.specs.Step.{step_answer}
-use Rattle.log_list.specs.declared.Copied.{Copied}
-use Rattle.log_list.specs.declared.Copied.TheVariants as copied
 use Rattle.log_list.specs.Log.{copied}
 use Rattle.meter.specs.Answer.{feed_accepted}
 use Rattle.meter.specs.Meter.{feed_meter}
@@ -37,6 +30,8 @@ use Rattle.spec_calls.specs.Models.{model_fresh, stepped_answer, step_refused, s
 use Rattle.spec_calls.specs.Logs.{copy_answer, CopyResult, copy_by, copy_call, log_encode_call, log_decode_call}
 use Rattle.spec_calls.specs.Refused.{PlanKept, StepKept, RefusedCalls}
 use Rattle.spec_calls.proofs.AllInTurn.{all-in-turn}
+use Rattle.spec_model.specs.declared.Event.TheVariants.{Neither, Read, Retired}
+use Rattle.spec_model.specs.declared.Event.{Event}
 
 -- what holds of both results of a test
 either : {R : Type 0} (P : R → Type 0) (t : Bool) {x y : R} → P x → P y → P (cond t x y)
@@ -48,18 +43,18 @@ under : {R : Type 0} (P : R → Type 0) (settings : List ℕ) (refused : Refusal
 unfolding under_settings
 under P settings refused {call} p f = go (settings_read settings)
   where
-    go : (x : SettingsRead) → P (by_settings x refused call)
-    go read.Refused = p
-    go (read.Accepted s) = f s
+    go : (x : Option Settings) → P (by_settings x refused call)
+    go None = p
+    go (Some s) = f s
 
 fresh_kept : (size : ℕ) (new given : List ℕ) → (fresh_into size new given).number ≢ 0 → (fresh_into size new given).state ≡ given
 fresh_kept size new given =
     either (λ (x : FreshResult). x.number ≢ 0 → x.state ≡ given) (eqb (length given) size) (λ n. absurd (n refl)) (λ n. refl)
 
-plan-by : (planner request room : List ℕ) (cx : Context) (p : PlannerState) (o : Outcome) → PlanKept planner room (plan_by planner request room cx p o)
+plan-by : (planner request room : List ℕ) (cx : Context) (p : PlannerState) (o : Result ℕ Refusal) → PlanKept planner room (plan_by planner request room cx p o)
 unfolding plan_answer
-plan-by planner request room cx p (outcome.Refused why) n = (refl, refl)
-plan-by planner request room cx p (outcome.Made k) n = absurd (n refl)
+plan-by planner request room cx p (Err why) n = (refl, refl)
+plan-by planner request room cx p (Ok k) n = absurd (n refl)
 
 plan-kept : (settings planner request room : List ℕ) → PlanKept planner room (plan_call settings planner request room)
 unfolding plan_under plan_call
@@ -69,12 +64,12 @@ plan-kept settings planner request room =
     (plan-by planner request room (context_of s) (planner_in planner) (plan_outcome (context_of s) (planner_in planner) request (length room)))
     (λ n. (refl, refl)))
 
-step_by_lem : (model store given room : List ℕ) (cx : Context) (m : ModelState) (a : Stepped) → StepKept model store room (step_by model store given room cx m a)
+step_by_lem : (model store given room : List ℕ) (cx : Context) (m : ModelState) (a : Result Event Refusal) → StepKept model store room (step_by model store given room cx m a)
 unfolding stepped_answer
-step_by_lem model store given room cx m (stepped.Refused why) n = (refl, refl, refl)
-step_by_lem model store given room cx m stepped.Read n = absurd (n refl)
-step_by_lem model store given room cx m (stepped.Retired k) n = absurd (n refl)
-step_by_lem model store given room cx m stepped.Neither n = absurd (n refl)
+step_by_lem model store given room cx m (Err why) n = (refl, refl, refl)
+step_by_lem model store given room cx m (Ok Read) n = absurd (n refl)
+step_by_lem model store given room cx m (Ok (Retired k)) n = absurd (n refl)
+step_by_lem model store given room cx m (Ok Neither) n = absurd (n refl)
 
 step_kept : (settings model store given room : List ℕ) → StepKept model store room (step_call settings model store given room)
 unfolding step_under step_call
@@ -84,16 +79,16 @@ step_kept settings model store given room =
     (step_by_lem model store given room (context_of s) (model_in model) (step_answer (context_of s) (model_in model) (length store) given (length room)))
     (λ n. (refl, refl, refl)))
 
-pub copy-by : (new lent : List ℕ) (a : Copied) → (copy_answer a).number ≢ 0 → copied a new lent ≡ lent
+pub copy-by : (new lent : List ℕ) (a : Result ℕ Refusal) → (copy_answer a).number ≢ 0 → copied a new lent ≡ lent
 unfolding copy_answer copied
-copy-by new lent (copied.Refused why) n = refl
-copy-by new lent (copied.Count k) n = absurd (n refl)
+copy-by new lent (Err why) n = refl
+copy-by new lent (Ok k) n = absurd (n refl)
 
-pub copy-kept : (new lent : List ℕ) (answer : Settings → Copied) (settings : List ℕ) → (copy_call new lent answer settings).answer.number ≢ 0 → (copy_call new lent answer settings).lent ≡ lent
+pub copy-kept : (new lent : List ℕ) (answer : Settings → Result ℕ Refusal) (settings : List ℕ) → (copy_call new lent answer settings).answer.number ≢ 0 → (copy_call new lent answer settings).lent ≡ lent
 unfolding copy_call
 copy-kept new lent answer settings =
-    under (λ (x : CopyResult). x.answer.number ≢ 0 → x.lent ≡ lent) settings (λ why. copy_by new lent (copied.Refused why)) {call = λ s. copy_by new lent (answer s)}
-    (copy-by new lent (copied.Refused refusal.Settings))
+    under (λ (x : CopyResult). x.answer.number ≢ 0 → x.lent ≡ lent) settings (λ why. copy_by new lent (Err why)) {call = λ s. copy_by new lent (answer s)}
+    (copy-by new lent (Err refusal.Settings))
     (λ s. copy-by new lent (answer s))
 
 pub refused-changes-nothing : RefusedCalls

@@ -1,6 +1,7 @@
 -- The two round trips of the calls on logs: those of accepted settings (log/proofs/RoundTrip.antt), with the settings read from bytes
 -- and the answers in numbers.
 -- Assumes nothing.
+use Rattle.std.specs.Prelude.{Err, None, Ok, Option, Result, Some}
 use Prim.Native.Nat.{ℕ, ◌*◌, ◌/◌}
 use mathlib.Core.Path.{◌≡◌, refl, sym, ap, ◌∙◌}
 use mathlib.Core.List.{List, []}
@@ -8,13 +9,9 @@ use native.Mathlib.Omega.{arith}
 use lib.ListN.{length, take}
 use Rattle.num.proofs.SpliceLaws.{part-splice}
 use Rattle.settings.specs.declared.Settings.{Settings}
-use Rattle.settings.specs.declared.SettingsRead.{SettingsRead}
-use Rattle.settings.specs.declared.SettingsRead.TheVariants.{Refused, Accepted}
 use Rattle.settings.specs.Settings.{settings_read}
 use Rattle.record.specs.declared.Refusal.TheVariants as refusal
 use Rattle.record.proofs.RefusalLaws.{refused-number}
-use Rattle.log_list.specs.declared.Copied.{Copied}
-use Rattle.log_list.specs.declared.Copied.TheVariants as copied
 use Rattle.log_list.specs.Log.{copied, encode_answer, decode_answer}
 use Rattle.log_list.proofs.CopyLaws.{encoded, decoded}
 use Rattle.log_list.proofs.RoundTrip.{decode-encoded, encode-decoded}
@@ -25,29 +22,30 @@ use Rattle.log_block.proofs.ListThenLog.{list-whole, list-then-log}
 use Rattle.spec_calls.specs.Settings.{under_settings}
 use Rattle.spec_calls.specs.Logs.{copy_answer, CopyResult, copy_by, copy_call, log_encode_call, log_decode_call}
 use Rattle.spec_calls.specs.RoundTrip.{blocks_written, records_written, LogRoundTrips}
+use Rattle.record.specs.declared.Refusal.{Refusal}
 
 -- a call under settings that are accepted, and its count
-pub record Copies (answer : Settings → Copied) (settings : List ℕ) : Type 0 where
+pub record Copies (answer : Settings → Result ℕ Refusal) (settings : List ℕ) : Type 0 where
   pub s : Settings
-  pub read : settings_read settings ≡ Accepted s
+  pub read : settings_read settings ≡ Some s
   pub count : ℕ
-  pub is : answer s ≡ copied.Count count
+  pub is : answer s ≡ Ok count
 
-module _ (new lent : List ℕ) (answer : Settings → Copied) (settings : List ℕ) where
+module _ (new lent : List ℕ) (answer : Settings → Result ℕ Refusal) (settings : List ℕ) where
   -- number 0 is that of no refusal
   copies : (copy_call new lent answer settings).answer.number ≡ 0 → Copies answer settings
   unfolding under_settings copy_answer copy_call
   copies e = go (settings_read settings) refl
     where
-      made : (s : Settings) → settings_read settings ≡ Accepted s → (a : Copied) → answer s ≡ a → (copy_answer a).number ≡ 0 → Copies answer settings
-      made s r (copied.Refused why) h n = absurd (refused-number why n)
-      made s r (copied.Count k) h n = record { s = s; read = r; count = k; is = h }
+      made : (s : Settings) → settings_read settings ≡ Some s → (a : Result ℕ Refusal) → answer s ≡ a → (copy_answer a).number ≡ 0 → Copies answer settings
+      made s r (Err why) h n = absurd (refused-number why n)
+      made s r (Ok k) h n = record { s = s; read = r; count = k; is = h }
 
-      go : (x : SettingsRead) → settings_read settings ≡ x → Copies answer settings
-      go Refused r = absurd (refused-number refusal.Settings (rw r at e))
-      go (Accepted s) r = made s r (answer s) refl (rw r at e)
+      go : (x : Option Settings) → settings_read settings ≡ x → Copies answer settings
+      go None r = absurd (refused-number refusal.Settings (rw r at e))
+      go (Some s) r = made s r (answer s) refl (rw r at e)
 
-  result-is : (c : Copies answer settings) → copy_call new lent answer settings ≡ copy_by new lent (copied.Count c.count)
+  result-is : (c : Copies answer settings) → copy_call new lent answer settings ≡ copy_by new lent (Ok c.count)
   unfolding under_settings copy_call
   result-is c = rw (c.read, c.is)
 

@@ -1,6 +1,6 @@
 -- What the planner's calls answer and leave in every lent buffer: rdram_planner_fresh and rdram_plan.
 -- Assumes nothing.
-use Rattle.std.specs.Prelude.{ℕ, cond, List, eqb, length}
+use Rattle.std.specs.Prelude.{ℕ, cond, List, eqb, length, Err, Ok, Result}
 use Rattle.settings.specs.declared.Settings.{Settings as Figures}
 use Rattle.record.specs.declared.Refusal.{Refusal}
 use Rattle.record.specs.declared.Refusal.TheVariants.{Settings}
@@ -8,8 +8,6 @@ use Rattle.record.specs.Refusal.{answer_of}
 use Rattle.record.specs.Request.{request_read}
 use Rattle.spec_rules.specs.Neighbour.{Context, context_of}
 use Rattle.spec_plan.specs.declared.PlannerState.{PlannerState}
-use Rattle.spec_plan.specs.declared.Outcome.{Outcome}
-use Rattle.spec_plan.specs.declared.Outcome.TheVariants.{Refused, Made}
 use Rattle.spec_plan.specs.Planner.{fresh_planner}
 use Rattle.spec_plan.specs.PlannerBytes.{planner_length, planner_bytes, planner_in, planner_right}
 use Rattle.spec_plan.specs.Call.{plan_outcome, plan_next, plan_room}
@@ -31,9 +29,9 @@ unfoldable pub planner_fresh : List ℕ → FreshResult
 planner_fresh planner = fresh_into planner_length (planner_bytes fresh_planner) planner
 
 -- a plan call's answer in numbers; close hands back "unless refused, a count, one for each bank it looked at"
-unfoldable pub plan_answer : ℕ → Outcome → PlanAnswer
-plan_answer banks (Refused why) = record { number = (answer_of why).number; banks = 0; records = 0 }
-plan_answer banks (Made n) = record { number = 0; banks = banks; records = n }
+unfoldable pub plan_answer : ℕ → Result ℕ Refusal → PlanAnswer
+plan_answer banks (Err why) = record { number = (answer_of why).number; banks = 0; records = 0 }
+plan_answer banks (Ok n) = record { number = 0; banks = banks; records = n }
 
 -- the answer, and the bytes of planner and room at exit
 pub record PlanResult : Type 0 where
@@ -45,20 +43,20 @@ pub record PlanResult : Type 0 where
 module _ (planner request room : List ℕ) where
   -- "A refusal returns its number [..], and changes no lent buffer."
   abbrev pub plan_refused : Refusal → PlanResult
-  plan_refused why = record { answer = plan_answer 0 (Refused why); planner = planner; room = room }
+  plan_refused why = record { answer = plan_answer 0 (Err why); planner = planner; room = room }
 
   -- an accepted call: how many banks close looked at, the next state, and the records from the room's start on
   abbrev pub plan_made : Context → PlannerState → ℕ → PlanResult
   plan_made cx p n =
       record {
-        answer = plan_answer (looked_by p (request_read cx.settings request)) (Made n);
+        answer = plan_answer (looked_by p (request_read cx.settings request)) (Ok n);
         planner = planner_bytes (plan_next cx p request (length room));
         room = plan_room cx p request room;
       }
 
-  abbrev pub plan_by : Context → PlannerState → Outcome → PlanResult
-  plan_by cx p (Refused why) = plan_refused why
-  plan_by cx p (Made n) = plan_made cx p n
+  abbrev pub plan_by : Context → PlannerState → Result ℕ Refusal → PlanResult
+  plan_by cx p (Err why) = plan_refused why
+  plan_by cx p (Ok n) = plan_made cx p n
 
   -- 1 for a planner's bytes that are no state under the settings, then 13, 2 to 8
   unfoldable pub plan_under : Figures → PlanResult

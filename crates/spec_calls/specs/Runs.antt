@@ -1,11 +1,10 @@
 -- Whole runs as a C caller drives them (document 01, "Flat memory and whole runs"): state bytes, record bytes, answers in numbers.
 -- Assumes nothing.
-use Rattle.std.specs.Prelude.{ℕ, zero, suc, ◌+◌, ◌*◌, ◌/◌, ◌<◌, ◌≤◌, ◌≡◌, Bool, true, false, not, ◌||◌, cond, List, [], ◌∷◌, ◌++◌, eqb, leb, ltb, length, take}
+use Rattle.std.specs.Prelude.{ℕ, zero, suc, ◌+◌, ◌*◌, ◌/◌, ◌<◌, ◌≤◌, ◌≡◌, Bool, true, false, not, ◌||◌, cond, List, [], ◌∷◌, ◌++◌, eqb, leb, ltb, length, take, Ok}
 use Rattle.num.specs.Bytes.{Bytes, part}
 use Rattle.settings.specs.declared.Settings.{Settings}
 use Rattle.record.specs.declared.Record.{Record}
 use Rattle.record.specs.declared.Request.TheVariants.{Flush}
-use Rattle.record.specs.declared.RequestRead.TheVariants.{Accepted}
 use Rattle.record.specs.Request.{request_read}
 use Rattle.spec_rules.specs.Neighbour.{context_of}
 use Rattle.spec_plan.specs.Planner.{fresh_planner}
@@ -129,7 +128,7 @@ pub record FlushesLast (s : Settings) (requests : List Fed) : Type 0 where
   pub first : List Fed
   pub last : Fed
   pub ends : requests ≡ first ++ (last ∷ [])
-  pub flush : request_read s last.request ≡ Accepted Flush
+  pub flush : request_read s last.request ≡ Ok Flush
   pub taken : last.accepted ≡ true
 
 -- demand 3 of the C calls: of settings bytes that say s, plan calls, the bytes of a store, and the answer buffers of the model calls

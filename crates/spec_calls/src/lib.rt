@@ -2,6 +2,12 @@
 // and proofs/.
 #![tactic(auto)]
 
+ghost use Rattle.std.specs.Prelude.{◌≡◌};
+ghost use Rattle.spec_calls.specs.Checks.{check_answer};
+ghost use Rattle.spec_calls.specs.Logs.{copy_answer};
+
+use record::Refusal;
+
 // What a plan call answers: number is 0 and records what it made, or the refusal's number. banks is how many banks close looked at.
 #[repr(C)]
 #[derive(Clone, Copy)]
@@ -41,6 +47,29 @@ pub struct CheckAnswer {
     pub place: u64,
 }
 
+// A verdict in numbers.
+impl From<Result<(), Refusal>> for CheckAnswer {
+    ghost from_gives = { λ verdict a. a ≡ check_answer verdict };
+
+    fn from(verdict: Result<(), Refusal>) -> CheckAnswer {
+        match verdict {
+            Ok(()) => CheckAnswer {
+                number: 0,
+                rule: 0,
+                place: 0,
+            },
+            Err(r) => {
+                let a = r.answer();
+                CheckAnswer {
+                    number: a.number,
+                    rule: a.rule,
+                    place: a.place,
+                }
+            }
+        }
+    }
+}
+
 // What a copying call answers: number is 0 and count what it made, or the refusal's number and place.
 #[repr(C)]
 #[derive(Clone, Copy)]
@@ -48,4 +77,26 @@ pub struct CopyAnswer {
     pub number: u32,
     pub place: u64,
     pub count: u64,
+}
+
+impl From<Result<u64, Refusal>> for CopyAnswer {
+    ghost from_gives = { λ c a. a ≡ copy_answer c };
+
+    fn from(c: Result<u64, Refusal>) -> CopyAnswer {
+        match c {
+            Err(r) => {
+                let a = r.answer();
+                CopyAnswer {
+                    number: a.number,
+                    place: a.place,
+                    count: 0,
+                }
+            }
+            Ok(n) => CopyAnswer {
+                number: 0,
+                place: 0,
+                count: n,
+            },
+        }
+    }
 }

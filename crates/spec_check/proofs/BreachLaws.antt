@@ -1,6 +1,7 @@
 -- The checker answers 11 with rule n and place j if and only if record j is the first that breaks a rule, and n the lowest that it
 -- breaks.
 -- Assumes nothing.
+use Rattle.std.specs.Prelude.{Err, Ok, Result}
 use Prim.Native.Nat.{ℕ, ◌+◌, ◌%◌, ◌<◌, ◌≤◌}
 use mathlib.Core.Path.{◌≡◌, refl}
 use mathlib.Core.Bool.{Bool, true, false, cond}
@@ -22,8 +23,6 @@ use Rattle.log_block.proofs.ListThenLog.{list-whole}
 use Rattle.spec_rules.specs.Neighbour.{Context}
 use Rattle.spec_rules.specs.Broken.{FirstBreach, rule_at, first_broken}
 use Rattle.spec_rules.proofs.BrokenLaws.{breach-iff}
-use Rattle.spec_check.specs.declared.Judged.{Judged}
-use Rattle.spec_check.specs.declared.Judged.TheVariants.{Passed, Refused}
 use Rattle.spec_check.specs.Check.{records_of, rule_answer, records_answer, list_answer, log_answer, ListBreach, LogBreach}
 
 -- no index fails exactly where each passes
@@ -31,11 +30,11 @@ none-fails : (f : ℕ → Bool) (m : ℕ) → (eqb (first_false f m) m ≡ true)
 none-fails f m = (λ e i h. first-before f m i (omega (arith, eqb-true (first_false f m) m e)), λ h. eq-eqb _ _ (first-none f m h))
 
 module _ (cx : Context) (n j : ℕ) where
-  abbrev named : Judged
-  named = Refused (Rule n j)
+  abbrev named : Result (Unit {0}) Refusal
+  named = Err (Rule n j)
 
   -- an answer that names a rule only where a test passes
-  tested : (t : Bool) (x : Judged) (why : Refusal) → (why ≡ Rule n j → ⊥) → (cond t x (Refused why) ≡ named) ↔ ((t ≡ true) × (x ≡ named))
+  tested : (t : Bool) (x : Result (Unit {0}) Refusal) (why : Refusal) → (why ≡ Rule n j → ⊥) → (cond t x (Err why) ≡ named) ↔ ((t ≡ true) × (x ≡ named))
   tested true x why f = (λ e. (refl, e), λ e. e.1)
   tested false x why f = (λ e. absurd (f (cc)), λ e. absurd (let z : ◌≡◌ {A = ℕ} 0 1 = cc in omega arith))
 
@@ -55,7 +54,7 @@ module _ (cx : Context) (n j : ℕ) where
       k : ℕ
       k = first_broken cx rs
 
-      go : (t : Bool) → eqb k (length rs) ≡ t → cond t Passed (Refused (Rule (rule_at cx rs k) k)) ≡ named → FirstBreach cx rs n j
+      go : (t : Bool) → eqb k (length rs) ≡ t → cond t (Ok tt) (Err (Rule (rule_at cx rs k) k)) ≡ named → FirstBreach cx rs n j
       go true q e = absurd (let z : ◌≡◌ {A = ℕ} 0 1 = cc in omega arith)
       go false q e =
           let at : k ≡ j = cc in
@@ -64,7 +63,7 @@ module _ (cx : Context) (n j : ℕ) where
           let less : k ≡ length rs → ⊥ = eqb-false _ _ q in
           (breach-iff cx rs n j).0 (at, omega arith, rw at at rule)
 
-      back : FirstBreach cx rs n j → cond (eqb k (length rs)) Passed (Refused (Rule (rule_at cx rs k) k)) ≡ named
+      back : FirstBreach cx rs n j → cond (eqb k (length rs)) (Ok tt) (Err (Rule (rule_at cx rs k) k)) ≡ named
       back b =
           let e = (breach-iff cx rs n j).1 b in
           rw (e.0, ne_eqb j (length rs) (λ z. omega (arith, b.within)), e.2)
@@ -79,7 +78,7 @@ module _ (cx : Context) (n j : ℕ) where
       (λ e. (f.0 (t.0 e).0, r.0 (t.0 e).1), λ b. t.1 (f.1 b.0, r.1 b.1))
 
   -- of a list of bytes
-  pub list-names : (l : List ℕ) → (list_answer cx l ≡ Refused (Rule n j)) ↔ ListBreach cx l n j
+  pub list-names : (l : List ℕ) → (list_answer cx l ≡ Err (Rule n j)) ↔ ListBreach cx l n j
   unfolding list_answer
   list-names l =
       let t = tested (eqb (length l % 32) 0) (records_answer cx l) Length length-rule in
@@ -89,10 +88,10 @@ module _ (cx : Context) (n j : ℕ) where
       )
 
   -- of a log
-  pub log-names : (log : List ℕ) → (log_answer cx log ≡ Refused (Rule n j)) ↔ LogBreach cx log n j
+  pub log-names : (log : List ℕ) → (log_answer cx log ≡ Err (Rule n j)) ↔ LogBreach cx log n j
   unfolding log_answer first_bad_block
   log-names log =
-      let x = cond (eqb (first_bad_block 15 log) (blocks_in log)) (records_answer cx (list_of log)) (Refused (Block (first_bad_block 15 log))) in
+      let x = cond (eqb (first_bad_block 15 log) (blocks_in log)) (records_answer cx (list_of log)) (Err (Block (first_bad_block 15 log))) in
       let t = tested (eqb (length log % 512) 0) x Length length-rule in
       let u = tested (eqb (first_bad_block 15 log) (blocks_in log)) (records_answer cx (list_of log)) (Block (first_bad_block 15 log)) (block-rule (first_bad_block 15 log)) in
       let r = records-name (list_of log) in

@@ -1,11 +1,11 @@
 -- A record in front of a list that opens no bank frees no later record of a rule: what is broken without it is broken with it, or
 -- something before that.
 -- Assumes nothing.
+use Rattle.std.specs.Prelude.{Option, None, Some}
 use Prim.Native.Nat.{ℕ, suc, ◌+◌, ◌<◌}
 use mathlib.Core.Path.{◌≡◌, refl, sym, ap, ap₂, ◌∙◌, fun_ext}
 use mathlib.Core.Bool.{Bool, true, false, not, ◌&&◌, ◌||◌, cond}
 use mathlib.Core.List.{List, [], ◌∷◌, ◌++◌, reverse-cons}
-use mathlib.Core.Option.{Option, none, some}
 use lib.Dec.{eqb, leb}
 use lib.ListN.{length, take}
 use native.Mathlib.Omega.{arith}
@@ -84,23 +84,23 @@ module _ (cx : Context) where
   pub record Calm (f : Record) : Type 0 where
     pub waiting : waiting_after cx (f ∷ []) ≡ []
     pub banks : (x : ℕ) → bank_after cx (f ∷ []) x ≡ Closed
-    pub due : due_after cx (f ∷ []) ≡ none
+    pub due : due_after cx (f ∷ []) ≡ None
 
   left-nothing : (o : Option Write) → left o [] ≡ []
-  left-nothing none = refl
-  left-nothing (some w) = refl
+  left-nothing None = refl
+  left-nothing (Some w) = refl
 
-  leaving-nothing : (r : Record) → leaving cx [] r ≡ none
+  leaving-nothing : (r : Record) → leaving cx [] r ≡ None
   unfolding leaving
   leaving-nothing r = go ((traits r).not_read && false)
     where
-      go : (b : Bool) → only_write b none ≡ none
+      go : (b : Bool) → only_write b None ≡ None
       go true = refl
       go false = refl
 
   closed-stays : (o : Option ℕ) (x : ℕ) → closed_by cx o x Closed ≡ Closed
-  closed-stays none x = refl
-  closed-stays (some b) x = go (near cx b x)
+  closed-stays None x = refl
+  closed-stays (Some b) x = go (near cx b x)
     where
       go : (t : Bool) → cond t Closed Closed ≡ Closed
       go true = refl
@@ -109,18 +109,18 @@ module _ (cx : Context) where
   retired-stays : (r : Record) (o : Option ℕ) (x : ℕ) → closed_by cx o x (bank_retired cx [] r x Closed) ≡ Closed
   retired-stays r o x = ap (closed_by cx o x) (closed-stays (retire_implies (leaving cx [] r)) x) ∙ closed-stays o x
 
-  waits-nothing : (r : Record) → loads r ≡ none → waiting_after cx (r ∷ []) ≡ []
+  waits-nothing : (r : Record) → loads r ≡ None → waiting_after cx (r ∷ []) ≡ []
   unfolding waiting_after waiting_next
   waits-nothing r e = rw e (left-nothing (leaving cx [] r))
 
-  row_calm : (t : PacketAt) (p : RowPacket) → (traits (RowAt t p)).opens ≡ none → Calm (RowAt t p)
+  row_calm : (t : PacketAt) (p : RowPacket) → (traits (RowAt t p)).opens ≡ None → Calm (RowAt t p)
   unfolding traits row_traits loads bank_after bank_by due_after
   row_calm t (Act b r) e = not-both true refl (ap has e)
-  row_calm t (Prer b) e = record { waiting = waits-nothing (RowAt t (Prer b)) refl; banks = closed-stays (some b); due = refl }
+  row_calm t (Prer b) e = record { waiting = waits-nothing (RowAt t (Prer b)) refl; banks = closed-stays (Some b); due = refl }
   row_calm t (Refa b) e = not-both true refl (ap has e)
-  row_calm t (Refp b) e = record { waiting = waits-nothing (RowAt t (Refp b)) refl; banks = closed-stays (some b); due = refl }
+  row_calm t (Refp b) e = record { waiting = waits-nothing (RowAt t (Refp b)) refl; banks = closed-stays (Some b); due = refl }
 
-  col-calm : (t : PacketAt) (p : ColPacket) → loads (ColAt t p) ≡ none → due_after cx (ColAt t p ∷ []) ≡ none → Calm (ColAt t p)
+  col-calm : (t : PacketAt) (p : ColPacket) → loads (ColAt t p) ≡ None → due_after cx (ColAt t p ∷ []) ≡ None → Calm (ColAt t p)
   unfolding bank_after waiting_after
   col-calm t p e d = record { waiting = waits-nothing (ColAt t p) e; banks = retired-stays (ColAt t p) (traits (ColAt t p)).implies; due = d }
 
@@ -253,7 +253,7 @@ module _ (cx : Context) where
         omega arith
 
     -- what is refused before its last record is so with it
-    pub front-early : (f : Record) → (traits f).opens ≡ none → first_broken cx l + 1 < length l → first_broken cx (f ∷ l) < length l
+    pub front-early : (f : Record) → (traits f).opens ≡ None → first_broken cx l + 1 < length l → first_broken cx (f ∷ l) < length l
     unfolding loads due_after
     front-early (RowAt t p) e h = calm-early (RowAt t p) (row_calm t p e) h
     front-early (ColAt t (Nocop m)) e h = calm-early (ColAt t (Nocop m)) (col-calm t (Nocop m) refl refl) h

@@ -1,5 +1,6 @@
 -- A list passes if and only if its records are well formed and every rule holds on it.
 -- Assumes nothing.
+use Rattle.std.specs.Prelude.{Err, Ok, Result}
 use Prim.Native.Nat.{ℕ, ◌%◌}
 use mathlib.Core.Path.{◌≡◌, refl, ◌∙◌, ap}
 use mathlib.Core.Bool.{Bool, true, false, cond, ◌&&◌}
@@ -15,20 +16,18 @@ use Rattle.record.specs.Record.{records_in, first_bad}
 use Rattle.log_block.specs.Block.{blocks_in, first_bad_block, list_of}
 use Rattle.spec_rules.specs.Neighbour.{Context}
 use Rattle.spec_rules.specs.Broken.{rule_at, first_broken, every_rule}
-use Rattle.spec_check.specs.declared.Judged.{Judged}
-use Rattle.spec_check.specs.declared.Judged.TheVariants.{Passed, Refused}
 use Rattle.spec_check.specs.Check.{records_of, rule_answer, records_answer, list_answer, log_answer}
 
-abbrev pub is_passed : Judged → Bool
-is_passed Passed = true
-is_passed (Refused r) = false
+abbrev pub is_passed : Result (Unit {0}) Refusal → Bool
+is_passed (Ok tt) = true
+is_passed (Err r) = false
 
 -- an answer that passes only where a test does
-passed-if : (t : Bool) (x : Judged) (r : Refusal) → is_passed (cond t x (Refused r)) ≡ (t && is_passed x)
+passed-if : (t : Bool) (x : Result (Unit {0}) Refusal) (r : Refusal) → is_passed (cond t x (Err r)) ≡ (t && is_passed x)
 passed-if true x r = refl
 passed-if false x r = refl
 
-passed-test : (t : Bool) (r : Refusal) → is_passed (cond t Passed (Refused r)) ≡ t
+passed-test : (t : Bool) (r : Refusal) → is_passed (cond t (Ok tt) (Err r)) ≡ t
 passed-test true r = refl
 passed-test false r = refl
 
@@ -54,6 +53,6 @@ pub log-passes : (cx : Context) (log : List ℕ)
     ≡ (eqb (length log % 512) 0 && (eqb (first_bad_block 15 log) (blocks_in log) && (eqb (first_bad cx.settings (list_of log)) (records_in (list_of log)) && every_rule cx (records_of cx.settings (list_of log)))))
 unfolding log_answer
 log-passes cx log =
-    let inner = cond (eqb (first_bad_block 15 log) (blocks_in log)) (records_answer cx (list_of log)) (Refused (Block (first_bad_block 15 log))) in
+    let inner = cond (eqb (first_bad_block 15 log) (blocks_in log)) (records_answer cx (list_of log)) (Err (Block (first_bad_block 15 log))) in
     passed-if (eqb (length log % 512) 0) inner Length ∙ ap (λ (t : Bool). eqb (length log % 512) 0 && t)
     (passed-if (eqb (first_bad_block 15 log) (blocks_in log)) (records_answer cx (list_of log)) (Block (first_bad_block 15 log)) ∙ ap (λ (t : Bool). eqb (first_bad_block 15 log) (blocks_in log) && t) (records-pass cx (list_of log)))

@@ -1,11 +1,11 @@
 -- The run from the start that is answered still breaks the rule, no run from a later one does, and there is always such a run.
 -- Assumes nothing.
+use Rattle.std.specs.Prelude.{None, Err}
 use Prim.Native.Nat.{ℕ, zero, suc, ◌+◌, ◌-◌, ◌<◌, ◌≤◌}
 use mathlib.Core.Path.{◌≡◌, refl, sym, ap, ◌∙◌}
 use mathlib.Core.Bool.{Bool, true, false, cond}
 use mathlib.Core.List.{List, ◌∷◌, reverse}
 use mathlib.Core.Logic.{◌↔◌, ◌⊎◌, ⊎_elim}
-use mathlib.Core.Option.{none}
 use lib.Dec.{eqb}
 use lib.ListN.{length}
 use lib.Seq.{slice-cons, length-slice, get_or-take, take-take}
@@ -20,7 +20,6 @@ use Rattle.spec_rules.specs.Packets.{traits}
 use Rattle.spec_rules.specs.Broken.{earlier, record_in, FirstBreach, rule_at, first_broken}
 use Rattle.spec_rules.proofs.Bools.{not-both, and_left, and_right}
 use Rattle.spec_rules.proofs.BrokenLaws.{breach-iff}
-use Rattle.spec_check.specs.declared.Judged.TheVariants.{Refused}
 use Rattle.spec_check.specs.Check.{records_of, list_answer, ListBreach}
 use Rattle.spec_check.proofs.BreachLaws.{list-names}
 use Rattle.spec_check.specs.declared.Shortest.{Shortest}
@@ -85,7 +84,7 @@ module _ (cx : Context) (rs : List Record) (j : ℕ) (h : j < length rs) where
       )
 
   -- a start that is skipped: a run that is refused before record j is so with a record in front that opens no bank
-  pub early-front : (i : ℕ) → (traits (record_in rs i)).opens ≡ none → first_broken cx (run rs (suc i) j) < j - suc i → first_broken cx (run rs i j) < j - i
+  pub early-front : (i : ℕ) → (traits (record_in rs i)).opens ≡ None → first_broken cx (run rs (suc i) j) < j - suc i → first_broken cx (run rs i j) < j - i
   early-front i e b =
       let l = length_run (suc i) in
       let f = front-early cx (run rs (suc i) j) (record_in rs i) e (omega arith) in
@@ -138,22 +137,22 @@ module _ (cx : Context) (rs : List Record) (j : ℕ) (h : j < length rs) where
 
 -- the answer names rule n, record j and start i exactly where the checker names n and j and the run from i is the shortest
 pub shortest-names : (cx : Context) (l : List ℕ) (n j i : ℕ)
-    → (shortest_answer cx l ≡ record { judged = Refused (Rule n j); start = i }) ↔ (ListBreach cx l n j × ShortestRun cx (records_of cx.settings l) n j i)
+    → (shortest_answer cx l ≡ record { judged = Err (Rule n j); start = i }) ↔ (ListBreach cx l n j × ShortestRun cx (records_of cx.settings l) n j i)
 unfolding shortest_answer start_of answer_of
 shortest-names cx l n j i = (there, back)
   where
     rs : List Record
     rs = records_of cx.settings l
 
-    there : shortest_answer cx l ≡ record { judged = Refused (Rule n j); start = i } → ListBreach cx l n j × ShortestRun cx rs n j i
+    there : shortest_answer cx l ≡ record { judged = Err (Rule n j); start = i } → ListBreach cx l n j × ShortestRun cx rs n j i
     there e =
-        let v : list_answer cx l ≡ Refused (Rule n j) = ap (λ (x : Shortest). x.judged) e in
+        let v : list_answer cx l ≡ Err (Rule n j) = ap (λ (x : Shortest). x.judged) e in
         let s : start_of cx rs (list_answer cx l) ≡ i = ap (λ (x : Shortest). x.start) e in
         let b = (list-names cx n j l).0 v in
         let q : shortest_start cx rs n j ≡ i = rw v at s in
         (b, rw (sym q) (shortest-right cx rs j b.breach.within n b.breach))
 
-    back : ListBreach cx l n j × ShortestRun cx rs n j i → shortest_answer cx l ≡ record { judged = Refused (Rule n j); start = i }
+    back : ListBreach cx l n j × ShortestRun cx rs n j i → shortest_answer cx l ≡ record { judged = Err (Rule n j); start = i }
     back b =
         let f = b.0.breach in
         rw ((list-names cx n j l).1 b.0, shortest-only cx rs j f.within n f i b.1)

@@ -1,24 +1,21 @@
 -- What the checker answers of a whole list of records, and of a whole log (document 01, "What is turned back").
 -- Assumes nothing.
-use Rattle.std.specs.Prelude.{ℕ, zero, suc, ◌+◌, ◌%◌, ◌<◌, ◌≡◌, true, cond, List, [], ◌∷◌, ◌++◌, eqb, length}
+use Rattle.std.specs.Prelude.{ℕ, zero, suc, ◌+◌, ◌%◌, ◌<◌, ◌≡◌, true, cond, List, [], ◌∷◌, ◌++◌, eqb, length, Err, None, Ok, Option, Result, Some}
 use Rattle.settings.specs.declared.Settings.{Settings}
 use Rattle.record.specs.declared.Record.{Record}
 use Rattle.record.specs.declared.Record.TheVariants.{DataOf}
-use Rattle.record.specs.declared.RecordRead.{RecordRead}
-use Rattle.record.specs.declared.RecordRead.TheVariants.{NoRecord, Known}
 use Rattle.record.specs.declared.Refusal.TheVariants.{Rule}
 use Rattle.record.specs.Record.{record_read, well_formed, record_at, records_in}
 use Rattle.log_block.specs.Block.{block_at, block_right, blocks_in, list_of}
 use Rattle.log_block.specs.Right.{whole_in, right_blocks, right_records}
 use Rattle.spec_rules.specs.Neighbour.{Context}
 use Rattle.spec_rules.specs.Broken.{FirstBreach, rule_at, first_broken}
-use Rattle.spec_check.specs.declared.Judged.{Judged}
-use Rattle.spec_check.specs.declared.Judged.TheVariants.{Passed, Refused}
+use Rattle.record.specs.declared.Refusal.{Refusal}
 
 -- the record that was read; bytes that are none have some record, which nothing asks for
-unfoldable pub known : RecordRead → Record
-known NoRecord = DataOf (record { 0 = 0 }) (record { dqa = 0; dqb = 0 })
-known (Known r) = r
+unfoldable pub known : Option Record → Record
+known None = DataOf (record { 0 = 0 }) (record { dqa = 0; dqb = 0 })
+known (Some r) = r
 
 -- the first n records of a list of bytes
 unfoldable pub records_up_to : Settings → List ℕ → ℕ → List Record
@@ -30,21 +27,21 @@ unfoldable pub records_of : Settings → List ℕ → List Record
 records_of s l = records_up_to s l (records_in l)
 
 -- "11 rule: with the lowest broken rule", of the first record that breaks one
-unfoldable pub rule_answer : Context → List Record → Judged
+unfoldable pub rule_answer : Context → List Record → Result (Unit {0}) Refusal
 rule_answer cx rs =
-    cond (eqb (first_broken cx rs) (length rs)) Passed (Refused (Rule (rule_at cx rs (first_broken cx rs)) (first_broken cx rs)))
+    cond (eqb (first_broken cx rs) (length rs)) (Ok tt) (Err (Rule (rule_at cx rs (first_broken cx rs)) (first_broken cx rs)))
 
 -- "A whole list is tested [..] for 10, then for 11": of whole records
-unfoldable pub records_answer : Context → List ℕ → Judged
-records_answer cx l = right_records Refused cx.settings l (rule_answer cx (records_of cx.settings l))
+unfoldable pub records_answer : Context → List ℕ → Result (Unit {0}) Refusal
+records_answer cx l = right_records Err cx.settings l (rule_answer cx (records_of cx.settings l))
 
 -- a list of records: 13, then 10, then 11
-unfoldable pub list_answer : Context → List ℕ → Judged
-list_answer cx l = whole_in Refused 32 l (records_answer cx l)
+unfoldable pub list_answer : Context → List ℕ → Result (Unit {0}) Refusal
+list_answer cx l = whole_in Err 32 l (records_answer cx l)
 
 -- a log of blocks: 13, then 12, then 10 and 11 of the list that it keeps
-unfoldable pub log_answer : Context → List ℕ → Judged
-log_answer cx log = whole_in Refused 512 log (right_blocks Refused 15 log (records_answer cx (list_of log)))
+unfoldable pub log_answer : Context → List ℕ → Result (Unit {0}) Refusal
+log_answer cx log = whole_in Err 512 log (right_blocks Err 15 log (records_answer cx (list_of log)))
 
 -- what 11 with rule n and place j says of a list: whole records, all well formed; record j is the first that breaks a rule, and n
 -- the lowest that it breaks

@@ -1,16 +1,15 @@
 -- The shortest run of a list that still breaks its rule (document 02 l).
 -- Assumes nothing.
-use Rattle.std.specs.Prelude.{ℕ, zero, suc, ◌+◌, ◌-◌, ◌*◌, ◌<◌, ◌≤◌, Bool, cond, ◌&&◌, List, eqb, take, drop}
+use Rattle.std.specs.Prelude.{ℕ, zero, suc, ◌+◌, ◌-◌, ◌*◌, ◌<◌, ◌≤◌, Bool, cond, ◌&&◌, List, eqb, take, drop, Err, Ok, Result}
 use Rattle.num.specs.Bytes.{part}
 use Rattle.record.specs.declared.Record.{Record}
 use Rattle.record.specs.declared.Answer.{Answer}
 use Rattle.record.specs.Refusal.{answer_of}
 use Rattle.spec_rules.specs.Neighbour.{Context}
 use Rattle.spec_rules.specs.Broken.{FirstBreach, rule_at, first_broken}
-use Rattle.spec_check.specs.declared.Judged.{Judged}
-use Rattle.spec_check.specs.declared.Judged.TheVariants.{Passed, Refused}
 use Rattle.spec_check.specs.Check.{records_of, list_answer}
 use Rattle.spec_check.specs.declared.Shortest.{Shortest}
+use Rattle.record.specs.declared.Refusal.{Refusal}
 
 -- the run of a list from record i to record j
 abbrev pub run : List Record → ℕ → ℕ → List Record
@@ -37,9 +36,9 @@ shortest_start cx rs n j = last_true (still_breaks cx rs n j) j
 abbrev pub start_by : Context → List Record → Answer → ℕ
 start_by cx rs a = cond (eqb a.number 11) (shortest_start cx rs a.rule a.place) 0
 
-unfoldable pub start_of : Context → List Record → Judged → ℕ
-start_of cx rs Passed = 0
-start_of cx rs (Refused why) = start_by cx rs (answer_of why)
+unfoldable pub start_of : Context → List Record → Result (Unit {0}) Refusal → ℕ
+start_of cx rs (Ok tt) = 0
+start_of cx rs (Err why) = start_by cx rs (answer_of why)
 
 -- a list of records: 13, then 10, then 11 as of the checker, with the start of the run
 unfoldable pub shortest_answer : Context → List ℕ → Shortest

@@ -4,17 +4,10 @@
 
 use record::Refusal;
 
-// What the checker answers: every rule holds, or why not.
-#[derive(Clone, Copy)]
-pub enum Judged {
-    Passed,
-    Refused(Refusal),
-}
-
 // What is answered of a list: the checker's verdict on it and, where that names a rule and a record, the record from which the
 // shortest run starts that still breaks the rule there.
 #[derive(Clone, Copy)]
 pub struct Shortest {
-    pub judged: Judged,
+    pub judged: Result<(), Refusal>,
     pub start: u64,
 }

@@ -1,6 +1,6 @@
 -- The word of a block: the banks that its packets name (document 02, request b).
 -- Assumes nothing.
-use Rattle.std.specs.Prelude.{ℕ, zero, suc, Bool, false, ◌||◌, List, eqb}
+use Rattle.std.specs.Prelude.{ℕ, zero, suc, Bool, false, ◌||◌, List, eqb, None, Option, Some}
 use Rattle.settings.specs.declared.Settings.{Settings}
 use Rattle.packet.specs.declared.RowPacket.{RowPacket}
 use Rattle.packet.specs.declared.RowPacket.TheVariants.{Act, Prer, Refa, Refp}
@@ -8,8 +8,6 @@ use Rattle.packet.specs.declared.ColPacket.{ColPacket}
 use Rattle.packet.specs.declared.ColPacket.TheVariants.{Nocop, Wr, Rd}
 use Rattle.record.specs.declared.Record.{Record}
 use Rattle.record.specs.declared.Record.TheVariants.{RowAt, ColAt, DataOf}
-use Rattle.record.specs.declared.RecordRead.{RecordRead}
-use Rattle.record.specs.declared.RecordRead.TheVariants.{NoRecord, Known}
 use Rattle.record.specs.Record.{record_read, record_at}
 use Rattle.log_block.specs.Block.{used}
 use Rattle.num.specs.Marks.{word}
@@ -38,9 +36,9 @@ names (ColAt t p) b = col_names p b
 names (DataOf t d) b = false
 
 -- the same of what 32 bytes say
-unfoldable pub said_names : RecordRead → ℕ → Bool
-said_names NoRecord b = false
-said_names (Known r) b = names r b
+unfoldable pub said_names : Option Record → ℕ → Bool
+said_names None b = false
+said_names (Some r) b = names r b
 
 -- whether a record that a block uses names bank b
 unfoldable pub touches : Settings → List ℕ → ℕ → Bool

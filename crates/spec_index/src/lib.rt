@@ -1,13 +1,22 @@
 // Which blocks of a log touch a bank (document 02, request b): definitions and theorems.
 #![tactic(auto)]
 
+ghost use Rattle.spec_index.specs.declared.IndexRefusal.TheVariants.{Refused};
+ghost use Rattle.std.specs.Prelude.{◌≡◌};
+
 use record::Refusal;
 
-// What a call on an index answers: a refusal of document 01's table, the first word of the index that is wrong, missing or surplus,
-// or how many words or block numbers there are.
+// Why a call on an index is refused: by document 01's table, or the first word of the index that is wrong, missing or surplus.
 #[derive(Clone, Copy)]
-pub enum Indexed {
+pub enum IndexRefusal {
     Refused(Refusal),
     Differs(u64),
-    Count(u64),
+}
+
+impl From<Refusal> for IndexRefusal {
+    ghost from_gives = { λ why e. e ≡ Refused why };
+
+    fn from(why: Refusal) -> IndexRefusal {
+        IndexRefusal::Refused(why)
+    }
 }

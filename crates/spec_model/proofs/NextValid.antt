@@ -1,5 +1,6 @@
 -- A model state that is not refused stays so: no call makes one that is (document 01, "What is turned back").
 -- Assumes nothing.
+use Rattle.std.specs.Prelude.{Err, None, Option, Result, Some}
 use Prim.Native.Nat.{ℕ, ◌+◌, ◌%◌, ◌≤◌, ◌<◌}
 use mathlib.Core.Path.{◌≡◌, refl}
 use mathlib.Core.Bool.{Bool, true, false, cond}
@@ -14,8 +15,6 @@ use Rattle.settings.proofs.SettingsLaws.{bounds}
 use Rattle.packet.specs.declared.RowPacket.TheVariants.{Act, Prer, Refa, Refp}
 use Rattle.record.specs.declared.Record.{Record}
 use Rattle.record.specs.declared.Record.TheVariants.{RowAt, ColAt, DataOf}
-use Rattle.record.specs.declared.RecordRead.{RecordRead}
-use Rattle.record.specs.declared.RecordRead.TheVariants.{NoRecord, Known}
 use Rattle.record.specs.declared.Refusal.TheVariants.{Store, Rule, Length}
 use Rattle.record.specs.Record.{record_fits, record_read}
 use Rattle.record.proofs.RoundTrip.{record-read-fits}
@@ -25,11 +24,11 @@ use Rattle.spec_rules.proofs.Bools.{not-both, and_left, and_right}
 use Rattle.spec_state.specs.Valid.{channel_valid}
 use Rattle.spec_state.proofs.NextValid.{fresh-channel-valid, next-channel-valid}
 use Rattle.spec_model.specs.declared.ModelState.{ModelState}
-use Rattle.spec_model.specs.declared.Stepped.{Stepped}
-use Rattle.spec_model.specs.declared.Stepped.TheVariants.{Refused}
 use Rattle.spec_model.specs.Store.{store_length}
 use Rattle.spec_model.specs.Model.{fresh_model, model_valid, refr_by, refr_next, model_next, retired_write, read_of, retire_mask}
 use Rattle.spec_model.specs.Step.{retire_answer, passed_answer, record_answer, read_answer, step_answer, is_taken, taken, model_by, step_model}
+use Rattle.spec_model.specs.declared.Event.{Event}
+use Rattle.record.specs.declared.Refusal.{Refusal}
 
 pub fresh-model-valid : (cx : Context) → valid cx.settings ≡ true → model_valid cx fresh_model ≡ true
 unfolding fresh_model model_valid
@@ -57,29 +56,29 @@ module _ (cx : Context) (m : ModelState) where
   taken-judged r room e = go (eqb (judged cx m.channel r) 0) refl e
     where
       go : (q : Bool) → eqb (judged cx m.channel r) 0 ≡ q
-          → is_taken (cond q (passed_answer (read_of cx m.channel r) (retire_answer (retired_write cx m r) (retire_mask r)) room) (Refused (Rule (judged cx m.channel r) 0))) ≡ true
+          → is_taken (cond q (passed_answer (read_of cx m.channel r) (retire_answer (retired_write cx m r) (retire_mask r)) room) (Err (Rule (judged cx m.channel r) 0))) ≡ true
           → judged cx m.channel r ≡ 0
       go true h t = eqb-true _ 0 h
       go false h t = not-both false t refl
 
   -- what holds of this model, and of it after any record that is said by the call's 32 bytes and breaks no rule, holds after a call
   pub step_keeps : (P : Bool → ModelState → Type 0) (stored : ℕ) (given : List ℕ) (room : ℕ) → P false m
-      → ((r : Record) → length given ≡ 32 → record_read cx.settings given ≡ Known r → judged cx m.channel r ≡ 0 → P true (model_next cx m r))
+      → ((r : Record) → length given ≡ 32 → record_read cx.settings given ≡ Some r → judged cx m.channel r ≡ 0 → P true (model_next cx m r))
       → P (taken cx m stored given room) (step_model cx m stored given room)
   unfolding step_model step_answer read_answer model_by is_taken
   step_keeps P stored given room same next = go (eqb stored (store_length cx)) (eqb (length given) 32) (record_read cx.settings given) refl refl
     where
-      by : (r : Record) → length given ≡ 32 → record_read cx.settings given ≡ Known r → (t : Bool) → is_taken (record_answer cx m r room) ≡ t → P t (cond t (model_next cx m r) m)
+      by : (r : Record) → length given ≡ 32 → record_read cx.settings given ≡ Some r → (t : Bool) → is_taken (record_answer cx m r room) ≡ t → P t (cond t (model_next cx m r) m)
       by r l e true h = next r l e (taken-judged r room h)
       by r l e false h = same
 
-      after : Stepped → RecordRead → Type 0
+      after : Result Event Refusal → Option Record → Type 0
       after a read = P (is_taken a) (cond (is_taken a) (model_by cx m read) m)
 
-      go : (p q : Bool) (read : RecordRead) → eqb (length given) 32 ≡ q → record_read cx.settings given ≡ read
-          → after (cond p (cond q (read_answer cx m read room) (Refused Length)) (Refused Store)) read
-      go true true NoRecord l e = same
-      go true true (Known r) l e = by r (eqb-true _ _ l) e (is_taken (record_answer cx m r room)) refl
+      go : (p q : Bool) (read : Option Record) → eqb (length given) 32 ≡ q → record_read cx.settings given ≡ read
+          → after (cond p (cond q (read_answer cx m read room) (Err Length)) (Err Store)) read
+      go true true None l e = same
+      go true true (Some r) l e = by r (eqb-true _ _ l) e (is_taken (record_answer cx m r room)) refl
       go true false read l e = same
       go false q read l e = same
 

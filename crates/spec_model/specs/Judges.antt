@@ -1,10 +1,8 @@
 -- Model calls in a row, of any bytes: the model that they leave, the records that they took, and what 11 says of one call more.
 -- Calls and records have the newest first.
 -- Assumes nothing.
-use Rattle.std.specs.Prelude.{ℕ, ◌≡◌, cond, List, [], ◌∷◌, ◌++◌, length}
+use Rattle.std.specs.Prelude.{ℕ, ◌≡◌, cond, List, [], ◌∷◌, ◌++◌, length, None, Option, Some}
 use Rattle.record.specs.declared.Record.{Record}
-use Rattle.record.specs.declared.RecordRead.{RecordRead}
-use Rattle.record.specs.declared.RecordRead.TheVariants.{NoRecord, Known}
 use Rattle.record.specs.Record.{record_read}
 use Rattle.spec_rules.specs.Neighbour.{Context}
 use Rattle.spec_rules.specs.Broken.{LowestBroken}
@@ -25,9 +23,9 @@ model_after cx [] = fresh_model
 model_after cx (c ∷ cs) = step_model cx (model_after cx cs) (length c.store) c.given (length c.room)
 
 -- the record that bytes say, where they say one
-unfoldable pub record_said : RecordRead → List Record
-record_said NoRecord = []
-record_said (Known r) = r ∷ []
+unfoldable pub record_said : Option Record → List Record
+record_said None = []
+record_said (Some r) = r ∷ []
 
 -- the records that these calls took
 unfoldable pub taken_by : Context → List StepCall → List Record
@@ -42,5 +40,5 @@ pub record StepBreach (cx : Context) (es : List Record) (stored : ℕ) (given : 
   pub sized : stored ≡ store_length cx
   pub whole : length given ≡ 32
   pub it : Record
-  pub said : record_read cx.settings given ≡ Known it
+  pub said : record_read cx.settings given ≡ Some it
   pub lowest : LowestBroken cx es it n

@@ -1,7 +1,6 @@
 -- The device model (document 01, "Banks", "Write buffer", "What is turned back"): what a record that breaks no rule does.
 -- Assumes nothing.
-use Rattle.std.specs.Prelude.{ℕ, ◌+◌, ◌%◌, Bool, cond, ◌&&◌, List, eqb, ltb}
-use Rattle.std.proofs.Math.Option.{Option, none, some}
+use Rattle.std.specs.Prelude.{ℕ, ◌+◌, ◌%◌, Bool, cond, ◌&&◌, List, eqb, ltb, Option, None, Some}
 use Rattle.packet.specs.declared.RowPacket.{RowPacket}
 use Rattle.packet.specs.declared.RowPacket.TheVariants.{Act, Prer, Refa, Refp}
 use Rattle.packet.specs.declared.ColPacket.{ColPacket}
@@ -53,8 +52,8 @@ retired_write cx m r = leaving_of cx m.channel r
 
 -- a waiting write done in a store: "to the row open in its bank, under the mask"
 abbrev pub retired_to : Context → Channel → Option Write → ℕ → Dualoct → List ℕ → List ℕ
-retired_to cx ch none mask d store = store
-retired_to cx ch (some w) mask d store =
+retired_to cx ch None mask d store = store
+retired_to cx ch (Some w) mask d store =
     masked store (dualoct_at cx w.bank (open_row (state_of ch w.bank)) w.column) mask (dualoct_bytes d)
 
 -- ---- what a record does
@@ -77,8 +76,8 @@ refr_next cx (DataOf t d) refr = refr
 
 -- the data of the older write after a packet that retires this one: those of the newer move up
 abbrev pub bytes_left : Option Write → Dualoct → Dualoct → Dualoct
-bytes_left none older newer = older
-bytes_left (some w) older newer = newer
+bytes_left None older newer = older
+bytes_left (Some w) older newer = newer
 
 -- "WR loads it", and its D brings the data, "the second's data beside the first's"
 unfoldable pub bytes_next : Context → ModelState → Record → Dualoct
@@ -100,11 +99,11 @@ model_next cx m r =
 
 -- the dualoct that a packet reads, from the row open in its bank
 abbrev pub col_read : Context → Channel → ColPacket → Option ℕ
-col_read cx ch (Nocop m) = none
-col_read cx ch (Wr b c m x) = none
-col_read cx ch (Rd b c m x) = some (dualoct_at cx b (open_row (state_of ch b)) c)
+col_read cx ch (Nocop m) = None
+col_read cx ch (Wr b c m x) = None
+col_read cx ch (Rd b c m x) = Some (dualoct_at cx b (open_row (state_of ch b)) c)
 
 unfoldable pub read_of : Context → Channel → Record → Option ℕ
-read_of cx ch (RowAt t p) = none
+read_of cx ch (RowAt t p) = None
 read_of cx ch (ColAt t p) = col_read cx ch p
-read_of cx ch (DataOf t d) = none
+read_of cx ch (DataOf t d) = None

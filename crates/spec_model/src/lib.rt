@@ -7,6 +7,8 @@ use spec_rules::Channel;
 // The bytes of a model.
 pub const MODEL_BYTES: usize = 792;
 
+pub type ModelBytes = [u8; MODEL_BYTES];
+
 // A model between two records: the channel, REFR, and the data of the waiting writes, those of the older one first.
 #[derive(Clone, Copy)]
 pub struct ModelState {
@@ -16,11 +18,10 @@ pub struct ModelState {
     pub second: Dualoct,
 }
 
-// What a model call answers: the dualoct is in the answer buffer; a write was retired, with the number of bytes that it wrote;
-// neither; or why the call is refused.
+// What a record that is taken does: the dualoct is in the answer buffer; a write was retired, with the number of bytes that it
+// wrote; or neither.
 #[derive(Clone, Copy)]
-pub enum Stepped {
-    Refused(Refusal),
+pub enum Event {
     Read,
     Retired(u32),
     Neither,

@@ -1,11 +1,11 @@
 -- The distances that every rule gives between two records of a list: of ROW packets, of COL packets, from RD to WR, and from WR to
 -- its data.
 -- Assumes nothing.
+use Rattle.std.specs.Prelude.{Option, None, Some}
 use Prim.Native.Nat.{ℕ, zero, suc, ◌+◌, ◌-◌, ◌≤◌, ◌<◌}
 use mathlib.Core.Path.{◌≡◌, refl, ap, ◌∙◌}
 use mathlib.Core.Bool.{Bool, true, false, ◌&&◌}
 use mathlib.Core.List.{List, [], ◌∷◌}
-use mathlib.Core.Option.{Option, none, some}
 use lib.Dec.{eqb}
 use lib.ListN.{length}
 use borrow.Author.Tests.{leb-true, eqb-true, eqb-false, not-false}
@@ -35,8 +35,8 @@ use Rattle.spec_rules.proofs.BrokenLaws.{every-none}
 
 module _ (test : Deed → Bool) where
   implied-rest : (t : ℕ) (o : Option ℕ) (l : List Deed) → each test (implied_deeds t o l) ≡ true → each test l ≡ true
-  implied-rest t none l e = e
-  implied-rest t (some b) l e = and_right (test (record { at = t; traits = implied_traits b })) _ e
+  implied-rest t None l e = e
+  implied-rest t (Some b) l e = and_right (test (record { at = t; traits = implied_traits b })) _ e
 
   own-deed : (cx : Context) (ws : List Write) (r : Record) → is_packet r ≡ true → each test (deeds cx ws r) ≡ true
       → test (record { at = instant r; traits = traits r }) ≡ true
@@ -88,14 +88,14 @@ module _ (cx : Context) (gap : Traits → Option ℕ) (t : ℕ) where
 
 -- ---- packets by their pins
 
-is_row : (p : RowPacket) → bank_as ROW (row_traits p) ≡ some 0
+is_row : (p : RowPacket) → bank_as ROW (row_traits p) ≡ Some 0
 unfolding row_traits
 is_row (Act b r) = refl
 is_row (Prer b) = refl
 is_row (Refa b) = refl
 is_row (Refp b) = refl
 
-is-col : (p : ColPacket) → bank_as COL (col_traits p) ≡ some 0
+is-col : (p : ColPacket) → bank_as COL (col_traits p) ≡ Some 0
 unfolding col_traits
 is-col (Nocop m) = refl
 is-col (Wr b c m x) = refl
@@ -126,14 +126,14 @@ module _ (cx : Context) (l : List Record) (passes : every_rule cx l ≡ true) wh
   -- a line of the table for any banks, between two packets of its kinds
   module _ (i j : ℕ) (m : i < j) (h : j < length l) (a b : Kind) (cycles : ℕ) where
     abbrev between : Deed → Bool
-    between x = keeps (λ e. over (bank_as b x.traits) (λ q. over (bank_as a e.traits) (λ p. some cycles))) x.at (events cx (earlier l j))
+    between x = keeps (λ e. over (bank_as b x.traits) (λ q. over (bank_as a e.traits) (λ p. Some cycles))) x.at (events cx (earlier l j))
 
     apart : each between (deeds cx (waiting_after cx (earlier l j)) (record_in l j)) ≡ true
-        → is_packet (record_in l i) ≡ true → is_packet (record_in l j) ≡ true → (p q : ℕ) → bank_as a (traits (record_in l i)) ≡ some p → bank_as b (traits (record_in l j)) ≡ some q
+        → is_packet (record_in l i) ≡ true → is_packet (record_in l j) ≡ true → (p q : ℕ) → bank_as a (traits (record_in l i)) ≡ Some p → bank_as b (traits (record_in l j)) ≡ Some q
         → instant (record_in l i) + cycles ≤ instant (record_in l j)
     apart e ki kj p q ea eb =
         let own = own-deed between cx (waiting_after cx (earlier l j)) (record_in l j) kj e in
-        let f = far-earlier cx (λ k. over (bank_as b (traits (record_in l j))) (λ q. over (bank_as a k) (λ p. some cycles))) (instant (record_in l j)) l i j m (omega arith) own ki in
+        let f = far-earlier cx (λ k. over (bank_as b (traits (record_in l j))) (λ q. over (bank_as a k) (λ p. Some cycles))) (instant (record_in l j)) l i j m (omega arith) own ki in
         leb-true _ _ (rw (eb, ea) at f)
 
   -- ---- two packets

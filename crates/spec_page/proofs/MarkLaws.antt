@@ -1,12 +1,12 @@
 -- In a list on which every rule holds no two records mark one cycle of a line; so each character is that of the record that marks
 -- its cycle.
 -- Assumes nothing.
+use Rattle.std.specs.Prelude.{Option, None, Some}
 use Prim.Native.Nat.{ℕ, zero, suc, ◌+◌, ◌≤◌, ◌<◌}
 use Prim.Native.Char.{code}
 use mathlib.Core.Path.{◌≡◌, refl, sym, ap}
 use mathlib.Core.Bool.{Bool, true, false, ◌&&◌, cond}
 use mathlib.Core.List.{List, [], ◌∷◌}
-use mathlib.Core.Option.{Option, none, some}
 use lib.Dec.{eqb, leb, ltb}
 use lib.ListN.{length}
 use borrow.Author.Tests.{leb-true, ltb-true, eqb-true, eqb-false}
@@ -32,7 +32,7 @@ covers : (t x c : ℕ) → has (before t x c) ≡ true → (t ≤ c + 4) × (c <
 unfolding before
 covers t x c h = go (leb t (c + 4) && ltb c t) refl h
   where
-    go : (b : Bool) → leb t (c + 4) && ltb c t ≡ b → has (cond b (some x) none) ≡ true → (t ≤ c + 4) × (c < t)
+    go : (b : Bool) → leb t (c + 4) && ltb c t ≡ b → has (cond b (Some x) None) ≡ true → (t ≤ c + 4) × (c < t)
     go true e h = (leb-true t (c + 4) (and_left _ _ e), ltb-true c t (and_right (leb t (c + 4)) _ e))
     go false e h = not-both false h refl
 
@@ -163,7 +163,7 @@ module _ (cx : Context) (l : List Record) (right : valid cx.settings ≡ true) (
 
 module _ (s : Settings) (y : Line) (c : ℕ) where
   -- where one record alone marks it
-  cell-marked : (rs : List Record) (i x : ℕ) → i < length rs → shows s y (record_in rs i) c ≡ some x
+  cell-marked : (rs : List Record) (i x : ℕ) → i < length rs → shows s y (record_in rs i) c ≡ Some x
       → ((k : ℕ) → k < length rs → has (shows s y (record_in rs k) c) ≡ true → k ≡ i) → cell s rs y c ≡ x
   unfolding cell
   cell-marked [] i x h e only = absurd (omega arith)
@@ -171,11 +171,11 @@ module _ (s : Settings) (y : Line) (c : ℕ) where
   cell-marked (r ∷ rs) (suc i) x h e only = go (shows s y r c) refl (cell-marked rs i x (omega arith) e (λ k m n. let q = only (suc k) (omega arith) n in omega arith))
     where
       go : (o : Option ℕ) → shows s y r c ≡ o → cell s rs y c ≡ x → or_else o (cell s rs y c) ≡ x
-      go none q ih = ih
-      go (some z) q ih = absurd (let n : 0 ≡ suc i = only 0 (omega arith) (ap has q) in omega arith)
+      go None q ih = ih
+      go (Some z) q ih = absurd (let n : 0 ≡ suc i = only 0 (omega arith) (ap has q) in omega arith)
 
   -- where none does
-  cell-idle : (rs : List Record) → ((i : ℕ) → i < length rs → shows s y (record_in rs i) c ≡ none) → cell s rs y c ≡ code "."
+  cell-idle : (rs : List Record) → ((i : ℕ) → i < length rs → shows s y (record_in rs i) c ≡ None) → cell s rs y c ≡ code "."
   unfolding cell
   cell-idle [] f = refl
   cell-idle (r ∷ rs) f = rw (f 0 (omega arith)) (cell-idle rs (λ i m. f (suc i) (omega arith)))

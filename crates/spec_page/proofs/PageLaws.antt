@@ -1,10 +1,10 @@
 -- A page byte by byte; the cycles of a page are all that a record counts for.
 -- Assumes nothing.
+use Rattle.std.specs.Prelude.{None}
 use Prim.Native.Nat.{ℕ, zero, suc, ◌+◌, ◌-◌, ◌*◌, ◌/◌, ◌%◌, ◌≤◌, ◌<◌}
 use mathlib.Core.Path.{◌≡◌, refl, sym, ap, ap₂, ◌∙◌}
 use mathlib.Core.Bool.{Bool, true, false, ◌&&◌, cond}
 use mathlib.Core.List.{List, [], ◌∷◌, ◌++◌}
-use mathlib.Core.Option.{none}
 use lib.Dec.{leb, ltb}
 use lib.ListN.{length, get_or, length-append, get_or-append}
 use lib.Seq.{get_or-append-add}
@@ -221,7 +221,7 @@ module _ (s : Settings) (rs : List Record) (start : ℕ) where
 
 -- ---- a record outside the page
 
-cell-without : (s : Settings) (xs : List Record) (r : Record) (ys : List Record) (y : Line) (c : ℕ) → shows s y r c ≡ none → cell s (xs ++ r ∷ ys) y c ≡ cell s (xs ++ ys) y c
+cell-without : (s : Settings) (xs : List Record) (r : Record) (ys : List Record) (y : Line) (c : ℕ) → shows s y r c ≡ None → cell s (xs ++ r ∷ ys) y c ≡ cell s (xs ++ ys) y c
 unfolding cell
 cell-without s [] r ys y c e = rw e
 cell-without s (x ∷ xs) r ys y c e = ap (or_else (shows s y x c)) (cell-without s xs r ys y c e)

@@ -1,9 +1,8 @@
 -- A page of the channel (document 02, request k): "A page shows 64 cycles from a given instant: four lines ROW, COL, DQ, and a
 -- scale". Text is in ASCII.
 -- Assumes nothing.
-use Rattle.std.specs.Prelude.{ℕ, zero, suc, ◌+◌, ◌-◌, ◌*◌, ◌%◌, cond, ◌&&◌, List, [], ◌∷◌, ◌++◌, eqb, leb, ltb, length, replicate}
+use Rattle.std.specs.Prelude.{ℕ, zero, suc, ◌+◌, ◌-◌, ◌*◌, ◌%◌, cond, ◌&&◌, List, [], ◌∷◌, ◌++◌, eqb, leb, ltb, length, replicate, Option, None, Some}
 use Prim.Native.Char.{code}
-use Rattle.std.proofs.Math.Option.{Option, none, some}
 use Rattle.settings.specs.declared.Settings.{Settings}
 use Rattle.settings.specs.declared.PacketAt.{PacketAt}
 use Rattle.packet.specs.declared.RowPacket.{RowPacket}
@@ -36,7 +35,7 @@ col_letter (Rd b c m close) = code "R"
 
 -- the letter at cycle c of what marks the four cycles before instant t: "A packet at instant t marks cycles t − 4 to t − 1"
 unfoldable pub before : ℕ → ℕ → ℕ → Option ℕ
-before t letter c = cond (leb t (c + 4) && ltb c t) (some letter) none
+before t letter c = cond (leb t (c + 4) && ltb c t) (Some letter) None
 
 -- "DQ marks four cycles from the data instant": those before the instant four cycles later
 abbrev pub from : ℕ → ℕ → ℕ → Option ℕ
@@ -44,27 +43,27 @@ from t letter c = before (t + 4) letter c
 
 -- "D for a D record or Q": Q for the data of RD or RDA, which come tCAC after it. WR shows no data; its D record does.
 unfoldable pub read_shows : Settings → PacketAt → ColPacket → ℕ → Option ℕ
-read_shows s t (Nocop m) c = none
-read_shows s t (Wr b k m close) c = none
+read_shows s t (Nocop m) c = None
+read_shows s t (Wr b k m close) c = None
 read_shows s t (Rd b k m close) c = from (t.0 + s.cac) (code "Q") c
 
 -- what a record shows at cycle c of a line
 unfoldable pub shows : Settings → Line → Record → ℕ → Option ℕ
 shows s ROW (RowAt t p) c = before t.0 (row_letter p) c
-shows s ROW (ColAt t p) c = none
-shows s ROW (DataOf t d) c = none
-shows s COL (RowAt t p) c = none
+shows s ROW (ColAt t p) c = None
+shows s ROW (DataOf t d) c = None
+shows s COL (RowAt t p) c = None
 shows s COL (ColAt t p) c = before t.0 (col_letter p) c
-shows s COL (DataOf t d) c = none
-shows s DQ (RowAt t p) c = none
+shows s COL (DataOf t d) c = None
+shows s DQ (RowAt t p) c = None
 shows s DQ (ColAt t p) c = read_shows s t p c
 shows s DQ (DataOf t d) c = from t.0 (code "D") c
 
 -- ---- the characters
 
 abbrev pub or_else : Option ℕ → ℕ → ℕ
-or_else none other = other
-or_else (some x) other = x
+or_else None other = other
+or_else (Some x) other = x
 
 -- the character at cycle c of a line: what a record shows there. "Idle is a dot". In a list that passes no other record shows
 -- anything there, so that their order does not count.

@@ -1,8 +1,7 @@
 -- What is promised of a page (document 02, request k).
 -- Assumes nothing.
-use Rattle.std.specs.Prelude.{ℕ, ◌+◌, ◌*◌, ◌<◌, ◌≤◌, ◌≡◌, true, List, ◌∷◌, ◌++◌, length, get_or}
+use Rattle.std.specs.Prelude.{ℕ, ◌+◌, ◌*◌, ◌<◌, ◌≤◌, ◌≡◌, true, List, ◌∷◌, ◌++◌, length, get_or, None, Some}
 use Prim.Native.Char.{code}
-use Rattle.std.proofs.Math.Option.{none, some}
 use Rattle.settings.specs.declared.Settings.{Settings}
 use Rattle.record.specs.declared.Record.{Record}
 use Rattle.spec_rules.specs.History.{has}
@@ -23,13 +22,13 @@ pub record OneMark (s : Settings) (rs : List Record) : Type 0 where
   -- no two records mark one cycle of a line
   pub one : (y : Line) (c i j : ℕ) → i < length rs → j < length rs → has (shows s y (record_in rs i) c) ≡ true → has (shows s y (record_in rs j) c) ≡ true → i ≡ j
   -- a cycle that a record marks has the letter of this record
-  pub marked : (y : Line) (c i x : ℕ) → i < length rs → shows s y (record_in rs i) c ≡ some x → cell s rs y c ≡ x
+  pub marked : (y : Line) (c i x : ℕ) → i < length rs → shows s y (record_in rs i) c ≡ Some x → cell s rs y c ≡ x
   -- a cycle that no record marks is idle
-  pub idle : (y : Line) (c : ℕ) → ((i : ℕ) → i < length rs → shows s y (record_in rs i) c ≡ none) → cell s rs y c ≡ code "."
+  pub idle : (y : Line) (c : ℕ) → ((i : ℕ) → i < length rs → shows s y (record_in rs i) c ≡ None) → cell s rs y c ≡ code "."
 
 -- a record marks no cycle of the page
 abbrev pub Outside : Settings → Record → ℕ → Type 0
-Outside s r start = (y : Line) (c : ℕ) → start ≤ c → c < start + page_cycles → shows s y r c ≡ none
+Outside s r start = (y : Line) (c : ℕ) → start ≤ c → c < start + page_cycles → shows s y r c ≡ None
 
 -- a page is the same without such a record
 abbrev pub OutsideCountsNot : Settings → ℕ → Type 0

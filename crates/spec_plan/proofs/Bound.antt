@@ -1,10 +1,10 @@
 -- No request makes more records than its kind and the core form allow (`spec_plan/specs/Most.antt`), and for each kind one makes so many.
 -- Assumes nothing.
+use Rattle.std.specs.Prelude.{Option, None, Some}
 use Prim.Native.Nat.{ℕ, zero, suc, ◌+◌, ◌*◌, ◌≤◌}
 use mathlib.Core.Path.{◌≡◌, refl}
 use mathlib.Core.Bool.{Bool, true, false, not, ◌&&◌, cond, and-false}
 use mathlib.Core.List.{List, [], ◌∷◌, map}
-use mathlib.Core.Option.{Option, none, some}
 use lib.Dec.{ltb}
 use lib.ListN.{length, length-append}
 use native.Mathlib.Omega.{arith}
@@ -137,9 +137,9 @@ module _ (cx : Context) where
       rw (written-waits cx close at mask bytes d) (omega (arith, written-length close at mask bytes d, queued-few (left o (waiting d)) w, left-few o (waiting d)))
     where
       left-few : (o : Option Write) (ws : List Write) → length (left o ws) ≤ length ws
-      left-few none ws = omega arith
-      left-few (some w) [] = omega arith
-      left-few (some w) (x ∷ ws) = omega arith
+      left-few None ws = omega arith
+      left-few (Some w) [] = omega arith
+      left-few (Some w) (x ∷ ws) = omega arith
 
       queued-few : (ws : List Write) (w : Write) → length (queued ws w) ≤ length ws + 1
       queued-few [] w = omega arith

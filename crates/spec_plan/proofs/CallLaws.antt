@@ -1,5 +1,6 @@
 -- A plan call, accepted or refused: the planner and the records that it makes.
 -- Assumes nothing.
+use Rattle.std.specs.Prelude.{Err, Ok, Result}
 use Prim.Native.Nat.{ℕ, ◌+◌, ◌/◌, ◌≤◌}
 use mathlib.Core.Path.{◌≡◌, refl}
 use mathlib.Core.Bool.{Bool, true, false, ◌&&◌, cond}
@@ -14,8 +15,6 @@ use Rattle.record.specs.declared.Record.{Record}
 use Rattle.record.specs.declared.Request.{Request}
 use Rattle.record.specs.declared.Request.TheVariants.{Read, Write as WriteTo, Refresh as RefreshBank, Wait, Flush, Close}
 use Rattle.record.specs.declared.Refusal.TheVariants.{Horizon, Full, Unretired}
-use Rattle.record.specs.declared.RequestRead.{RequestRead}
-use Rattle.record.specs.declared.RequestRead.TheVariants.{Refused as RefusedRequest, Accepted}
 use Rattle.record.specs.Request.{request_read}
 use Rattle.record.proofs.RequestLaws.{InRange, accepted-range}
 use Rattle.spec_rules.specs.declared.Write.{Write}
@@ -26,7 +25,6 @@ use Rattle.spec_rules.specs.Packets.{instant}
 use Rattle.spec_rules.specs.Rules.{longest_delay, implied_delay}
 use Rattle.spec_rules.proofs.Bools.{not-both, and_left, and_right, neither}
 use Rattle.spec_plan.specs.declared.PlannerState.{PlannerState}
-use Rattle.spec_plan.specs.declared.Outcome.TheVariants.{Refused, Made as MadeSome}
 use Rattle.spec_plan.specs.Planner.{planner_valid}
 use Rattle.spec_plan.specs.Plan.{any_closes, Draft, waiting, planned_wait, steps_of, planned}
 use Rattle.spec_plan.specs.Call.{in_time, timely, unretired, outcome_of, outcome_by, plan_outcome, is_made, accepted, draft_by, draft_of, plan_next, plan_records}
@@ -34,6 +32,7 @@ use Rattle.spec_plan.proofs.SentLaws.{Plain}
 use Rattle.spec_plan.proofs.Invariant.{newest_closes, Inv, valid-inv, valid-plain}
 use Rattle.spec_plan.proofs.Trace.{Each, channel_by, Placed, trace-start}
 use Rattle.spec_plan.proofs.PlanLaws.{Good, good-read, good-write, good-refresh, good-flush, good-close}
+use Rattle.record.specs.declared.Refusal.{Refusal}
 
 -- what a call makes of planner p: the state after its records, each in its place
 pub record Made (cx : Context) (p : PlannerState) (d : Draft) : Type 0 where
@@ -113,12 +112,12 @@ module _ (cx : Context) where
   -- ---- a call
 
   -- an accepted call passed the test of the instants
-  accepted-timely : (p : PlannerState) (x : RequestRead) (room : ℕ) → is_made (outcome_by cx p x room) ≡ true → timely cx p (draft_by cx p x) ≡ true
+  accepted-timely : (p : PlannerState) (x : Result Request Refusal) (room : ℕ) → is_made (outcome_by cx p x room) ≡ true → timely cx p (draft_by cx p x) ≡ true
   unfolding outcome_by outcome_of draft_by is_made
-  accepted-timely p (RefusedRequest why) room e = cc
-  accepted-timely p (Accepted q) room e = go (unretired q p) (timely cx p (planned cx q p)) (leb (length (planned cx q p).records) (room / 32)) e
+  accepted-timely p (Err why) room e = cc
+  accepted-timely p (Ok q) room e = go (unretired q p) (timely cx p (planned cx q p)) (leb (length (planned cx q p).records) (room / 32)) e
     where
-      go : (u a b : Bool) → is_made (cond u (Refused Unretired) (cond a (cond b (MadeSome (length (planned cx q p).records)) (Refused Full)) (Refused Horizon))) ≡ true → a ≡ true
+      go : (u a b : Bool) → is_made (cond u (Err Unretired) (cond a (cond b (Ok (length (planned cx q p).records)) (Err Full)) (Err Horizon))) ≡ true → a ≡ true
       go true a b h = not-both false h refl
       go false true b h = refl
       go false false b h = h
@@ -141,9 +140,9 @@ module _ (cx : Context) where
     unfolding draft_by
     call-made ns w v = called-either (Made cx p) (λ _. go (request_read cx.settings request) refl) (made_nothing p v)
       where
-        go : (x : RequestRead) → request_read cx.settings request ≡ x → Made cx p (draft_by cx p x)
-        go (RefusedRequest why) e = made_nothing p v
-        go (Accepted q) e = planned-made ns p v q (accepted-range cx.settings request q w e)
+        go : (x : Result Request Refusal) → request_read cx.settings request ≡ x → Made cx p (draft_by cx p x)
+        go (Err why) e = made_nothing p v
+        go (Ok q) e = planned-made ns p v q (accepted-range cx.settings request q w e)
 
     pub call-timely : leb p.now.0 horizon ≡ true → timely cx p called ≡ true
     unfolding plan_outcome timely in_time

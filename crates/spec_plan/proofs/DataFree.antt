@@ -1,6 +1,7 @@
 -- "Data bytes never alter an instant or a packet word." (document 01, "Planner"): two lists of calls that differ in data bytes of
 -- write requests alone leave the same planner and make the same records, but for the data in them.
 -- Assumes nothing.
+use Rattle.std.specs.Prelude.{Err, Ok, Result}
 use Prim.Native.Nat.{ℕ, ◌+◌, ◌≤◌, ◌<◌}
 use mathlib.Core.Path.{◌≡◌, refl, sym, ap, ap₂, ◌∙◌}
 use mathlib.Core.Bool.{Bool, true, false, ◌||◌, cond}
@@ -21,8 +22,6 @@ use Rattle.record.specs.declared.Place.{Place}
 use Rattle.record.specs.declared.Refusal.TheVariants.{Kind, Spare, Bank, Row, Column, Length}
 use Rattle.record.specs.declared.Request.{Request}
 use Rattle.record.specs.declared.Request.TheVariants.{Read, Write as WriteTo, Refresh as RefreshBank, Wait, Flush, Close}
-use Rattle.record.specs.declared.RequestRead.{RequestRead}
-use Rattle.record.specs.declared.RequestRead.TheVariants.{Refused, Accepted}
 use Rattle.record.specs.Request.{kind_of, uses_byte, spare_right, place_of, placed, request_of, request_read}
 use Rattle.spec_rules.specs.Neighbour.{Context}
 use Rattle.spec_rules.specs.Packets.{traits, instant}
@@ -36,6 +35,7 @@ use Rattle.spec_plan.specs.declared.PlannerState.{PlannerState}
 use Rattle.spec_plan.specs.Plan.{Draft, col_packet, when, waiting, placed_in, sent, flushed, flushed_while, reached, loaded, written, planned_write, steps_of, planned}
 use Rattle.spec_plan.specs.Call.{in_time, timely, unretired, outcome_of, outcome_by, plan_outcome, is_made, draft_by, plan_next, plan_records}
 use Rattle.spec_plan.specs.Runs.{Call, planner_after, listed}
+use Rattle.record.specs.declared.Refusal.{Refusal}
 
 -- ---- without data
 
@@ -56,9 +56,9 @@ request_without (Wait n) = Wait n
 request_without Flush = Flush
 request_without Close = Close
 
-read_without : RequestRead → RequestRead
-read_without (Refused why) = Refused why
-read_without (Accepted q) = Accepted (request_without q)
+read_without : Result Request Refusal → Result Request Refusal
+read_without (Err why) = Err why
+read_without (Ok q) = Ok (request_without q)
 
 -- ---- requests alike
 
@@ -110,8 +110,8 @@ module _ (cx : Context) (a b : List ℕ) (close : Bool) (k : kind_of a ≡ write
   placed-without at mask d = go (ltb at.bank 32) (ltb at.row cx.settings.rows) (ltb at.column cx.settings.columns)
     where
       go : (x y z : Bool)
-          → read_without (cond x (cond y (cond z (Accepted (WriteTo at mask d close)) (Refused Column)) (Refused Row)) (Refused Bank))
-          ≡ cond x (cond y (cond z (Accepted (WriteTo at mask blank close)) (Refused Column)) (Refused Row)) (Refused Bank)
+          → read_without (cond x (cond y (cond z (Ok (WriteTo at mask d close)) (Err Column)) (Err Row)) (Err Bank))
+          ≡ cond x (cond y (cond z (Ok (WriteTo at mask blank close)) (Err Column)) (Err Row)) (Err Bank)
       go true true true = refl
       go true true false = refl
       go true false z = refl
@@ -121,23 +121,23 @@ module _ (cx : Context) (a b : List ℕ) (close : Bool) (k : kind_of a ≡ write
   data_of b = record { dqa = number (part b 8 8); dqb = number (part b 16 8) }
 
   -- what the bytes of a write say
-  abbrev said : List ℕ → RequestRead
+  abbrev said : List ℕ → Result Request Refusal
   said b = placed cx.settings (place_of b) (WriteTo (place_of b) (number (part b 6 2)) (data_of b) close)
 
   said_of : (l : List ℕ) → kind_of l ≡ write_kind close → request_of cx.settings l ≡ said l
   unfolding request_of
   said_of l h = rw h (go close)
     where
-      w : Bool → RequestRead
+      w : Bool → Result Request Refusal
       w x = placed cx.settings (place_of l) (WriteTo (place_of l) (number (part l 6 2)) (data_of l) x)
 
       go : (x : Bool)
           → cond (eqb (write_kind x) 0) (placed cx.settings (place_of l) (Read (place_of l) false))
           (cond (eqb (write_kind x) 1) (w false)
-          (cond (eqb (write_kind x) 2) (Accepted RefreshBank)
-          (cond (eqb (write_kind x) 3) (Accepted (Wait (number (part l 8 4))))
-          (cond (eqb (write_kind x) 4) (Accepted Flush)
-          (cond (eqb (write_kind x) 5) (Accepted Close)
+          (cond (eqb (write_kind x) 2) (Ok RefreshBank)
+          (cond (eqb (write_kind x) 3) (Ok (Wait (number (part l 8 4))))
+          (cond (eqb (write_kind x) 4) (Ok Flush)
+          (cond (eqb (write_kind x) 5) (Ok Close)
           (cond (eqb (write_kind x) 6) (placed cx.settings (place_of l) (Read (place_of l) true)) (w true))))))) ≡ w x
       go true = refl
       go false = refl
@@ -157,8 +157,8 @@ module _ (cx : Context) (a b : List ℕ) (close : Bool) (k : kind_of a ≡ write
   read_same = rw (n, k, kind-same, spare-same) (go (eqb (length b) 24) (leb (write_kind close) 7) (spare_right b))
     where
       go : (x y z : Bool)
-          → read_without (cond x (cond y (cond z (request_of cx.settings a) (Refused Spare)) (Refused Kind)) (Refused Length))
-          ≡ read_without (cond x (cond y (cond z (request_of cx.settings b) (Refused Spare)) (Refused Kind)) (Refused Length))
+          → read_without (cond x (cond y (cond z (request_of cx.settings a) (Err Spare)) (Err Kind)) (Err Length))
+          ≡ read_without (cond x (cond y (cond z (request_of cx.settings b) (Err Spare)) (Err Kind)) (Err Length))
       go true true true = of-same
       go true true false = refl
       go true false z = refl
@@ -229,15 +229,15 @@ module _ (cx : Context) (p : PlannerState) where
       data-apart d = (refl, simp map-append)
 
   -- and the rest of its draft
-  drafts-alike : (x : RequestRead) → AlikeDrafts (draft_by cx p x) (draft_by cx p (read_without x))
+  drafts-alike : (x : Result Request Refusal) → AlikeDrafts (draft_by cx p x) (draft_by cx p (read_without x))
   unfolding AlikeDrafts draft_by read_without request_without planned steps_of
-  drafts-alike (Refused why) = (refl, refl)
-  drafts-alike (Accepted (Read at close)) = (refl, refl)
-  drafts-alike (Accepted (WriteTo at mask d close)) = write-alike at mask d close
-  drafts-alike (Accepted RefreshBank) = (refl, refl)
-  drafts-alike (Accepted (Wait n)) = (refl, refl)
-  drafts-alike (Accepted Flush) = (refl, refl)
-  drafts-alike (Accepted Close) = (refl, refl)
+  drafts-alike (Err why) = (refl, refl)
+  drafts-alike (Ok (Read at close)) = (refl, refl)
+  drafts-alike (Ok (WriteTo at mask d close)) = write-alike at mask d close
+  drafts-alike (Ok RefreshBank) = (refl, refl)
+  drafts-alike (Ok (Wait n)) = (refl, refl)
+  drafts-alike (Ok Flush) = (refl, refl)
+  drafts-alike (Ok Close) = (refl, refl)
 
   unretired-alike : (q : Request) → unretired q p ≡ unretired (request_without q) p
   unfolding unretired request_without
@@ -248,18 +248,18 @@ module _ (cx : Context) (p : PlannerState) where
   unretired-alike Flush = refl
   unretired-alike Close = refl
 
-  outcomes-alike : (x : RequestRead) (room : ℕ) → outcome_by cx p x room ≡ outcome_by cx p (read_without x) room
+  outcomes-alike : (x : Result Request Refusal) (room : ℕ) → outcome_by cx p x room ≡ outcome_by cx p (read_without x) room
   unfolding outcome_by read_without draft_by
-  outcomes-alike (Refused why) room = refl
-  outcomes-alike (Accepted q) room = rw (unretired-alike q, outcome-alike cx p (planned cx q p) (planned cx (request_without q) p) room (drafts-alike (Accepted q)))
+  outcomes-alike (Err why) room = refl
+  outcomes-alike (Ok q) room = rw (unretired-alike q, outcome-alike cx p (planned cx q p) (planned cx (request_without q) p) room (drafts-alike (Ok q)))
 
   -- what a call makes whose request says this
-  made_by : RequestRead → ℕ → Draft
+  made_by : Result Request Refusal → ℕ → Draft
   made_by x room =
       let b : Bool = is_made (outcome_by cx p x room) in
       record { planner = cond b (draft_by cx p x).planner p; records = cond b (draft_by cx p x).records [] }
 
-  made_alike : (x : RequestRead) (room : ℕ) → AlikeDrafts (made_by x room) (made_by (read_without x) room)
+  made_alike : (x : Result Request Refusal) (room : ℕ) → AlikeDrafts (made_by x room) (made_by (read_without x) room)
   unfolding made_by AlikeDrafts
   made_alike x room = rw (outcomes-alike x room) (go (is_made (outcome_by cx p (read_without x) room)) (drafts-alike x))
     where
@@ -280,7 +280,7 @@ module _ (cx : Context) (p : PlannerState) where
   call-alike a b room h =
       let x = made_alike (request_read cx.settings a) room in
       let y = made_alike (request_read cx.settings b) room in
-      let same : made_by (read_without (request_read cx.settings a)) room ≡ made_by (read_without (request_read cx.settings b)) room = ap (λ (z : RequestRead). made_by z room) (alike_read cx a b h) in
+      let same : made_by (read_without (request_read cx.settings a)) room ≡ made_by (read_without (request_read cx.settings b)) room = ap (λ (z : Result Request Refusal). made_by z room) (alike_read cx a b h) in
       (x.0 ∙ ap (λ (d : Draft). d.planner) same ∙ sym y.0, x.1 ∙ ap (λ (d : Draft). map without_data d.records) same ∙ sym y.1)
 
 -- ---- whole lists of calls

@@ -1,11 +1,11 @@
 -- What a run keeps of the writes that wait: their WR was the last COL packet or an earlier one, and the ACT of their bank comes so
 -- early that rule 10 asks no more of their retire than rule 12.
 -- Assumes nothing.
+use Rattle.std.specs.Prelude.{Option, None, Some}
 use Prim.Native.Nat.{ℕ, ◌+◌, ◌-◌, max, ◌≤◌, ◌<◌}
 use mathlib.Core.Path.{◌≡◌, refl, sym, ap, ◌∙◌}
 use mathlib.Core.Bool.{Bool, true, false, cond, not, ◌||◌}
 use mathlib.Core.List.{List, [], ◌∷◌}
-use mathlib.Core.Option.{Option, none, some}
 use lib.Dec.{eqb, leb}
 use lib.ListN.{length}
 use borrow.Author.Tests.{eqb-true, eq-eqb, leb-true, le-leb}
@@ -53,13 +53,13 @@ pub own-most : (cx : Context) (ch : Channel) (a : Kind) (gap b most : ℕ) → s
 own-most cx ch a gap b most h =
     leb-true _ _ (leb-max_up_to _ bank_count most ∙ all-intro _ bank_count (λ x m. go x (eqb x b) refl))
   where
-    go : (x : ℕ) (q : Bool) → eqb x b ≡ q → leb (asks (only q (some gap)) (last_at (track_of ch x) a)) most ≡ true
+    go : (x : ℕ) (q : Bool) → eqb x b ≡ q → leb (asks (only q (Some gap)) (last_at (track_of ch x) a)) most ≡ true
     go x true e = rw (eqb-true x b e) (le-leb _ _ h)
     go x false e = le-leb 0 most (omega arith)
 
 pub own-least : (cx : Context) (ch : Channel) (a : Kind) (gap b most : ℕ) → b < bank_count → own cx ch a gap b ≤ most → since (last_at (track_of ch b) a) gap ≤ most
 own-least cx ch a gap b most m h =
-    let each : all_up_to (λ x. leb (asks (only (eqb x b) (some gap)) (last_at (track_of ch x) a)) most) bank_count ≡ true = sym (leb-max_up_to _ bank_count most) ∙ le-leb _ _ h in
+    let each : all_up_to (λ x. leb (asks (only (eqb x b) (Some gap)) (last_at (track_of ch x) a)) most) bank_count ≡ true = sym (leb-max_up_to _ bank_count most) ∙ le-leb _ _ h in
     leb-true _ _ (rw (eq-eqb b b refl) at (all-at _ bank_count b each m))
 
 -- a distance of a last instant, and a longer one
@@ -97,33 +97,33 @@ module _ (cx : Context) (ch : Channel) (n : length ch.banks ≡ bank_count) wher
 
   retired-size : (t : ℕ) (o : Option Write) → length (after_retire t o ch).banks ≡ bank_count
   unfolding after_retire
-  retired-size t none = n
-  retired-size t (some w) = length-imap _ 0 ch.banks ∙ n
+  retired-size t None = n
+  retired-size t (Some w) = length-imap _ 0 ch.banks ∙ n
 
   retired-act : (t : ℕ) (o : Option Write) (x : ℕ) → x < bank_count → (track_of (after_retire t o ch) x).act ≡ (track_of ch x).act
   unfolding after_retire track_retired
-  retired-act t none x m = refl
-  retired-act t (some w) x m = ap (λ (y : BankTrack). y.act) (get_or-imap (track_retired t w) ch.banks x idle idle (rw n m))
+  retired-act t None x m = refl
+  retired-act t (Some w) x m = ap (λ (y : BankTrack). y.act) (get_or-imap (track_retired t w) ch.banks x idle idle (rw n m))
 
   pub retired-lasts : (t : ℕ) (o : Option Write) → (after_retire t o ch).lasts ≡ ch.lasts
   unfolding after_retire
-  retired-lasts t none = refl
-  retired-lasts t (some w) = refl
+  retired-lasts t None = refl
+  retired-lasts t (Some w) = refl
 
   implied-act : (c : Channel) → length c.banks ≡ bank_count → (t : ℕ) (o : Option ℕ) (x : ℕ) → x < bank_count → (track_of (after_implied cx t o c) x).act ≡ (track_of c x).act
   unfolding after_implied track_implied
-  implied-act c k t none x m = refl
-  implied-act c k t (some b) x m = ap (λ (y : BankTrack). y.act) (get_or-imap (track_implied cx (state_of c) t b) c.banks x idle idle (rw k m))
+  implied-act c k t None x m = refl
+  implied-act c k t (Some b) x m = ap (λ (y : BankTrack). y.act) (get_or-imap (track_implied cx (state_of c) t b) c.banks x idle idle (rw k m))
 
   implied-size : (c : Channel) → length c.banks ≡ bank_count → (t : ℕ) (o : Option ℕ) → length (after_implied cx t o c).banks ≡ bank_count
   unfolding after_implied
-  implied-size c k t none = k
-  implied-size c k t (some b) = length-imap _ 0 c.banks ∙ k
+  implied-size c k t None = k
+  implied-size c k t (Some b) = length-imap _ 0 c.banks ∙ k
 
   pub implied-col : (c : Channel) (t : ℕ) (o : Option ℕ) → (after_implied cx t o c).lasts.col ≡ c.lasts.col
   unfolding after_implied
-  implied-col c t none = refl
-  implied-col c t (some b) = refl
+  implied-col c t None = refl
+  implied-col c t (Some b) = refl
 
   -- once the write has left that a COL packet retires, and the PRER that this implies is done
   abbrev col_left : PacketAt → ColPacket → Channel
@@ -172,9 +172,9 @@ since-last last gap t h = go (eqb last 0) refl h
     go false e h = omega arith
 
 pub left-early : (cx : Context) (ch : Channel) (o : Option Write) (ws : List Write) → AllEarly cx ch ws → AllEarly cx ch (left o ws)
-left-early cx ch none ws k = k
-left-early cx ch (some w) [] k = tt
-left-early cx ch (some w) (x ∷ ws) k = k.1
+left-early cx ch None ws k = k
+left-early cx ch (Some w) [] k = tt
+left-early cx ch (Some w) (x ∷ ws) k = k.1
 
 -- data change none of this
 pub data-early : (cx : Context) (ch : Channel) (ws : List Write) → AllEarly cx ch ws → AllEarly cx (after_data ch) ws
@@ -193,13 +193,13 @@ stays-early cx ch c q col same (w ∷ ws) o e = (
 )
 
 abbrev EarlyOf : Context → Channel → Option Write → Type 0
-EarlyOf cx ch none = Unit {0}
-EarlyOf cx ch (some w) = Early cx ch w
+EarlyOf cx ch None = Unit {0}
+EarlyOf cx ch (Some w) = Early cx ch w
 
 joined-early : (cx : Context) (ch : Channel) (o : Option Write) (ws : List Write) → EarlyOf cx ch o → AllEarly cx ch ws → AllEarly cx ch (joined o ws)
-joined-early cx ch none ws i k = k
-joined-early cx ch (some w) [] i k = (i, tt)
-joined-early cx ch (some w) (x ∷ ws) i k = (k.0, (i, tt))
+joined-early cx ch None ws i k = k
+joined-early cx ch (Some w) [] i k = (i, tt)
+joined-early cx ch (Some w) (x ∷ ws) i k = (k.0, (i, tt))
 
 nothing-waits : (cx : Context) → AllEarly cx fresh (waiting_of fresh.buffer)
 unfolding fresh waiting_of
@@ -245,7 +245,7 @@ module _ (cx : Context) (ch : Channel) (n : length ch.banks ≡ bank_count) (t :
   unfolding waiting_next loads
   wr-next-early e =
       let ws : List Write = waiting_of ch.buffer in
-      rw (after-waits cx ch wr) (joined-early cx (after cx ch wr) (some (record { bank = b; column = c; at = record { 0 = t.0 }; close = close })) (left (leaving_of cx ch wr) ws) wr-early
+      rw (after-waits cx ch wr) (joined-early cx (after cx ch wr) (Some (record { bank = b; column = c; at = record { 0 = t.0 }; close = close })) (left (leaving_of cx ch wr) ws) wr-early
       (left-early cx (after cx ch wr) (leaving_of cx ch wr) ws (stays-early cx ch (after cx ch wr) (λ w. true) wr-later (λ w i q. wr-act w.bank i) ws (all_true ws) e)))
 
 module _ (cx : Context) (ch : Channel) (k : Sound cx ch) (r : Record) (f : record_fits cx.settings r ≡ true) (j : judged cx ch r ≡ 0) where
@@ -256,7 +256,7 @@ module _ (cx : Context) (ch : Channel) (k : Sound cx ch) (r : Record) (f : recor
   late = leb-true _ _ (and_left (leb (earliest cx ch r) (instant r)) _ (and_right (fits cx ch r) _ (sym (checks-split cx ch r) ∙ eq-eqb _ _ j)))
 
   -- an ACT is to a closed bank
-  closed-first : (b x : ℕ) → b < bank_count → free_for cx (state_of ch) (some b) ≡ true → is_open (state_of ch x) ≡ true → eqb x b ≡ false
+  closed-first : (b x : ℕ) → b < bank_count → free_for cx (state_of ch) (Some b) ≡ true → is_open (state_of ch x) ≡ true → eqb x b ≡ false
   closed-first b x m free o = go (eqb x b) refl
     where
       here : is_closed (state_of ch b) ≡ true
@@ -271,7 +271,7 @@ module _ (cx : Context) (ch : Channel) (k : Sound cx ch) (r : Record) (f : recor
   act-elsewhere x o = go r (fits-inside cx.settings r f) fitting
     where
       go : (r : Record) → Inside r → fits cx ch r ≡ true → in_bank (traits r).acts x ≡ false
-      go (RowAt t (Act b row)) i e = closed-first b x i.opens_in (and_left (free_for cx (state_of ch) (some b)) _ e) o
+      go (RowAt t (Act b row)) i e = closed-first b x i.opens_in (and_left (free_for cx (state_of ch) (Some b)) _ e) o
       go (RowAt t (Prer b)) i e = refl
       go (RowAt t (Refa b)) i e = refl
       go (RowAt t (Refp b)) i e = refl

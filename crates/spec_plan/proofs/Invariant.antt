@@ -1,11 +1,11 @@
 -- What a planner keeps between its steps, instants apart: it holds of every planner state that is not refused, and each packet
 -- that the planner sends then passes the tests on the state (rules 4, 9, 14, 15 and 16).
 -- Assumes nothing.
+use Rattle.std.specs.Prelude.{Option, None, Some}
 use Prim.Native.Nat.{ℕ, ◌≤◌, ◌<◌, ◌^◌}
 use mathlib.Core.Path.{◌≡◌, refl, sym, subst, ◌∙◌}
 use mathlib.Core.Bool.{Bool, true, false, not, ◌&&◌, ◌||◌, cond, or-true}
 use mathlib.Core.List.{List, [], ◌∷◌}
-use mathlib.Core.Option.{Option, none, some}
 use lib.Dec.{eqb, leb, ltb}
 use lib.ListN.{length}
 use borrow.Author.Tests.{leb-true, ltb-true, lt-ltb, eqb-true, not-true}
@@ -243,19 +243,19 @@ newest_closes (x ∷ []) = true
 newest_closes (x ∷ y ∷ ws) = not x.close
 
 -- where none does, what leaves closes no bank
-pub leaving-plain : (cx : Context) (ws : List Write) (r : Record) → any_closes ws ≡ false → retire_implies (leaving cx ws r) ≡ none
+pub leaving-plain : (cx : Context) (ws : List Write) (r : Record) → any_closes ws ≡ false → retire_implies (leaving cx ws r) ≡ None
 unfolding leaving
 leaving-plain cx ws r e = go ws e ((traits r).not_read && passed cx (first ws) (instant r))
   where
-    go : (ws : List Write) → any_closes ws ≡ false → (b : Bool) → retire_implies (only_write b (first ws)) ≡ none
+    go : (ws : List Write) → any_closes ws ≡ false → (b : Bool) → retire_implies (only_write b (first ws)) ≡ None
     go ws e false = refl
     go [] e true = refl
     go (w ∷ ws) e true = rw (neither w.close _ e).0
 
 pub left-plain : (o : Option Write) (ws : List Write) → any_closes ws ≡ false → any_closes (left o ws) ≡ false
-left-plain none ws e = e
-left-plain (some w) [] e = refl
-left-plain (some w) (x ∷ ws) e = (neither x.close _ e).1
+left-plain None ws e = e
+left-plain (Some w) [] e = refl
+left-plain (Some w) (x ∷ ws) e = (neither x.close _ e).1
 
 pub queued-plain : (ws : List Write) (w : Write) → any_closes ws ≡ false → w.close ≡ false → any_closes (queued ws w) ≡ false
 queued-plain [] w e h = rw h
@@ -268,14 +268,14 @@ queued-newest (x ∷ ws) w e = rw (neither x.close _ e).0
 -- ---- one leaves, one joins
 
 pub left_in : (cx : Context) (o : Option Write) (ws : List Write) → WritesIn cx ws → WritesIn cx (left o ws)
-left_in cx none ws i = i
-left_in cx (some w) [] i = tt
-left_in cx (some w) (x ∷ ws) i = i.1
+left_in cx None ws i = i
+left_in cx (Some w) [] i = tt
+left_in cx (Some w) (x ∷ ws) i = i.1
 
 pub left_open : (state : ℕ → Bank) (o : Option Write) (ws : List Write) → all_open state ws ≡ true → all_open state (left o ws) ≡ true
-left_open state none ws h = h
-left_open state (some w) [] h = refl
-left_open state (some w) (x ∷ ws) h = and_right (is_open (state x.bank)) _ h
+left_open state None ws h = h
+left_open state (Some w) [] h = refl
+left_open state (Some w) (x ∷ ws) h = and_right (is_open (state x.bank)) _ h
 
 pub queued-in : (cx : Context) (w : Write) (ws : List Write) → (w.bank < bank_count) × (w.column < cx.settings.columns) → WritesIn cx ws → WritesIn cx (queued ws w)
 queued-in cx w [] i k = (i, tt)
@@ -291,7 +291,7 @@ first-open state (w ∷ ws) h = and_left (is_open (state w.bank)) _ h
 
 -- ---- the tests on the state
 
-due-none : (cx : Context) (ch : Channel) → ch.due ≡ false → due_of cx ch ≡ none
+due-none : (cx : Context) (ch : Channel) → ch.due ≡ false → due_of cx ch ≡ None
 unfolding due_of
 due-none cx ch e = rw e
 
@@ -334,7 +334,7 @@ leaver-nocop cx ch (w ∷ y ∷ ws) h c =
     subst (λ q. leaver_fits cx ch (ColAt never (Nocop 0xFFFF)) (record w { close = q } ∷ y ∷ ws) ≡ true) (sym (not-true w.close c))
     (rw (and_left (is_open (state_of ch w.bank)) _ h, none-picked ws) (or-true (not (y.close || any_closes ws))))
 
-pub free-near : (cx : Context) (state : ℕ → Bank) (b : ℕ) → NearClosed cx state b → free_for cx state (some b) ≡ true
+pub free-near : (cx : Context) (state : ℕ → Bank) (b : ℕ) → NearClosed cx state b → free_for cx state (Some b) ≡ true
 free-near cx state b c = all-intro (λ x. not (near cx b x) || is_closed (state x)) bank_count (λ x m. go x (near cx b x) refl (c x m))
   where
     go : (x : ℕ) (q : Bool) → near cx b x ≡ q → (near cx b x ≡ true → is_closed (state x) ≡ true) → not q || is_closed (state x) ≡ true
@@ -342,9 +342,9 @@ free-near cx state b c = all-intro (λ x. not (near cx b x) || is_closed (state 
     go x false e f = refl
 
 pub carried-in : (o : Option Write) (mask : ℕ) → mask < 2 ^ 16 → carried o mask < 2 ^ 16
-carried-in none mask m = omega arith
-carried-in (some w) mask m = m
+carried-in None mask m = omega arith
+carried-in (Some w) mask m = m
 
 pub shifted_in : (o : Option Write) (mask second : ℕ) → mask < 2 ^ 16 → second < 2 ^ 16 → shifted o mask second < 2 ^ 16
-shifted_in none mask second m n = omega arith
-shifted_in (some w) mask second m n = omega arith
+shifted_in None mask second m n = omega arith
+shifted_in (Some w) mask second m n = omega arith

@@ -1,9 +1,9 @@
 -- How many banks can be open: of a bank and its neighbours two, of all 16, or 32 where none are neighbours.
 -- Assumes nothing.
+use Rattle.std.specs.Prelude.{None}
 use Prim.Native.Nat.{ℕ, zero, suc, ◌+◌, ◌*◌, ◌/◌, ◌≤◌, ◌<◌}
 use mathlib.Core.Path.{◌≡◌, refl, sym}
 use mathlib.Core.Bool.{Bool, true, false, not, ◌&&◌, ◌||◌, cond}
-use mathlib.Core.Option.{none}
 use lib.Dec.{eqb, ltb}
 use borrow.Author.Tests.{eqb-true, eqb-false, eq-eqb, ltb-true, ltb-false}
 use native.Mathlib.Numerals.{add-one}
@@ -107,8 +107,8 @@ module _ (s : Settings) where
           → (suc n + 1 ≤ b → cond q 1 0 + c ≡ 0) × (suc n ≤ b + 1 → cond q 1 0 + c ≤ 1) × (cond q 1 0 + c ≤ 2)
       go true e true f ih =
           let same : n + 1 ≡ b = eqb-true (n + 1) b f in
-          let none : c ≡ 0 = ih.0 (omega (arith, same)) in
-          (λ l. absurd (omega (arith, same)), λ l. omega (arith, none), omega (arith, none))
+          let None : c ≡ 0 = ih.0 (omega (arith, same)) in
+          (λ l. absurd (omega (arith, same)), λ l. omega (arith, None), omega (arith, None))
       go true e false f ih =
           let next : n ≡ b + 1 = beside b n e (eqb-false (n + 1) b f) in
           (λ l. absurd (omega (arith, next)), λ l. absurd (omega (arith, next)), omega (arith, ih.1 (omega (arith, next))))

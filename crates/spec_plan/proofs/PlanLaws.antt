@@ -1,10 +1,10 @@
 -- Every step of the planner keeps its invariant, and each of its records passes the tests on the state, at the least instant.
 -- Assumes nothing.
+use Rattle.std.specs.Prelude.{Option, None, Some}
 use Prim.Native.Nat.{ℕ, zero, suc, ◌+◌, ◌≤◌, ◌<◌, ◌^◌}
 use mathlib.Core.Path.{◌≡◌, refl, sym, subst, ap, ◌∙◌}
 use mathlib.Core.Bool.{Bool, true, false, not, ◌&&◌, ◌||◌, cond, or-true, and-false}
 use mathlib.Core.List.{List, [], ◌∷◌}
-use mathlib.Core.Option.{Option, none, some}
 use lib.Dec.{eqb, ltb}
 use borrow.Author.Tests.{lt-ltb, eqb-true, eq-eqb, not-true, not-false}
 use native.Mathlib.Nat.{mod-lt}
@@ -73,13 +73,13 @@ read-able cx ch (y ∷ z ∷ ws) b c m x e = not-both true refl e
 
 -- a PRER that closes nothing, or these banks
 pub implied-changed : (cx : Context) (o : Option ℕ) (x : ℕ) (b : Bank) → closed_by cx o x b ≡ cond (reaches cx o x) Closed b
-implied-changed cx none x b = refl
-implied-changed cx (some p) x b = refl
+implied-changed cx None x b = refl
+implied-changed cx (Some p) x b = refl
 
 pub rest-far : (cx : Context) (ws : List Write) → newest_closes ws ≡ true → in_banks (reaches cx (retire_implies (first ws))) (rest ws) ≡ false
 rest-far cx [] h = refl
 rest-far cx (x ∷ []) h = refl
-rest-far cx (x ∷ y ∷ ws) h = subst (λ q. in_banks (reaches cx (only q (some x.bank))) (y ∷ ws) ≡ false) (sym (not-true x.close h)) (none-picked ws)
+rest-far cx (x ∷ y ∷ ws) h = subst (λ q. in_banks (reaches cx (only q (Some x.bank))) (y ∷ ws) ≡ false) (sym (not-true x.close h)) (none-picked ws)
 
 rest-queue : (b : Buffer) → newest_closes (rest (waiting_of b)) ≡ true
 unfolding waiting_of
@@ -94,7 +94,7 @@ module _ (cx : Context) where
       let t0 : ℕ = soonest cx d.planner.channel r d.planner.now.0 in
       omega (arith, picked-late cx d.planner.channel r t0 (waiting d))
 
-  module _ (d : Draft) (v : Inv cx d.planner) (r : Record) (e : (traits r).writes ≡ none) where
+  module _ (d : Draft) (v : Inv cx d.planner) (r : Record) (e : (traits r).writes ≡ None) where
     -- a packet that leaves the writes, in banks that it does not change
     held-sent : waiting (sent cx r d) ≡ waiting d → (q : ℕ → Bool) (new : Bank) → in_banks q (waiting d) ≡ false
         → Changed q new (state_in d) (state_in (sent cx r d)) → Held cx (sent cx r d).planner.channel
@@ -165,7 +165,7 @@ module _ (cx : Context) (ns : Neighbours cx) (p : PlannerState) where
 
     -- a packet that leaves the writes, in banks that it does not change
     good-kept : (r : Record) → is_packet r ≡ true → record_fits cx.settings r ≡ true → fits cx d.planner.channel r ≡ true → able cx d.planner.channel (waiting d) r ≡ true
-        → open_for (state_in d) (traits r).reads ≡ true → (traits r).writes ≡ none
+        → open_for (state_in d) (traits r).reads ≡ true → (traits r).writes ≡ None
         → waiting (sent cx r d) ≡ waiting d → (q : ℕ → Bool) (new : Bank) → in_banks q (waiting d) ≡ false
         → Changed q new (state_in d) (state_in (sent cx r d)) → Banked cx (state_in (sent cx r d)) → G (sent cx r d)
     good-kept r packet word fitting a reads e same q new far c b = (
@@ -208,15 +208,15 @@ module _ (cx : Context) (ns : Neighbours cx) (p : PlannerState) where
     unfolding traits col_traits is_packet record_fits col_fits is_open state_by
     good-rd close b c row m l o few far =
         let r : Record = col_packet (Rd b c 0xFFFF close) in
-        let q : ℕ → Bool = reaches cx (cond close (some b) none) in
-        let ch : Changed q Closed (state_in d) (state_in (sent cx r d)) = λ x i. sent-state cx r d k.0.inv.size x i ∙ rw (read-gone cx b c 0xFFFF close d) (implied-changed cx (cond close (some b) none) x (state_in d x)) in
+        let q : ℕ → Bool = reaches cx (cond close (Some b) None) in
+        let ch : Changed q Closed (state_in d) (state_in (sent cx r d)) = λ x i. sent-state cx r d k.0.inv.size x i ∙ rw (read-gone cx b c 0xFFFF close d) (implied-changed cx (cond close (Some b) None) x (state_in d x)) in
         let shut : in_banks q (waiting d) ≡ false = reached-none close far in
         good-kept r refl (rw (bank-word b m, lt-ltb c cx.settings.columns l))
         (fits_by cx d.planner.channel k.0.inv.held r refl refl (rw o) refl (none-picked (waiting d)) shut) (read-able cx d.planner.channel (waiting d) b c 0xFFFF close few) (rw o) refl
         (read-waiting cx b c 0xFFFF close d) q Closed shut ch
         (banked-shut cx (state_in d) (state_in (sent cx r d)) k.0.inv.banked q ch)
       where
-        reached-none : (close : Bool) → close && in_banks (near cx b) (waiting d) ≡ false → in_banks (reaches cx (cond close (some b) none)) (waiting d) ≡ false
+        reached-none : (close : Bool) → close && in_banks (near cx b) (waiting d) ≡ false → in_banks (reaches cx (cond close (Some b) None)) (waiting d) ≡ false
         reached-none true h = h
         reached-none false h = none-picked (waiting d)
 
@@ -269,18 +269,18 @@ module _ (cx : Context) (ns : Neighbours cx) (p : PlannerState) where
 
     written-due : (close : Bool) (at : Place) →
         let r : Record = wr_packet close at in
-        due_of cx (sent cx r d).planner.channel ≡ some (slot cx d.planner r + cx.settings.cwd)
+        due_of cx (sent cx r d).planner.channel ≡ Some (slot cx d.planner r + cx.settings.cwd)
     unfolding due_of traits col_traits
     written-due close at =
         let r : Record = wr_packet close at in
         rw (sent-due cx r d, wr-waiting cx close at d) (go (left (leaver cx d.planner r) (waiting d)))
       where
-        go : (ws : List Write) → newest_due cx (queued ws (newer cx close at d)) ≡ some (slot cx d.planner (wr_packet close at) + cx.settings.cwd)
+        go : (ws : List Write) → newest_due cx (queued ws (newer cx close at d)) ≡ Some (slot cx d.planner (wr_packet close at) + cx.settings.cwd)
         go [] = refl
         go (x ∷ ws) = refl
 
     -- what leaves closes no bank
-    pub gone-plain : (r : Record) → retire_implies (leaver cx d.planner r) ≡ none
+    pub gone-plain : (r : Record) → retire_implies (leaver cx d.planner r) ≡ None
     gone-plain r = leaving-plain cx (waiting d) (placed_at (slot cx d.planner r) r) k.1
 
     -- WR or WRA and its D

@@ -1,11 +1,11 @@
 -- What one packet of the planner makes of the channel, and what closing banks makes of it: the banks, the write that waits, the
 -- number of banks, and the records.
 -- Assumes nothing.
+use Rattle.std.specs.Prelude.{Option, None}
 use Prim.Native.Nat.{ℕ, zero, suc, ◌+◌, ◌≤◌, ◌<◌, ◌^◌, max}
 use mathlib.Core.Path.{◌≡◌, refl, sym, ap, ◌∙◌}
 use mathlib.Core.Bool.{Bool, true, false, not, ◌&&◌, cond}
 use mathlib.Core.List.{List, [], ◌∷◌, ◌++◌}
-use mathlib.Core.Option.{Option, none}
 use lib.Dec.{eqb, ltb}
 use lib.ListN.{length}
 use borrow.Author.Tests.{le-leb, lt-ltb, eqb-true, eqb-false, eq-eqb}
@@ -145,13 +145,13 @@ module _ (cx : Context) where
     sent-waiting = after-waits cx d.planner.channel here ∙ rw here-leaving
 
   -- a packet that retires nothing: not a COL packet other than RD
-  pub none-leaves : (r : Record) (d : Draft) → (traits r).not_read ≡ false → leaver cx d.planner r ≡ none
+  pub none-leaves : (r : Record) (d : Draft) → (traits r).not_read ≡ false → leaver cx d.planner r ≡ None
   none-leaves r d e = sym (here-leaving r d) ∙ keeps-all cx (here r d) (waiting d) (moved-not-read cx d.planner.channel _ _ r ∙ e)
 
-  pub row-gone : (p : RowPacket) (d : Draft) → leaver cx d.planner (row_packet p) ≡ none
+  pub row-gone : (p : RowPacket) (d : Draft) → leaver cx d.planner (row_packet p) ≡ None
   row-gone p d = none-leaves (row_packet p) d (row_keeps never p)
 
-  pub read-gone : (b c m : ℕ) (x : Bool) (d : Draft) → leaver cx d.planner (col_packet (Rd b c m x)) ≡ none
+  pub read-gone : (b c m : ℕ) (x : Bool) (d : Draft) → leaver cx d.planner (col_packet (Rd b c m x)) ≡ None
   unfolding traits col_traits
   read-gone b c m x d = none-leaves (col_packet (Rd b c m x)) d refl
 
@@ -205,7 +205,7 @@ module _ (cx : Context) where
   abbrev pub Plain : Draft → Type 0
   Plain d = any_closes (waiting d) ≡ false
 
-  plain-first : (ws : List Write) → any_closes ws ≡ false → retire_implies (first ws) ≡ none
+  plain-first : (ws : List Write) → any_closes ws ≡ false → retire_implies (first ws) ≡ None
   plain-first [] e = refl
   plain-first (w ∷ ws) e = rw (neither w.close _ e).0
 

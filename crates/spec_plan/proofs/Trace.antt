@@ -1,11 +1,11 @@
 -- A planner's records one by one, newest first: the state and now before each, and that each passes the tests on the state and
 -- stands at the least instant from now on.
 -- Assumes nothing.
+use Rattle.std.specs.Prelude.{Some}
 use Prim.Native.Nat.{ℕ, zero, suc, ◌+◌, ◌≤◌, ◌<◌, ◌^◌}
 use mathlib.Core.Path.{◌≡◌, refl, sym, ◌∙◌}
 use mathlib.Core.Bool.{Bool, true, false, not, ◌&&◌, ◌||◌, cond, or-true}
 use mathlib.Core.List.{List, [], ◌∷◌, ◌++◌, reverse, reverse-append}
-use mathlib.Core.Option.{some}
 use lib.Dec.{eqb}
 use lib.ListN.{length}
 use lib.Seq.{take-length}
@@ -107,7 +107,7 @@ module _ (cx : Context) where
   data-closes [] = refl
   data-closes (w ∷ ws) = data-closes ws
 
-  data-fits : (ch : Channel) (t : ℕ) (bytes : Dualoct) → due_of cx ch ≡ some t → fits cx ch (DataOf (record { 0 = t }) bytes) ≡ true
+  data-fits : (ch : Channel) (t : ℕ) (bytes : Dualoct) → due_of cx ch ≡ Some t → fits cx ch (DataOf (record { 0 = t }) bytes) ≡ true
   unfolding fits traits is_packet instant
   data-fits ch t bytes e = rw (e, eq-eqb t t refl, data-closes (waiting_of ch.buffer))
 
@@ -182,7 +182,7 @@ module _ (cx : Context) where
         }
 
     -- the data of the WR before
-    pub trace-loaded : (mask : ℕ) (bytes : Dualoct) → due_of cx d.planner.channel ≡ some (d.planner.now.0 + cx.settings.cwd) → 4 ≤ d.planner.now.0
+    pub trace-loaded : (mask : ℕ) (bytes : Dualoct) → due_of cx d.planner.channel ≡ Some (d.planner.now.0 + cx.settings.cwd) → 4 ≤ d.planner.now.0
         → Trace cx p (loaded cx mask bytes d)
     unfolding loaded channel_by now_by is_packet instant record_fits
     trace-loaded mask bytes due low =

@@ -1,6 +1,6 @@
 -- A plan call: one request of any bytes, and any room (document 01, "Planner", "What is turned back").
 -- Assumes nothing.
-use Rattle.std.specs.Prelude.{ℕ, ◌+◌, ◌/◌, Bool, true, false, cond, ◌&&◌, List, [], ◌∷◌, ◌++◌, leb, length}
+use Rattle.std.specs.Prelude.{ℕ, ◌+◌, ◌/◌, Bool, true, false, cond, ◌&&◌, List, [], ◌∷◌, ◌++◌, leb, length, Err, Ok, Result}
 use Rattle.num.specs.Bytes.{splice}
 use Rattle.settings.specs.declared.Settings.{Settings}
 use Rattle.settings.specs.Instants.{horizon}
@@ -8,8 +8,6 @@ use Rattle.record.specs.declared.Record.{Record}
 use Rattle.record.specs.declared.Request.{Request}
 use Rattle.record.specs.declared.Request.TheVariants.{Read, Write, Refresh, Wait, Flush, Close}
 use Rattle.record.specs.declared.Refusal.TheVariants.{Horizon, Full, Unretired}
-use Rattle.record.specs.declared.RequestRead.{RequestRead}
-use Rattle.record.specs.declared.RequestRead.TheVariants.{Refused as RefusedRequest, Accepted}
 use Rattle.record.specs.Record.{record_bytes}
 use Rattle.record.specs.Request.{request_read}
 use Rattle.spec_rules.specs.Neighbour.{Context}
@@ -18,9 +16,8 @@ use Rattle.spec_rules.specs.Rules.{longest_delay, implied_delay}
 use Rattle.spec_rules.specs.declared.Channel.{Channel}
 use Rattle.spec_rules.specs.Channel.{waiting_of, leaving_of, after}
 use Rattle.spec_plan.specs.declared.PlannerState.{PlannerState}
-use Rattle.spec_plan.specs.declared.Outcome.{Outcome}
-use Rattle.spec_plan.specs.declared.Outcome.TheVariants.{Refused, Made}
 use Rattle.spec_plan.specs.Plan.{Draft, any_waits, planned}
+use Rattle.record.specs.declared.Refusal.{Refusal}
 
 -- the bytes of records, one after the other
 unfoldable pub list_bytes : Settings → List Record → List ℕ
@@ -38,9 +35,9 @@ unfoldable pub timely : Context → PlannerState → Draft → Bool
 timely cx p d = in_time cx p.channel d.records && leb d.planner.now.0 horizon
 
 -- 7, then "8 full: fewer free records [..] in the lent buffer than the call needs"
-unfoldable pub outcome_of : Context → PlannerState → Draft → ℕ → Outcome
+unfoldable pub outcome_of : Context → PlannerState → Draft → ℕ → Result ℕ Refusal
 outcome_of cx p d room =
-    cond (timely cx p d) (cond (leb (length d.records) (room / 32)) (Made (length d.records)) (Refused Full)) (Refused Horizon)
+    cond (timely cx p d) (cond (leb (length d.records) (room / 32)) (Ok (length d.records)) (Err Full)) (Err Horizon)
 
 -- "for close while a write waits"
 unfoldable pub unretired : Request → PlannerState → Bool
@@ -52,26 +49,26 @@ unretired Flush p = false
 unretired Close p = any_waits (waiting_of p.channel.buffer)
 
 -- what a call answers whose request says this: the request's own refusals first, then "15 unretired [..] after 6 and before 7"
-unfoldable pub outcome_by : Context → PlannerState → RequestRead → ℕ → Outcome
-outcome_by cx p (RefusedRequest why) room = Refused why
-outcome_by cx p (Accepted q) room = cond (unretired q p) (Refused Unretired) (outcome_of cx p (planned cx q p) room)
+unfoldable pub outcome_by : Context → PlannerState → Result Request Refusal → ℕ → Result ℕ Refusal
+outcome_by cx p (Err why) room = Err why
+outcome_by cx p (Ok q) room = cond (unretired q p) (Err Unretired) (outcome_of cx p (planned cx q p) room)
 
 -- the answer to a request of these bytes, with a lent buffer of so many
-unfoldable pub plan_outcome : Context → PlannerState → List ℕ → ℕ → Outcome
+unfoldable pub plan_outcome : Context → PlannerState → List ℕ → ℕ → Result ℕ Refusal
 plan_outcome cx p request room = outcome_by cx p (request_read cx.settings request) room
 
 -- "accepted means not refused"
-unfoldable pub is_made : Outcome → Bool
-is_made (Refused why) = false
-is_made (Made n) = true
+unfoldable pub is_made : Result ℕ Refusal → Bool
+is_made (Err why) = false
+is_made (Ok n) = true
 
 abbrev pub accepted : Context → PlannerState → List ℕ → ℕ → Bool
 accepted cx p request room = is_made (plan_outcome cx p request room)
 
 -- the planner with the records of the request that bytes say, where they say one
-unfoldable pub draft_by : Context → PlannerState → RequestRead → Draft
-draft_by cx p (RefusedRequest why) = record { planner = p; records = [] }
-draft_by cx p (Accepted q) = planned cx q p
+unfoldable pub draft_by : Context → PlannerState → Result Request Refusal → Draft
+draft_by cx p (Err why) = record { planner = p; records = [] }
+draft_by cx p (Ok q) = planned cx q p
 
 abbrev pub draft_of : Context → PlannerState → List ℕ → Draft
 draft_of cx p request = draft_by cx p (request_read cx.settings request)

@@ -1,7 +1,6 @@
 -- The plan of a request (document 01, "Planner"): the order of its commands, and each packet at the least instant.
 -- Assumes nothing.
-use Rattle.std.specs.Prelude.{ℕ, zero, suc, ◌+◌, ◌%◌, Bool, true, false, not, ◌&&◌, ◌||◌, cond, List, [], ◌∷◌, ◌++◌, eqb}
-use Rattle.std.proofs.Math.Option.{Option, none, some}
+use Rattle.std.specs.Prelude.{ℕ, zero, suc, ◌+◌, ◌%◌, Bool, true, false, not, ◌&&◌, ◌||◌, cond, List, [], ◌∷◌, ◌++◌, eqb, Option, None, Some}
 use Rattle.packet.specs.declared.RowPacket.{RowPacket}
 use Rattle.packet.specs.declared.RowPacket.TheVariants.{Act, Prer, Refa, Refp}
 use Rattle.packet.specs.declared.ColPacket.{ColPacket}
@@ -47,13 +46,13 @@ state_in d x = state_of d.planner.channel x
 
 -- the mask that a packet carries for the write that it retires; a packet that retires none has M = 0, as a full mask has
 abbrev pub carried : Option Write → ℕ → ℕ
-carried none mask = 0xFFFF
-carried (some w) mask = mask
+carried None mask = 0xFFFF
+carried (Some w) mask = mask
 
 -- the mask of the older write after a packet that retires this one: the newer write moves up
 abbrev pub shifted : Option Write → ℕ → ℕ → ℕ
-shifted none mask second = mask
-shifted (some w) mask second = second
+shifted None mask second = mask
+shifted (Some w) mask second = second
 
 abbrev pub open_on : Bank → ℕ → Bool
 open_on Closed row = false

@@ -12,6 +12,9 @@ pub const MOST_BYTES: usize = 1024;
 
 pub const PLANNER_BYTES: usize = 768;
 
+// A planner's bytes.
+pub type PlannerBytes = [u8; PLANNER_BYTES];
+
 // A planner between two requests: the channel after its packets, now, the bank of the next refresh, and the masks of the
 // waiting writes, that of the older one first.
 #[derive(Clone, Copy)]
@@ -21,11 +24,4 @@ pub struct PlannerState {
     pub refresh: u32,
     pub mask: u32,
     pub second: u32,
-}
-
-// What a plan call answers: the number of records that it made, or why it is refused.
-#[derive(Clone, Copy)]
-pub enum Outcome {
-    Refused(Refusal),
-    Made(u64),
 }

@@ -1,10 +1,10 @@
 -- The test of each rule of the table, written out: the form in which code that names the rule computes it.
 -- Assumes nothing.
+use Rattle.std.specs.Prelude.{Option, None, Some}
 use Prim.Native.Nat.{ℕ, zero, suc, ◌+◌, ◌-◌, max}
 use mathlib.Core.Path.{◌≡◌, refl, sym, ap, ap₂, ◌∙◌}
 use mathlib.Core.Bool.{Bool, true, false, not, ◌&&◌, cond, and-true}
 use mathlib.Core.List.{List, [], ◌∷◌}
-use mathlib.Core.Option.{Option, none, some}
 use lib.Dec.{eqb, leb, leb-zero}
 use native.Mathlib.Omega.{arith}
 use Rattle.settings.specs.declared.PacketAt.{PacketAt}
@@ -26,7 +26,7 @@ use Rattle.spec_rules.proofs.Bools.{not-both, leb-max}
 use Rattle.spec_rules.proofs.TrackLaws.{keeps-all, row_keeps}
 
 -- data are of no kind
-data-none : (a : Kind) (r : Record) → is_packet r ≡ false → bank_as a (traits r) ≡ none
+data-none : (a : Kind) (r : Record) → is_packet r ≡ false → bank_as a (traits r) ≡ None
 unfolding is_packet traits
 data-none a (RowAt t p) e = not-both true refl e
 data-none a (ColAt t p) e = not-both true refl e
@@ -42,7 +42,7 @@ data-none retire (DataOf t d) e = refl
 data-none implied (DataOf t d) e = refl
 
 -- a record itself is no retire
-never-retire : (r : Record) → (traits r).retires ≡ none
+never-retire : (r : Record) → (traits r).retires ≡ None
 unfolding traits row_traits col_traits
 never-retire (RowAt t (Act b row)) = refl
 never-retire (RowAt t (Prer b)) = refl
@@ -54,8 +54,8 @@ never-retire (ColAt t (Rd b c m x)) = refl
 never-retire (DataOf t d) = refl
 
 abbrev either : Option ℕ → Option ℕ → Option ℕ
-either none o = o
-either (some b) o = some b
+either None o = o
+either (Some b) o = Some b
 
 -- the bank of the PRER that a record implies: by itself, or by the retire that it makes
 abbrev pub implied_bank : Context → Channel → Record → Option ℕ
@@ -68,21 +68,21 @@ module _ (cx : Context) (ch : Channel) (d : Distance) where
   abbrev asks_of : Option ℕ → ℕ
   asks_of o = bound_of o (bound_by cx ch d.banks d.earlier d.cycles)
 
-  asks_nothing : (o : Option ℕ) (t : ℕ) → o ≡ none → leb (asks_of o) t ≡ true
+  asks_nothing : (o : Option ℕ) (t : ℕ) → o ≡ None → leb (asks_of o) t ≡ true
   asks_nothing o t e = ap (λ (o : Option ℕ). leb (asks_of o) t) e ∙ leb-zero t
 
   -- an implied PRER, where there is one, before other deeds
   by-implied : (u : ℕ) (o : Option ℕ) (l : List Deed) → each passes (implied_deeds u o l) ≡ leb (bound_of o (λ b. asks_of (bank_as d.later (implied_traits b)))) u && each passes l
-  by-implied u none l = ap (λ (b : Bool). b && each passes l) (sym (leb-zero u))
-  by-implied u (some b) l = refl
+  by-implied u None l = ap (λ (b : Bool). b && each passes l) (sym (leb-zero u))
+  by-implied u (Some b) l = refl
 
   -- a line that asks nothing of an implied PRER
-  no-implied : ((b : ℕ) → bank_as d.later (implied_traits b) ≡ none) → (u : ℕ) (o : Option ℕ) (l : List Deed) → each passes (implied_deeds u o l) ≡ each passes l
-  no-implied e u none l = refl
-  no-implied e u (some b) l = ap (λ (x : Bool). x && each passes l) (asks_nothing (bank_as d.later (implied_traits b)) u (e b))
+  no-implied : ((b : ℕ) → bank_as d.later (implied_traits b) ≡ None) → (u : ℕ) (o : Option ℕ) (l : List Deed) → each passes (implied_deeds u o l) ≡ each passes l
+  no-implied e u None l = refl
+  no-implied e u (Some b) l = ap (λ (x : Bool). x && each passes l) (asks_nothing (bank_as d.later (implied_traits b)) u (e b))
 
   -- a line that asks of a packet alone; of a retire alone
-  by-packet : (r : Record) → ((b : ℕ) → bank_as d.later (retire_traits b) ≡ none) → ((b : ℕ) → bank_as d.later (implied_traits b) ≡ none)
+  by-packet : (r : Record) → ((b : ℕ) → bank_as d.later (retire_traits b) ≡ None) → ((b : ℕ) → bank_as d.later (implied_traits b) ≡ None)
       → each passes (deeds cx (waiting_of ch.buffer) r) ≡ leb (asks_of (bank_as d.later (traits r))) (instant r)
   unfolding deeds instant is_packet
   by-packet (RowAt t p) retires no-prer = and-true _
@@ -92,11 +92,11 @@ module _ (cx : Context) (ch : Channel) (d : Distance) where
       ∙ and-true _
     where
       go : (o : Option Write) → each passes (retire_deeds t.0 o) ≡ true
-      go none = refl
-      go (some w) = ap (λ (b : Bool). b && true) (asks_nothing (bank_as d.later (retire_traits w.bank)) t.0 (retires w.bank))
+      go None = refl
+      go (Some w) = ap (λ (b : Bool). b && true) (asks_nothing (bank_as d.later (retire_traits w.bank)) t.0 (retires w.bank))
   by-packet (DataOf t x) retires no-prer = sym (asks_nothing (bank_as d.later (traits (DataOf t x))) t.0 (data-none d.later (DataOf t x) refl))
 
-  by-retire : (r : Record) → bank_as d.later (traits r) ≡ none → ((b : ℕ) → bank_as d.later (retire_traits b) ≡ some b) → ((b : ℕ) → bank_as d.later (implied_traits b) ≡ none)
+  by-retire : (r : Record) → bank_as d.later (traits r) ≡ None → ((b : ℕ) → bank_as d.later (retire_traits b) ≡ Some b) → ((b : ℕ) → bank_as d.later (implied_traits b) ≡ None)
       → each passes (deeds cx (waiting_of ch.buffer) r) ≡ leb (asks_of (bank_of (leaving_of cx ch r))) (instant r)
   unfolding deeds instant traits
   by-retire (RowAt t p) no-packet is-retire no-prer =
@@ -109,13 +109,13 @@ module _ (cx : Context) (ch : Channel) (d : Distance) where
       ∙ go (leaving_of cx ch (ColAt t p))
     where
       go : (o : Option Write) → each passes (retire_deeds t.0 o) ≡ leb (asks_of (bank_of o)) t.0
-      go none = sym (leb-zero t.0)
-      go (some w) = and-true _ ∙ ap (λ (o : Option ℕ). leb (asks_of o) t.0) (is-retire w.bank)
+      go None = sym (leb-zero t.0)
+      go (Some w) = and-true _ ∙ ap (λ (o : Option ℕ). leb (asks_of o) t.0) (is-retire w.bank)
   by-retire (DataOf t x) no-packet is-retire no-prer = sym (asks_nothing (bank_of (leaving_of cx ch (DataOf t x))) t.0 (ap bank_of (keeps-all cx (DataOf t x) (waiting_of ch.buffer) refl)))
 
 -- ---- lines that ask of PRERs, implied ones too
 
-row-implies : (t : PacketAt) (p : RowPacket) → (traits (RowAt t p)).implies ≡ none
+row-implies : (t : PacketAt) (p : RowPacket) → (traits (RowAt t p)).implies ≡ None
 unfolding traits row_traits
 row-implies t (Act b row) = refl
 row-implies t (Prer b) = refl
@@ -123,10 +123,10 @@ row-implies t (Refa b) = refl
 row-implies t (Refp b) = refl
 
 module _ (cx : Context) (ch : Channel) where
-  pub no-implied-bank : (r : Record) → (traits r).implies ≡ none → (traits r).not_read ≡ false → implied_bank cx ch r ≡ none
+  pub no-implied-bank : (r : Record) → (traits r).implies ≡ None → (traits r).not_read ≡ false → implied_bank cx ch r ≡ None
   no-implied-bank r e n = rw (e, keeps-all cx r (waiting_of ch.buffer) n)
 
-  pub row-implied-bank : (t : PacketAt) (p : RowPacket) → implied_bank cx ch (RowAt t p) ≡ none
+  pub row-implied-bank : (t : PacketAt) (p : RowPacket) → implied_bank cx ch (RowAt t p) ≡ None
   row-implied-bank t p = no-implied-bank (RowAt t p) (row-implies t p) (row_keeps t p)
 
   module _ (n : ℕ) (kind : Kind) (banks : Banks) (cycles : ℕ) where
@@ -136,7 +136,7 @@ module _ (cx : Context) (ch : Channel) where
     abbrev asked : Option ℕ → ℕ → Bool
     asked o t = leb (bound_of o (bound_by cx ch banks kind cycles)) t
 
-    asks_none : (o : Option ℕ) (t : ℕ) → o ≡ none → asked o t ≡ true
+    asks_none : (o : Option ℕ) (t : ℕ) → o ≡ None → asked o t ≡ true
     asks_none o t e = ap (λ (o : Option ℕ). asked o t) e ∙ leb-zero t
 
     by-precharge : (r : Record) → each (passes cx ch line) (deeds cx (waiting_of ch.buffer) r) ≡ asked (traits r).precharges (instant r) && asked (implied_bank cx ch r) (instant r + cx.settings.offp)
@@ -150,8 +150,8 @@ module _ (cx : Context) (ch : Channel) where
         ∙ both p
       where
         retired : (o : Option Write) → each (passes cx ch line) (retire_deeds t.0 o) ≡ true
-        retired none = refl
-        retired (some w) = simp (leb-zero)
+        retired None = refl
+        retired (Some w) = simp (leb-zero)
 
         both : (p : ColPacket) → asked (traits (ColAt t p)).implies (t.0 + cx.settings.offp) && (asked (traits (ColAt t p)).precharges t.0 && (asked (retire_implies (leaving_of cx ch (ColAt t p))) (t.0 + cx.settings.offp) && true))
             ≡ asked (traits (ColAt t p)).precharges t.0 && asked (implied_bank cx ch (ColAt t p)) (t.0 + cx.settings.offp)
@@ -173,12 +173,12 @@ both-max f g k e (suc n) = swap (max_up_to f n) (f n) (max_up_to g n) (g n) ∙ 
 module _ (cx : Context) (ch : Channel) where
   -- tRC for same or neighbour, else tRR
   abbrev pub act_bound : ℕ → ℕ
-  act_bound b = max_up_to (λ x. asks (some (cond (near cx b x) cx.settings.rc cx.settings.rr)) (track_of ch x).opened.0) bank_count
+  act_bound b = max_up_to (λ x. asks (Some (cond (near cx b x) cx.settings.rc cx.settings.rr)) (track_of ch x).opened.0) bank_count
 
   pub act-once : (b : ℕ) → max (bound_banks cx ch (near cx) ACT cx.settings.rc b) (bound_banks cx ch (λ b x. not (near cx b x)) ACT cx.settings.rr b) ≡ act_bound b
   act-once b = both-max _ _ _ (λ x. go (near cx b x) (track_of ch x).opened.0) bank_count
     where
-      go : (c : Bool) (l : ℕ) → max (asks (only c (some cx.settings.rc)) l) (asks (only (not c) (some cx.settings.rr)) l) ≡ asks (some (cond c cx.settings.rc cx.settings.rr)) l
+      go : (c : Bool) (l : ℕ) → max (asks (only c (Some cx.settings.rc)) l) (asks (only (not c) (Some cx.settings.rr)) l) ≡ asks (Some (cond c cx.settings.rc cx.settings.rr)) l
       go true l = omega arith
       go false l = omega arith
 
@@ -186,7 +186,7 @@ module _ (cx : Context) (ch : Channel) where
     abbrev t : ℕ
     t = instant r
 
-    plain : (d : Distance) → ((b : ℕ) → bank_as d.later (retire_traits b) ≡ none) → ((b : ℕ) → bank_as d.later (implied_traits b) ≡ none)
+    plain : (d : Distance) → ((b : ℕ) → bank_as d.later (retire_traits b) ≡ None) → ((b : ℕ) → bank_as d.later (implied_traits b) ≡ None)
         → each (passes cx ch d) (deeds cx (waiting_of ch.buffer) r) ≡ leb (asks_of cx ch d (bank_as d.later (traits r))) t
     plain d e i = by-packet cx ch d r e i
 
@@ -210,8 +210,8 @@ module _ (cx : Context) (ch : Channel) where
         ∙ go (traits r).opens
       where
         go : (o : Option ℕ) → leb (bound_of o (bound_banks cx ch (near cx) ACT cx.settings.rc)) t && leb (bound_of o (bound_banks cx ch (λ b x. not (near cx b x)) ACT cx.settings.rr)) t ≡ leb (bound_of o act_bound) t
-        go none = rw (leb-zero t)
-        go (some b) = sym (leb-max _ _ t) ∙ ap (λ (n : ℕ). leb n t) (act-once b)
+        go None = rw (leb-zero t)
+        go (Some b) = sym (leb-max _ _ t) ∙ ap (λ (n : ℕ). leb n t) (act-once b)
 
     -- a PRER in its own time, and an implied one in its
     abbrev prers : (ℕ → ℕ) → Bool

@@ -1,9 +1,9 @@
 -- The checker is right: on every list of records that fit, it finds the first record that breaks a rule, and its lowest one.
 -- Assumes nothing.
+use Rattle.std.specs.Prelude.{Option, None, Some}
 use Prim.Native.Nat.{ℕ, zero, suc, ◌+◌, ◌≤◌, ◌<◌}
 use mathlib.Core.Path.{◌≡◌, refl, sym, ap, ◌∙◌}
 use mathlib.Core.Bool.{Bool, true, false, ◌&&◌, cond}
-use mathlib.Core.Option.{Option, none, some}
 use mathlib.Core.List.{List, [], ◌∷◌}
 use lib.Dec.{eqb, leb}
 use lib.ListN.{length, get_or}
@@ -62,20 +62,20 @@ module _ (cx : Context) (ch : Channel) where
   pins-late x q e = leb-true ch.lasts.packet.0 x.at (rw (q, since-zero ch.lasts.packet.0) at e)
 
   pre-late : (o : Option ℕ) (t : ℕ) → leb (bound_of o (λ b. since ch.lasts.pre.0 cx.settings.pp)) t ≡ true → has o ≡ true → ch.lasts.pre.0 ≤ t
-  pre-late none t e q = not-both false q refl
-  pre-late (some b) t e q = since-late ch.lasts.pre.0 cx.settings.pp t e
+  pre-late None t e q = not-both false q refl
+  pre-late (Some b) t e q = since-late ch.lasts.pre.0 cx.settings.pp t e
 
   -- of an implied PRER, and of the deeds before it
   implied-late : (t : ℕ) (o : Option ℕ) (l : List Deed) → each eight (implied_deeds t o l) ≡ true → has o ≡ true → ch.lasts.pre.0 ≤ t
   unfolding implied_traits
-  implied-late t none l e q = not-both false q refl
-  implied-late t (some b) l e q = since-late ch.lasts.pre.0 cx.settings.pp t (and_left _ _ e)
+  implied-late t None l e q = not-both false q refl
+  implied-late t (Some b) l e q = since-late ch.lasts.pre.0 cx.settings.pp t (and_left _ _ e)
 
   implied-rest : (test : Deed → Bool) (t : ℕ) (o : Option ℕ) (l : List Deed) → each test (implied_deeds t o l) ≡ true → each test l ≡ true
-  implied-rest test t none l e = e
-  implied-rest test t (some b) l e = and_right (test (record { at = t; traits = implied_traits b })) _ e
+  implied-rest test t None l e = e
+  implied-rest test t (Some b) l e = and_right (test (record { at = t; traits = implied_traits b })) _ e
 
-  pub row_plain : (t : PacketAt) (p : RowPacket) → (traits (RowAt t p)).implies ≡ none
+  pub row_plain : (t : PacketAt) (p : RowPacket) → (traits (RowAt t p)).implies ≡ None
   unfolding traits row_traits
   row_plain t (Act b row) = refl
   row_plain t (Prer b) = refl

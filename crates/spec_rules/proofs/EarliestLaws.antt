@@ -1,11 +1,11 @@
 -- A record breaks no rule exactly where the state allows it, its instant is not before the largest of the bounds, and its data
 -- come in range: so that bound is the least instant that the rules allow.
 -- Assumes nothing.
+use Rattle.std.specs.Prelude.{Option, None, Some}
 use Prim.Native.Nat.{ℕ, suc, ◌+◌, ◌-◌, ◌≤◌, ◌<◌, max}
 use mathlib.Core.Path.{◌≡◌, refl, sym, ap, ap₂, ◌∙◌}
 use mathlib.Core.Bool.{Bool, true, false, not, ◌&&◌, ◌||◌, cond, and-true, and-false, and_assoc, and_comm, or-true, or-false}
 use mathlib.Core.List.{List, [], ◌∷◌}
-use mathlib.Core.Option.{Option, none, some}
 use lib.Dec.{eqb, leb, leb-zero}
 use borrow.Author.Tests.{leb-true, leb-false, le-leb, lt-leb, eqb-true, eq-eqb, ne_eqb}
 use native.Mathlib.Omega.{arith}
@@ -74,8 +74,8 @@ in-range t delay = go (leb (t + delay) horizon) refl
 
 -- the place of a D is no place for a packet, whichever it is
 due-packets : (o : Option ℕ) (r q : Record) → is_packet r ≡ true → is_packet q ≡ true → data_in_place o r ≡ data_in_place o q
-due-packets none r q e f = e ∙ sym f
-due-packets (some t) r q e f = rw (e, f)
+due-packets None r q e f = e ∙ sym f
+due-packets (Some t) r q e f = rw (e, f)
 
 pub placed-instant : (t : ℕ) (r : Record) → instant (placed_at t r) ≡ t
 unfolding placed_at instant
@@ -134,7 +134,7 @@ leb-minus a o t = go (leb a (t + o)) refl
     go true e = le-leb (a - o) t (let m : a ≤ t + o = leb-true a (t + o) e in omega arith)
     go false e = lt-leb (a - o) t (let m : t + o < a = leb-false a (t + o) e in omega arith)
 
-none-some : (w : Write) → none ≡ some w → ⊥
+none-some : (w : Write) → None ≡ Some w → ⊥
 none-some w e = let z : ◌≡◌ {A = ℕ} 0 1 = cc in omega arith
 
 in-range-far : (t delay : ℕ) (e : Bool) → is_instant t && (leb (t + delay) horizon && e) ≡ leb 4 t && (leb (t + delay) horizon && e)
@@ -142,7 +142,7 @@ in-range-far t delay e = sym (and_assoc (is_instant t) (leb (t + delay) horizon)
 
 module _ (cx : Context) (ch : Channel) where
   -- a PRER of no bank loses no write
-  loses-nothing : (st : ℕ → Bank) (o : Option ℕ) → o ≡ none → (ws : List Write) → loses_none cx st o ws ≡ true
+  loses-nothing : (st : ℕ → Bank) (o : Option ℕ) → o ≡ None → (ws : List Write) → loses_none cx st o ws ≡ true
   loses-nothing st o e ws = rw e (go ws)
     where
       go : (ws : List Write) → not (any_write (λ w. false) ws) ≡ true
@@ -152,8 +152,8 @@ module _ (cx : Context) (ch : Channel) where
   -- a bank that is open once a write has left was open before
   open-left : (o : Option Write) (q : Option ℕ) → open_for (λ x. closed_by cx (retire_implies o) x (state_of ch x)) q ≡ open_for (state_of ch) q && open_for (λ x. closed_by cx (retire_implies o) x (state_of ch x)) q
   unfolding is_open
-  open-left o none = refl
-  open-left o (some b) = go (retire_implies o)
+  open-left o None = refl
+  open-left o (Some b) = go (retire_implies o)
     where
       pick-one : (c : Bool) (x : Bank) → is_open (cond c Closed x) ≡ is_open x && is_open (cond c Closed x)
       pick-one true x = sym (and-false (is_open x))
@@ -164,15 +164,15 @@ module _ (cx : Context) (ch : Channel) where
           same false = refl
 
       go : (c : Option ℕ) → is_open (closed_by cx c b (state_of ch b)) ≡ is_open (state_of ch b) && is_open (closed_by cx c b (state_of ch b))
-      go none = same (is_open (state_of ch b))
+      go None = same (is_open (state_of ch b))
         where
           same : (c : Bool) → c ≡ c && c
           same true = refl
           same false = refl
-      go (some p) = pick-one (near cx p b) (state_of ch b)
+      go (Some p) = pick-one (near cx p b) (state_of ch b)
 
   -- a packet that retires is no RDA
-  leaves-plain : (ws : List Write) (r : Record) (w : Write) → leaving cx ws r ≡ some w → (traits r).implies ≡ none
+  leaves-plain : (ws : List Write) (r : Record) (w : Write) → leaving cx ws r ≡ Some w → (traits r).implies ≡ None
   unfolding traits row_traits col_traits
   leaves-plain ws (RowAt t p) w e = absurd (none-some w (sym (keeps-all cx (RowAt t p) ws (row_keeps t p)) ∙ e))
   leaves-plain ws (ColAt t (Nocop m)) w e = refl
@@ -211,18 +211,18 @@ module _ (cx : Context) (ch : Channel) where
   spaced x = leb (bounds cx ch x.traits) x.at
 
   abbrev retire_bounds : Option Write → ℕ
-  retire_bounds none = 0
-  retire_bounds (some w) = bounds cx ch (retire_traits w.bank)
+  retire_bounds None = 0
+  retire_bounds (Some w) = bounds cx ch (retire_traits w.bank)
 
   each-implied : (r : Record) (u : ℕ) (o : Option ℕ) (l : List Deed) → each spaced (implied_deeds u o l) ≡ leb (bound_implied cx ch r o) u && each spaced l
-  each-implied r u none l = rw (leb-zero u)
-  each-implied r u (some b) l = refl
+  each-implied r u None l = rw (leb-zero u)
+  each-implied r u (Some b) l = refl
 
   data-keeps : (t : DataAt) (d : Dualoct) → (traits (DataOf t d)).not_read ≡ false
   unfolding traits
   data-keeps t d = refl
 
-  data-plain : (t : DataAt) (d : Dualoct) → (traits (DataOf t d)).implies ≡ none
+  data-plain : (t : DataAt) (d : Dualoct) → (traits (DataOf t d)).implies ≡ None
   unfolding traits
   data-plain t d = refl
 
@@ -248,8 +248,8 @@ module _ (cx : Context) (ch : Channel) where
       (each-implied r u (retire_implies o) (retire_deeds t.0 o) ∙ ap (λ (b : Bool). leb (bound_implied cx ch r (retire_implies o)) u && b) (go o))
     where
       go : (o : Option Write) → each spaced (retire_deeds t.0 o) ≡ leb (retire_bounds o) t.0
-      go none = sym (leb-zero t.0)
-      go (some w) = and-true _
+      go None = sym (leb-zero t.0)
+      go (Some w) = and-true _
   by-deeds (DataOf t d) =
       rw (data-asks t d, data-plain t d, keeps-all cx (DataOf t d) (waiting_of ch.buffer) (data-keeps t d), leb-zero t.0, leb-zero (t.0 + cx.settings.offp))
 
@@ -322,29 +322,29 @@ module _ (cx : Context) (ch : Channel) where
         ∙ ap (λ (b : Bool). f && (b && (leb 4 t && (d && (e && (l9 && z)))))) table
         ∙ by_parts f (pre_at (traits r).implies) (leb (bounds cx ch (traits r)) t) (pre_at (retire_implies o)) (leb (retire_bounds o) t) (leb 4 t) d e l9 z)
 
-    tail_none : leb (t + longest_delay cx r) horizon && (leb (t + 0) horizon && tail none) ≡ leb (t + longest_delay cx r) horizon && (may_stay cx ch r ws && not (traits r).masked)
+    tail_none : leb (t + longest_delay cx r) horizon && (leb (t + 0) horizon && tail None) ≡ leb (t + longest_delay cx r) horizon && (may_stay cx ch r ws && not (traits r).masked)
     tail_none =
-        rw (leb-zero t, leb-zero u, loses-nothing (state_of ch) none refl ws, or-false (not (traits r).masked))
+        rw (leb-zero t, leb-zero u, loses-nothing (state_of ch) None refl ws, or-false (not (traits r).masked))
         (join (leb (t + longest_delay cx r) horizon) (leb (t + 0) horizon) (stays ws (traits r)) (not (traits r).masked) (still_left cx ch r ws) (own-far t (longest_delay cx r)))
       where
         join : (d e a n f : Bool) → d && e ≡ d → d && (e && (a && (n && (f && true)))) ≡ d && ((a && f) && n)
         join true e a n f h = rw h (simp (and-true, and_assoc, and_comm, and-left-comm))
         join false e a n f h = refl
 
-    by-pre : (w : Write) → leb (retire_least cx ch r w) t ≡ leb (retire_bounds (some w)) t && pre_at (retire_implies (some w))
+    by-pre : (w : Write) → leb (retire_least cx ch r w) t ≡ leb (retire_bounds (Some w)) t && pre_at (retire_implies (Some w))
     by-pre w = simp (leb-max, leb-minus)
 
     by-leaving : (o : Option Write) → leaving cx ws r ≡ o
         → every (checks_by r o) ≡ fits cx ch r && (leb (earliest cx ch r) t && (leb (t + longest_delay cx r) horizon && leaves_right cx ch r ws o t))
     unfolding fits
-    by-leaving none h = shuffled none h ∙ ap (λ (z : Bool). fits cx ch r && (leb (earliest cx ch r) t && z)) tail_none
-    by-leaving (some w) h =
-        let o : Option Write = some w in
+    by-leaving None h = shuffled None h ∙ ap (λ (z : Bool). fits cx ch r && (leb (earliest cx ch r) t && z)) tail_none
+    by-leaving (Some w) h =
+        let o : Option Write = Some w in
         let x : Bool = open_for (then o) (traits r).reads in
         let y : Bool = open_for (then o) (traits r).writes in
         let xs : Bool = open_for (state_of ch) (traits r).reads in
         let ys : Bool = open_for (state_of ch) (traits r).writes in
-        let plain : (traits r).implies ≡ none = leaves-plain ws r w h in
+        let plain : (traits r).implies ≡ None = leaves-plain ws r w h in
         let z : Bool = leb (earliest cx ch r) t in
         let d : Bool = leb (t + longest_delay cx r) horizon in
         let e : Bool = leb (t + implied_delay cx o) horizon in
@@ -353,8 +353,8 @@ module _ (cx : Context) (ch : Channel) where
         let f17 : Bool = still_left cx ch r (rest ws) in
         shuffled o h
         ∙ ap₂ (λ (a b : Bool). head a b (loses_none cx (then o) (traits r).implies (rest ws)) && (z && (d && (e && tail o)))) (open-left o (traits r).reads) (open-left o (traits r).writes)
-        ∙ ap₂ (λ (l m : Bool). head (xs && x) (ys && y) l && (z && (d && (e && (open_for (state_of ch) (some w.bank) && (l10 && (pre_at (retire_implies o) && (true && (m && (f17 && c14)))))))))) (loses-nothing (then o) (traits r).implies plain (rest ws)) (or-true (not (traits r).masked))
-        ∙ shuffle_left (free_for cx (state_of ch) (traits r).opens) xs x ys y (loses_none cx (state_of ch) (traits r).precharges ws) (data_in_place (due_of cx ch) r) z d e (open_for (state_of ch) (some w.bank)) l10 (pre_at (retire_implies o)) f17 c14
+        ∙ ap₂ (λ (l m : Bool). head (xs && x) (ys && y) l && (z && (d && (e && (open_for (state_of ch) (Some w.bank) && (l10 && (pre_at (retire_implies o) && (true && (m && (f17 && c14)))))))))) (loses-nothing (then o) (traits r).implies plain (rest ws)) (or-true (not (traits r).masked))
+        ∙ shuffle_left (free_for cx (state_of ch) (traits r).opens) xs x ys y (loses_none cx (state_of ch) (traits r).precharges ws) (data_in_place (due_of cx ch) r) z d e (open_for (state_of ch) (Some w.bank)) l10 (pre_at (retire_implies o)) f17 c14
         ∙ ap₂ (λ (l m : Bool). head xs ys l && (z && (d && (retire_fits cx ch r w (rest ws) && (m && e))))) (sym (loses-nothing (state_of ch) (traits r).implies plain ws)) (sym (by-pre w))
 
   -- a record breaks no rule exactly where the state allows it, it comes no earlier than its bounds, and what leaves is right
@@ -477,8 +477,8 @@ module _ (cx : Context) (ch : Channel) where
 
   -- rules 9, 10, 12 and 16 at instant t, under this mask
   abbrev pub leaves_under : ℕ → Record → List Write → Option Write → ℕ → Bool
-  leaves_under m r ws none t = may_stay cx ch r ws && not (traits (under m r)).masked
-  leaves_under m r ws (some w) t = retire_fits cx ch r w (rest ws) && (leb (retire_least cx ch r w) t && leb (t + implied_delay cx (some w)) horizon)
+  leaves_under m r ws None t = may_stay cx ch r ws && not (traits (under m r)).masked
+  leaves_under m r ws (Some w) t = retire_fits cx ch r w (rest ws) && (leb (retire_least cx ch r w) t && leb (t + implied_delay cx (Some w)) horizon)
 
   placed-masked : (t : ℕ) (q : Record) → (traits (placed_at t q)).masked ≡ (traits q).masked
   unfolding placed_at traits
@@ -487,8 +487,8 @@ module _ (cx : Context) (ch : Channel) where
   placed-masked t (DataOf u d) = refl
 
   pub moved-right : (t m : ℕ) (r : Record) (o : Option Write) → leaves_right cx ch (moved t m r) (waiting_of ch.buffer) o t ≡ leaves_under m r (waiting_of ch.buffer) o t
-  moved-right t m r none = rw (moved-stay t m r (waiting_of ch.buffer), placed-masked t (under m r))
-  moved-right t m r (some w) = rw (moved-reads t m r, moved-writes t m r, moved_row t m r)
+  moved-right t m r None = rw (moved-stay t m r (waiting_of ch.buffer), placed-masked t (under m r))
+  moved-right t m r (Some w) = rw (moved-reads t m r, moved-writes t m r, moved_row t m r)
 
   -- the instants at which a packet breaks no rule
   pub allowed_at : (t m : ℕ) (r : Record) → is_packet r ≡ true
@@ -506,11 +506,11 @@ module _ (cx : Context) (ch : Channel) where
 
   under-test : (m : ℕ) (r : Record) (w : Write) (ws : List Write) (t : ℕ)
       → leaves_under m r (w ∷ ws) (leaves_of (w ∷ ws) t r) t
-      ≡ test (traits r).not_read (may_stay cx ch r (w ∷ ws)) (retire_fits cx ch r w ws) (traits (under m r)).masked (w.at.0 + cx.settings.rtr) (retire_least cx ch r w) (λ t. leb (t + implied_delay cx (some w)) horizon) t
+      ≡ test (traits r).not_read (may_stay cx ch r (w ∷ ws)) (retire_fits cx ch r w ws) (traits (under m r)).masked (w.at.0 + cx.settings.rtr) (retire_least cx ch r w) (λ t. leb (t + implied_delay cx (Some w)) horizon) t
   under-test m r w ws t = go ((traits r).not_read && leb (w.at.0 + cx.settings.rtr) t)
     where
-      go : (b : Bool) → leaves_under m r (w ∷ ws) (only_write b (some w)) t
-          ≡ cond b (retire_fits cx ch r w ws && (leb (retire_least cx ch r w) t && leb (t + implied_delay cx (some w)) horizon)) (may_stay cx ch r (w ∷ ws) && not (traits (under m r)).masked)
+      go : (b : Bool) → leaves_under m r (w ∷ ws) (only_write b (Some w)) t
+          ≡ cond b (retire_fits cx ch r w ws && (leb (retire_least cx ch r w) t && leb (t + implied_delay cx (Some w)) horizon)) (may_stay cx ch r (w ∷ ws) && not (traits (under m r)).masked)
       go true = refl
       go false = refl
 
@@ -525,26 +525,26 @@ module _ (cx : Context) (ch : Channel) where
 
   -- the instant that is picked breaks none of 9, 10, 12, 14, 16 and 17, with M = 0 where nothing leaves
   pub picked-right : (r : Record) (m t0 : ℕ) (ws : List Write) → able ws r ≡ true → leaver_fits r ws ≡ true
-      → (leaves_of ws (slot_from cx ch r t0 ws) r ≡ none → (traits (under m r)).masked ≡ false)
+      → (leaves_of ws (slot_from cx ch r t0 ws) r ≡ None → (traits (under m r)).masked ≡ false)
       → leaver_far (leaves_of ws (slot_from cx ch r t0 ws) r) (slot_from cx ch r t0 ws) ≡ true
       → leaves_under m r ws (leaves_of ws (slot_from cx ch r t0 ws) r) (slot_from cx ch r t0 ws) ≡ true
   picked-right r m t0 [] a o p g = go ((traits r).not_read && false) p
     where
-      go : (b : Bool) → (only_write b none ≡ none → (traits (under m r)).masked ≡ false) → leaves_under m r [] (only_write b none) t0 ≡ true
+      go : (b : Bool) → (only_write b None ≡ None → (traits (under m r)).masked ≡ false) → leaves_under m r [] (only_write b None) t0 ≡ true
       go true p = rw (p refl)
       go false p = rw (p refl)
   picked-right r m t0 (w ∷ ws) a o p g =
       let t : ℕ = slot_from cx ch r t0 (w ∷ ws) in
       under-test m r w ws t
       ∙ picked-passes (traits r).not_read (may_stay cx ch r (w ∷ ws)) (retire_fits cx ch r w ws) (traits (under m r)).masked t0 (w.at.0 + cx.settings.rtr)
-      (retire_least cx ch r w) (λ t. leb (t + implied_delay cx (some w)) horizon) a o (λ e. p (ap (λ (b : Bool). only_write b (some w)) e))
+      (retire_least cx ch r w) (λ t. leb (t + implied_delay cx (Some w)) horizon) a o (λ e. p (ap (λ (b : Bool). only_write b (Some w)) e))
       (λ e. rw e at g)
 
   pub least-right : (r : Record) (m t0 : ℕ) (ws : List Write) (t : ℕ) → t0 ≤ t → leaves_under m r ws (leaves_of ws t r) t ≡ true → slot_from cx ch r t0 ws ≤ t
   least-right r m t0 [] t l h = l
   least-right r m t0 (w ∷ ws) t l h =
       picked-least (traits r).not_read (may_stay cx ch r (w ∷ ws)) (retire_fits cx ch r w ws) (traits (under m r)).masked t0 (w.at.0 + cx.settings.rtr)
-      (retire_least cx ch r w) (λ t. leb (t + implied_delay cx (some w)) horizon) t l (sym (under-test m r w ws t) ∙ h)
+      (retire_least cx ch r w) (λ t. leb (t + implied_delay cx (Some w)) horizon) t l (sym (under-test m r w ws t) ∙ h)
 
   pub picked-late : (r : Record) (t0 : ℕ) (ws : List Write) → t0 ≤ slot_from cx ch r t0 ws
   picked-late r t0 [] = omega arith
@@ -565,7 +565,7 @@ module _ (cx : Context) (ns : Neighbours cx) (ch : Channel) (es : List Record) (
 
   pub slot-legal : (now m : ℕ) → fits cx ch r ≡ true → able cx ch (waiting_of ch.buffer) r ≡ true → leaver_fits cx ch r (waiting_of ch.buffer) ≡ true →
       let t : ℕ = least_from cx ch r now in
-      t + longest_delay cx r ≤ horizon → leaver_far cx ch (leaves_at cx ch t r) t ≡ true → (leaves_at cx ch t r ≡ none → (traits (under m r)).masked ≡ false) → lowest_rule cx es (at t m) ≡ 0
+      t + longest_delay cx r ≤ horizon → leaver_far cx ch (leaves_at cx ch t r) t ≡ true → (leaves_at cx ch t r ≡ None → (traits (under m r)).masked ≡ false) → lowest_rule cx es (at t m) ≡ 0
   unfolding least_from
   slot-legal now m f a o h g p =
       let ws : List Write = waiting_of ch.buffer in

@@ -1,10 +1,10 @@
 -- The latest event of a kind decides for all of that kind: so a distance from every earlier event is a test on one instant. By a kind of packet, by the banks, by the banks that a PRER closed, and by order.
 -- Assumes nothing.
+use Rattle.std.specs.Prelude.{Option, None, Some}
 use Prim.Native.Nat.{ℕ, ◌+◌, ◌≤◌, ◌<◌, max, zero-le}
 use mathlib.Core.Path.{◌≡◌, refl, sym, ap, ap₂, ◌∙◌}
 use mathlib.Core.Bool.{Bool, true, false, ◌&&◌, cond}
 use mathlib.Core.List.{List, [], ◌∷◌}
-use mathlib.Core.Option.{Option, none, some}
 use lib.Dec.{leb, eqb, leb-zero}
 use borrow.Author.Tests.{leb-true, le-leb, eqb-true, eq-eqb, ne_eqb}
 use native.Mathlib.Omega.{arith}
@@ -30,8 +30,8 @@ Sorted (e ∷ h) = (4 ≤ e.at) × Sorted h
 
 -- a bank, where there is one, is below n
 abbrev pub Within : ℕ → Option ℕ → Type 0
-Within n none = Unit {0}
-Within n (some b) = b < n
+Within n None = Unit {0}
+Within n (Some b) = b < n
 
 abbrev pub All : (Event → Type 0) → List Event → Type 0
 All P [] = Unit {0}
@@ -80,7 +80,7 @@ since-le l gap = go (eqb l 0)
     go false = omega arith
 
 pub last-suffices : (q : Event → Bool) (gap t : ℕ) (h : List Event) → Sorted h
-    → keeps (λ e. only (q e) (some gap)) t h ≡ leb (since (last_of q h) gap) t
+    → keeps (λ e. only (q e) (Some gap)) t h ≡ leb (since (last_of q h) gap) t
 unfolding keeps
 last-suffices q gap t [] s = sym (leb-zero t)
 last-suffices q gap t (e ∷ h) s = go (q e) (eqb (last_of q h) 0) refl (last-suffices q gap t h s.1)
@@ -88,8 +88,8 @@ last-suffices q gap t (e ∷ h) s = go (q e) (eqb (last_of q h) 0) refl (last-su
     later : ℕ
     later = max e.at (last_of q h)
 
-    go : (b z : Bool) → eqb (last_of q h) 0 ≡ z → keeps (λ e. only (q e) (some gap)) t h ≡ leb (since (last_of q h) gap) t
-        → spaced (only b (some gap)) e.at t && keeps (λ e. only (q e) (some gap)) t h ≡ leb (since (cond b later (last_of q h)) gap) t
+    go : (b z : Bool) → eqb (last_of q h) 0 ≡ z → keeps (λ e. only (q e) (Some gap)) t h ≡ leb (since (last_of q h) gap) t
+        → spaced (only b (Some gap)) e.at t && keeps (λ e. only (q e) (Some gap)) t h ≡ leb (since (cond b later (last_of q h)) gap) t
     go false z ez ih = ih
     go true true ez ih =
         let n : last_of q h ≡ 0 = eqb-true (last_of q h) 0 ez in
@@ -102,20 +102,20 @@ last-suffices q gap t (e ∷ h) s = go (q e) (eqb (last_of q h) 0) refl (last-su
     go true false ez ih =
         rw (ih, since-later later gap (omega arith), ez) (sym (leb-max (e.at + gap) (last_of q h + gap) t) ∙ ap (λ (i : ℕ). leb i t) (omega arith))
 
-pub keeps-none : (q : Event → Bool) (t : ℕ) (h : List Event) → keeps (λ e. only (q e) none) t h ≡ true
+pub keeps-none : (q : Event → Bool) (t : ℕ) (h : List Event) → keeps (λ e. only (q e) None) t h ≡ true
 unfolding keeps
 keeps-none q t [] = refl
 keeps-none q t (e ∷ h) = go (q e) (keeps-none q t h)
   where
-    go : (b : Bool) → keeps (λ e. only (q e) none) t h ≡ true → spaced (only b none) e.at t && keeps (λ e. only (q e) none) t h ≡ true
+    go : (b : Bool) → keeps (λ e. only (q e) None) t h ≡ true → spaced (only b None) e.at t && keeps (λ e. only (q e) None) t h ≡ true
     go true ih = ih
     go false ih = ih
 
 -- the same where there may be no distance
 pub last-asks : (q : Event → Bool) (o : Option ℕ) (t : ℕ) (h : List Event) → Sorted h
     → keeps (λ e. only (q e) o) t h ≡ leb (asks o (last_of q h)) t
-last-asks q none t h s = keeps-none q t h ∙ sym (leb-zero t)
-last-asks q (some gap) t h s = last-suffices q gap t h s
+last-asks q None t h s = keeps-none q t h ∙ sym (leb-zero t)
+last-asks q (Some gap) t h s = last-suffices q gap t h s
 
 -- ---- by no bank
 
@@ -130,13 +130,13 @@ last-ext p q (e ∷ h) same = rw (same e, last-ext p q h same)
 
 -- a rule that goes by what the packet and the event are alone
 pub any-law : (o : Option ℕ) (f : Event → Option ℕ) (gap l t : ℕ) (h : List Event) → Sorted h → l ≡ last_of (λ e. has (f e)) h
-    → keeps (λ e. over o (λ b. over (f e) (λ p. some gap))) t h ≡ leb (bound_of o (λ b. since l gap)) t
-any-law none f gap l t h s k = keeps-none (λ e. true) t h ∙ sym (leb-zero t)
-any-law (some b) f gap l t h s k = rw k (keeps-ext _ _ t h (λ e. either (f e)) ∙ last-suffices (λ e. has (f e)) gap t h s)
+    → keeps (λ e. over o (λ b. over (f e) (λ p. Some gap))) t h ≡ leb (bound_of o (λ b. since l gap)) t
+any-law None f gap l t h s k = keeps-none (λ e. true) t h ∙ sym (leb-zero t)
+any-law (Some b) f gap l t h s k = rw k (keeps-ext _ _ t h (λ e. either (f e)) ∙ last-suffices (λ e. has (f e)) gap t h s)
   where
-    either : (q : Option ℕ) → over q (λ p. some gap) ≡ only (has q) (some gap)
-    either none = refl
-    either (some p) = refl
+    either : (q : Option ℕ) → over q (λ p. Some gap) ≡ only (has q) (Some gap)
+    either None = refl
+    either (Some p) = refl
 
 -- ---- by the banks
 
@@ -160,8 +160,8 @@ swap-law n gap q d t P (e ∷ h) a f =
 
 one-bank : (n : ℕ) (o : Option ℕ) (d : ℕ → Option ℕ) (a t : ℕ) → Within n o
     → spaced (over o d) a t ≡ all_up_to (λ x. spaced (only (in_bank o x) (d x)) a t) n
-one-bank n none d a t w = sym (all_true n)
-one-bank n (some b) d a t w =
+one-bank n None d a t w = sym (all_true n)
+one-bank n (Some b) d a t w =
     ap (λ (c : Bool). spaced (only c (d b)) a t) (sym (eq-eqb b b refl))
     ∙ sym (all-point (λ x. spaced (only (eqb x b) (d x)) a t) n b w (λ x m. rw (ne_eqb x b m)))
 
@@ -169,7 +169,7 @@ one-bank n (some b) d a t w =
 pub bank-law : (n : ℕ) (o : Option ℕ) (f : Event → Option ℕ) (d : ℕ → ℕ → Option ℕ) (l : ℕ → ℕ) (t : ℕ) (h : List Event) → Sorted h
     → All (λ e. Within n (f e)) h → ((x : ℕ) → x < n → l x ≡ last_of (λ e. in_bank (f e) x) h)
     → keeps (λ e. over o (λ b. over (f e) (d b))) t h ≡ leb (bound_of o (λ b. max_up_to (λ x. asks (d b x) (l x)) n)) t
-bank-law n none f d l t h s w k = keeps-none (λ e. true) t h ∙ sym (leb-zero t)
-bank-law n (some b) f d l t h s w k =
+bank-law n None f d l t h s w k = keeps-none (λ e. true) t h ∙ sym (leb-zero t)
+bank-law n (Some b) f d l t h s w k =
     swap-law n (λ e. over (f e) (d b)) (λ x e. in_bank (f e) x) (d b) t _ h w (λ e m. one-bank n (f e) (d b) e.at t m)
     ∙ lasts-law n (λ x e. in_bank (f e) x) (d b) l t h s k

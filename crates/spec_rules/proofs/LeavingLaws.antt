@@ -1,10 +1,10 @@
 -- What leaves, and the least instant by the number of waiting writes, written out for each command: the forms that code computes.
 -- Assumes nothing.
+use Rattle.std.specs.Prelude.{None, Some}
 use Prim.Native.Nat.{ℕ, ◌+◌, max}
 use mathlib.Core.Path.{◌≡◌, refl}
 use mathlib.Core.Bool.{Bool, true, false, cond, not, ◌&&◌, ◌||◌}
 use mathlib.Core.List.{List, [], ◌∷◌}
-use mathlib.Core.Option.{none, some}
 use lib.Dec.{leb}
 use Rattle.packet.specs.declared.RowPacket.{RowPacket}
 use Rattle.packet.specs.declared.ColPacket.TheVariants.{Nocop, Wr, Rd}
@@ -24,15 +24,15 @@ use Rattle.spec_rules.proofs.TrackLaws.{row_keeps}
 -- ---- what leaves
 
 pub leaving-first : (cx : Context) (ch : Channel) (r : Record) (w : Write) (ws : List Write) → waiting_of ch.buffer ≡ w ∷ ws → (traits r).not_read ≡ true
-    → leaving_of cx ch r ≡ only_write (leb (w.at.0 + cx.settings.rtr) (instant r)) (some w)
+    → leaving_of cx ch r ≡ only_write (leb (w.at.0 + cx.settings.rtr) (instant r)) (Some w)
 unfolding leaving
 leaving-first cx ch r w ws z n = rw (z, n)
 
-pub leaving-none : (cx : Context) (ch : Channel) (r : Record) → ch.buffer ≡ Empty → leaving_of cx ch r ≡ none
+pub leaving-none : (cx : Context) (ch : Channel) (r : Record) → ch.buffer ≡ Empty → leaving_of cx ch r ≡ None
 unfolding leaving waiting_of
 leaving-none cx ch r z = rw z (go ((traits r).not_read && false))
   where
-    go : (b : Bool) → only_write b none ≡ none
+    go : (b : Bool) → only_write b None ≡ None
     go true = refl
     go false = refl
 

@@ -1,10 +1,10 @@
 -- Rule 7 by the banks: a PRER counts at the bank that it names and at every bank that it closed.
 -- Assumes nothing.
+use Rattle.std.specs.Prelude.{Option, None, Some}
 use Prim.Native.Nat.{ℕ, ◌+◌, ◌<◌}
 use mathlib.Core.Path.{◌≡◌, refl, sym, ◌∙◌}
 use mathlib.Core.Bool.{Bool, true, false, not, ◌&&◌, ◌||◌}
 use mathlib.Core.List.{List}
-use mathlib.Core.Option.{Option, none, some}
 use lib.Dec.{leb, eqb, leb-zero}
 use borrow.Author.Tests.{eqb-true, eq-eqb, not-true, not-false}
 use Rattle.num.specs.Search.{all_up_to}
@@ -29,7 +29,7 @@ pub record Reaching (cx : Context) (e : Event) : Type 0 where
 
 -- a distance for same or neighbour
 abbrev pub gap_near : Context → ℕ → ℕ → ℕ → Option ℕ
-gap_near cx gap b x = only (near cx b x) (some gap)
+gap_near cx gap b x = only (near cx b x) (Some gap)
 
 -- ---- of one event and bank: to = the PRER is to x, closed = it closed x, same = x is the bank to open, beside = its neighbour
 
@@ -49,12 +49,12 @@ apart_in false true same true f g h = rw (g refl) h
 apart_in false true same false f g h = rw (g refl)
 
 -- a distance that is spaced at all, and one that is not
-kept-late : (q r : Bool) (gap a t : ℕ) → leb (a + gap) t ≡ true → spaced (only q (only r (some gap))) a t ≡ true
+kept-late : (q r : Bool) (gap a t : ℕ) → leb (a + gap) t ≡ true → spaced (only q (only r (Some gap))) a t ≡ true
 kept-late true true gap a t e = e
 kept-late true false gap a t e = refl
 kept-late false r gap a t e = refl
 
-kept-early : (q r : Bool) (gap a t : ℕ) → leb (a + gap) t ≡ false → spaced (only q (only r (some gap))) a t ≡ not (q && r)
+kept-early : (q r : Bool) (gap a t : ℕ) → leb (a + gap) t ≡ false → spaced (only q (only r (Some gap))) a t ≡ not (q && r)
 kept-early true true gap a t e = e
 kept-early true false gap a t e = refl
 kept-early false r gap a t e = refl
@@ -89,19 +89,19 @@ module _ (cx : Context) (ns : Neighbours cx) where
           )
 
   one-precharge : (b gap a t : ℕ) (o : Option ℕ) (cl : ℕ → Bool) → Within bank_count o → ((x : ℕ) → cl x ≡ true → reaches cx o x ≡ true)
-      → spaced (over o (λ p. only (near cx b p || some_bank (λ x. cx.nbr b x && cl x)) (some gap))) a t
+      → spaced (over o (λ p. only (near cx b p || some_bank (λ x. cx.nbr b x && cl x)) (Some gap))) a t
       ≡ all_up_to (λ x. spaced (only (in_bank o x || cl x) (gap_near cx gap b x)) a t) bank_count
-  one-precharge b gap a t none cl w h = sym (all-intro _ bank_count (λ x m. go x (cl x) refl))
+  one-precharge b gap a t None cl w h = sym (all-intro _ bank_count (λ x m. go x (cl x) refl))
     where
       go : (x : ℕ) (q : Bool) → cl x ≡ q → spaced (only q (gap_near cx gap b x)) a t ≡ true
       go x true e = not-both false (h x e) refl
       go x false e = refl
-  one-precharge b gap a t (some p) cl w h = go (leb (a + gap) t) refl
+  one-precharge b gap a t (Some p) cl w h = go (leb (a + gap) t) refl
     where
       found : Bool
       found = near cx b p || some_bank (λ x. cx.nbr b x && cl x)
 
-      go : (l : Bool) → leb (a + gap) t ≡ l → spaced (only found (some gap)) a t ≡ all_up_to (λ x. spaced (only (eqb x p || cl x) (gap_near cx gap b x)) a t) bank_count
+      go : (l : Bool) → leb (a + gap) t ≡ l → spaced (only found (Some gap)) a t ≡ all_up_to (λ x. spaced (only (eqb x p || cl x) (gap_near cx gap b x)) a t) bank_count
       go true e = kept-late true found gap a t e ∙ sym (all-intro _ bank_count (λ x m. kept-late (eqb x p || cl x) (near cx b x) gap a t e))
       go false e =
           kept-early true found gap a t e ∙ apart b p cl w h
@@ -109,10 +109,10 @@ module _ (cx : Context) (ns : Neighbours cx) where
 
   pub seven-law : (o : Option ℕ) (gap : ℕ) (l : ℕ → ℕ) (t : ℕ) (h : List Event) → Sorted h → All (Reaching cx) h
       → ((x : ℕ) → x < bank_count → l x ≡ last_of (touches x) h)
-      → keeps (λ e. over o (λ b. over e.traits.precharges (λ p. only (near cx b p || some_bank (λ x. cx.nbr b x && e.closed x)) (some gap)))) t h
+      → keeps (λ e. over o (λ b. over e.traits.precharges (λ p. only (near cx b p || some_bank (λ x. cx.nbr b x && e.closed x)) (Some gap)))) t h
       ≡ leb (bound_of o (λ b. max_up_to (λ x. asks (gap_near cx gap b x) (l x)) bank_count)) t
-  seven-law none gap l t h s f k = keeps-none (λ e. true) t h ∙ sym (leb-zero t)
-  seven-law (some b) gap l t h s f k =
+  seven-law None gap l t h s f k = keeps-none (λ e. true) t h ∙ sym (leb-zero t)
+  seven-law (Some b) gap l t h s f k =
       swap-law bank_count _ touches (gap_near cx gap b) t (Reaching cx) h f
       (λ e q. one-precharge b gap e.at t e.traits.precharges e.closed q.precharges-in q.closed-reached)
       ∙ lasts-law bank_count touches (gap_near cx gap b) l t h s k

@@ -1,10 +1,10 @@
 -- Rule by rule, the tests on the tracked state are the rules over every earlier record.
 -- Assumes nothing.
+use Rattle.std.specs.Prelude.{Option, None, Some}
 use Prim.Native.Nat.{ℕ, ◌+◌, ◌<◌}
 use mathlib.Core.Path.{◌≡◌, refl, sym, ap, ap₂, ◌∙◌}
 use mathlib.Core.Bool.{Bool, true, false, not, ◌&&◌, ◌||◌}
 use mathlib.Core.List.{List, [], ◌∷◌}
-use mathlib.Core.Option.{Option, none, some}
 use lib.Dec.{eqb, leb}
 use Rattle.settings.specs.Instants.{horizon, is_instant}
 use Rattle.record.specs.declared.Record.{Record}
@@ -31,12 +31,12 @@ a ▸ b = (a, b)
 
 module _ (f g : ℕ → Bank) (same : (x : ℕ) → f x ≡ g x) where
   free-same : (cx : Context) (o : Option ℕ) → free_for cx f o ≡ free_for cx g o
-  free-same cx none = refl
-  free-same cx (some b) = all-ext _ _ bank_count (λ x m. ap (λ (y : Bank). not (near cx b x) || is_closed y) (same x))
+  free-same cx None = refl
+  free-same cx (Some b) = all-ext _ _ bank_count (λ x m. ap (λ (y : Bank). not (near cx b x) || is_closed y) (same x))
 
   open-same : (o : Option ℕ) → open_for f o ≡ open_for g o
-  open-same none = refl
-  open-same (some b) = ap is_open (same b)
+  open-same None = refl
+  open-same (Some b) = ap is_open (same b)
 
   loses-same : (cx : Context) (ws : List Write) (o : Option ℕ) → any_write (λ w. closes_bank cx f o w.bank) ws ≡ any_write (λ w. closes_bank cx g o w.bank) ws
   loses-same cx [] o = refl
@@ -66,10 +66,10 @@ module _ (cx : Context) (ns : Neighbours cx) (ch : Channel) (es : List Record) (
   AllTracked [] = Unit {0}
   AllTracked (d ∷ l) = Tracked d.banks d.earlier × AllTracked l
 
-  on-pins : (q : Event → Bool) (l : ℕ) → l ≡ last_of q h → l ≡ last_of (λ e. has (only (q e) (some 0))) h
+  on-pins : (q : Event → Bool) (l : ℕ) → l ≡ last_of q h → l ≡ last_of (λ e. has (only (q e) (Some 0))) h
   on-pins q l e = e ∙ last-ext _ _ h (λ e. only-some (q e))
     where
-      only-some : (b : Bool) → b ≡ has (only b (some 0))
+      only-some : (b : Bool) → b ≡ has (only b (Some 0))
       only-some true = refl
       only-some false = refl
 
@@ -105,14 +105,14 @@ module _ (cx : Context) (ns : Neighbours cx) (ch : Channel) (es : List Record) (
   -- ---- a line of the table, by its banks
 
   by-banks : (counts : ℕ → ℕ → Bool) (a : Kind) → AtBank a → (o : Option ℕ) (gap t : ℕ)
-      → keeps (λ e. over o (λ b. over (bank_as a e.traits) (λ p. only (counts b p) (some gap)))) t h
+      → keeps (λ e. over o (λ b. over (bank_as a e.traits) (λ p. only (counts b p) (Some gap)))) t h
       ≡ leb (bound_of o (bound_banks cx ch counts a gap)) t
   by-banks counts a u o gap t =
-      bank-law bank_count o (λ e. bank_as a e.traits) (λ b x. only (counts b x) (some gap)) (λ x. last_at (track_of ch x) a) t h k.lasts.sorted
+      bank-law bank_count o (λ e. bank_as a e.traits) (λ b x. only (counts b x) (Some gap)) (λ x. last_at (track_of ch x) a) t h k.lasts.sorted
       (all_map (Fine cx) _ u.1 h k.lasts.fine) u.0
 
   by-line : (c : Banks) (a : Kind) → Tracked c a → (o : Option ℕ) (gap t : ℕ)
-      → keeps (λ e. over o (λ b. over (bank_as a e.traits) (λ p. only (within cx c e b p) (some gap)))) t h
+      → keeps (λ e. over o (λ b. over (bank_as a e.traits) (λ p. only (within cx c e b p) (Some gap)))) t h
       ≡ leb (bound_of o (bound_by cx ch c a gap)) t
   by-line any a u o gap t = any-law o (λ e. bank_as a e.traits) gap (last_on ch a) t h k.lasts.sorted u
   by-line same a u o gap t = by-banks (λ b x. eqb x b) a u o gap t

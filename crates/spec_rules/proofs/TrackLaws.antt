@@ -1,11 +1,11 @@
 -- The tracked state is the summary of the earlier records: of a fresh channel and no records, and after each record that
 -- breaks no rule.
 -- Assumes nothing.
+use Rattle.std.specs.Prelude.{Option, None, Some}
 use Prim.Native.Nat.{ℕ, ◌+◌, ◌≤◌, ◌<◌, max}
 use mathlib.Core.Path.{◌≡◌, refl, sym, ap, ◌∙◌}
 use mathlib.Core.Bool.{Bool, true, false, not, ◌&&◌, ◌||◌, cond}
 use mathlib.Core.List.{List, [], ◌∷◌}
-use mathlib.Core.Option.{Option, none, some}
 use lib.Dec.{eqb, ltb}
 use lib.ListN.{length, get_or, replicate, length-replicate, get_or-replicate, get_or-eq_default}
 use borrow.Author.Tests.{ltb-true, ltb-false, ne_eqb}
@@ -49,33 +49,33 @@ abbrev pub retire_event : ℕ → Write → Event
 retire_event t w = record { at = t; traits = retire_traits w.bank; closed = λ x. false }
 
 abbrev pub with_retire : ℕ → Option Write → List Event → List Event
-with_retire t none h = h
-with_retire t (some w) h = retire_event t w ∷ h
+with_retire t None h = h
+with_retire t (Some w) h = retire_event t w ∷ h
 
 abbrev pub implied_event : Context → (ℕ → Bank) → ℕ → ℕ → Event
-implied_event cx before t b = record { at = t; traits = implied_traits b; closed = closes_bank cx before (some b) }
+implied_event cx before t b = record { at = t; traits = implied_traits b; closed = closes_bank cx before (Some b) }
 
 abbrev pub with_implied : Context → (ℕ → Bank) → ℕ → Option ℕ → List Event → List Event
-with_implied cx before t none h = h
-with_implied cx before t (some b) h = implied_event cx before t b ∷ h
+with_implied cx before t None h = h
+with_implied cx before t (Some b) h = implied_event cx before t b ∷ h
 
 -- the deeds of a COL packet, which is no PRER itself
-done-col : (cx : Context) (before : ℕ → Bank) (t u : ℕ) (x : Deed) (o : Option Write) (c q : Option ℕ) (h : List Event) → x.traits.precharges ≡ none
+done-col : (cx : Context) (before : ℕ → Bank) (t u : ℕ) (x : Deed) (o : Option Write) (c q : Option ℕ) (h : List Event) → x.traits.precharges ≡ None
     → done cx before (implied_deeds u q (x ∷ implied_deeds u c (retire_deeds t o))) h
     ≡ with_implied cx (λ y. closed_by cx c y (before y)) u q (event_of cx (λ y. closed_by cx c y (before y)) x ∷ with_implied cx before u c (with_retire t o h))
 unfolding retire_traits implied_traits
-done-col cx before t u x none none none h e = refl
-done-col cx before t u x (some w) none none h e = refl
-done-col cx before t u x none (some a) none h e = refl
-done-col cx before t u x (some w) (some a) none h e = refl
-done-col cx before t u x none none (some b) h e =
+done-col cx before t u x None None None h e = refl
+done-col cx before t u x (Some w) None None h e = refl
+done-col cx before t u x None (Some a) None h e = refl
+done-col cx before t u x (Some w) (Some a) None h e = refl
+done-col cx before t u x None None (Some b) h e =
     ap (λ (z : Option ℕ). implied_event cx (λ y. closed_by cx z y (before y)) u b ∷ done cx before (x ∷ []) h) e
-done-col cx before t u x (some w) none (some b) h e =
-    ap (λ (z : Option ℕ). implied_event cx (λ y. closed_by cx z y (before y)) u b ∷ done cx before (x ∷ retire_deeds t (some w)) h) e
-done-col cx before t u x none (some a) (some b) h e =
-    ap (λ (z : Option ℕ). implied_event cx (λ y. closed_by cx z y (closed_by cx (some a) y (before y))) u b ∷ done cx before (x ∷ implied_deeds u (some a) []) h) e
-done-col cx before t u x (some w) (some a) (some b) h e =
-    ap (λ (z : Option ℕ). implied_event cx (λ y. closed_by cx z y (closed_by cx (some a) y (before y))) u b ∷ done cx before (x ∷ implied_deeds u (some a) (retire_deeds t (some w))) h) e
+done-col cx before t u x (Some w) None (Some b) h e =
+    ap (λ (z : Option ℕ). implied_event cx (λ y. closed_by cx z y (before y)) u b ∷ done cx before (x ∷ retire_deeds t (Some w)) h) e
+done-col cx before t u x None (Some a) (Some b) h e =
+    ap (λ (z : Option ℕ). implied_event cx (λ y. closed_by cx z y (closed_by cx (Some a) y (before y))) u b ∷ done cx before (x ∷ implied_deeds u (Some a) []) h) e
+done-col cx before t u x (Some w) (Some a) (Some b) h e =
+    ap (λ (z : Option ℕ). implied_event cx (λ y. closed_by cx z y (closed_by cx (Some a) y (before y))) u b ∷ done cx before (x ∷ implied_deeds u (Some a) (retire_deeds t (Some w))) h) e
 
 -- an implied PRER is nothing else
 pub record Bare (k : Traits) : Type 0 where
@@ -118,8 +118,8 @@ WritesIn [] = Unit {0}
 WritesIn (w ∷ ws) = (w.bank < bank_count) × WritesIn ws
 
 abbrev pub WritesOf : Option Write → Type 0
-WritesOf none = Unit {0}
-WritesOf (some w) = w.bank < bank_count
+WritesOf None = Unit {0}
+WritesOf (Some w) = w.bank < bank_count
 
 -- the whole state is that of the records es, newest first
 pub record Tracks (cx : Context) (ch : Channel) (es : List Record) : Type 0 where
@@ -159,7 +159,7 @@ fits-inside s (ColAt t (Rd b c m false)) e =
 fits-inside s (DataOf t d) e = record { opens_in = tt; acts-in = tt; precharges-in = tt; reads-in = tt; writes-in = tt; implies-in = tt }
 
 -- a packet is on the pins, and neither a retire nor an implied PRER
-pub packet-pins : (r : Record) → is_packet r ≡ true → (on_pins (traits r) ≡ true) × ((traits r).retires ≡ none) × (is_implied (traits r) ≡ false)
+pub packet-pins : (r : Record) → is_packet r ≡ true → (on_pins (traits r) ≡ true) × ((traits r).retires ≡ None) × (is_implied (traits r) ≡ false)
 unfolding traits row_traits col_traits is_packet
 packet-pins (RowAt t (Act b row)) e = (refl, refl, refl)
 packet-pins (RowAt t (Prer b)) e = (refl, refl, refl)
@@ -178,16 +178,16 @@ cond-at true t p l e m = let n : l ≤ t = m refl in omega arith
 cond-at false t p l e m = e
 
 has_in : (o : Option ℕ) (x : ℕ) → in_bank o x ≡ true → has o ≡ true
-has_in none x e = e
-has_in (some b) x e = refl
+has_in None x e = e
+has_in (Some b) x e = refl
 
 has-reached : (cx : Context) (o : Option ℕ) (x : ℕ) → reaches cx o x ≡ true → has o ≡ true
-has-reached cx none x e = e
-has-reached cx (some b) x e = refl
+has-reached cx None x e = e
+has-reached cx (Some b) x e = refl
 
 has-touched : (cx : Context) (o : Option ℕ) (x : ℕ) (c : Bool) → in_bank o x || (reaches cx o x && c) ≡ true → has o ≡ true
-has-touched cx none x c e = e
-has-touched cx (some b) x c e = refl
+has-touched cx None x c e = e
+has-touched cx (Some b) x c e = refl
 
 module _ (cx : Context) (ch : Channel) (h : List Event) (k : Lasts cx ch h) where
   -- what is not said of an implied PRER is said of a timed event
@@ -263,15 +263,15 @@ module _ (cx : Context) (ch : Channel) (h : List Event) (k : Lasts cx ch h) wher
         }
 
   module _ (t : ℕ) (late : last_of timed h ≤ t) (w : Write) where
-    track-left : (x : ℕ) → x < bank_count → track_of (after_retire t (some w) ch) x ≡ track_retired t w x (track_of ch x)
+    track-left : (x : ℕ) → x < bank_count → track_of (after_retire t (Some w) ch) x ≡ track_retired t w x (track_of ch x)
     unfolding after_retire
     track-left x m = get_or-imap (track_retired t w) ch.banks x idle idle (rw k.size m)
 
     kept_at : (f : BankTrack → PacketAt) (x l : ℕ) → x < bank_count → f (track_retired t w x (track_of ch x)) ≡ f (track_of ch x) → (f (track_of ch x)).0 ≡ l
-        → (f (track_of (after_retire t (some w) ch) x)).0 ≡ l
+        → (f (track_of (after_retire t (Some w) ch) x)).0 ≡ l
     kept_at f x l m e g = ap (λ (y : BankTrack). (f y).0) (track-left x m) ∙ ap (λ (p : PacketAt). p.0) e ∙ g
 
-    pub lasts-retire : w.bank < bank_count → 4 ≤ t → Lasts cx (after_retire t (some w) ch) (retire_event t w ∷ h)
+    pub lasts-retire : w.bank < bank_count → 4 ≤ t → Lasts cx (after_retire t (Some w) ch) (retire_event t w ∷ h)
     unfolding after_retire track_retired retire_traits implied_traits
     lasts-retire i low =
         record {
@@ -302,15 +302,15 @@ module _ (cx : Context) (ch : Channel) (h : List Event) (k : Lasts cx ch h) wher
         }
 
   module _ (t b : ℕ) where
-    track-implied : (x : ℕ) → x < bank_count → track_of (after_implied cx t (some b) ch) x ≡ track_implied cx (state_of ch) t b x (track_of ch x)
+    track-implied : (x : ℕ) → x < bank_count → track_of (after_implied cx t (Some b) ch) x ≡ track_implied cx (state_of ch) t b x (track_of ch x)
     unfolding after_implied
     track-implied x m = get_or-imap (track_implied cx (state_of ch) t b) ch.banks x idle idle (rw k.size m)
 
     still-at : (f : BankTrack → PacketAt) (x l : ℕ) → x < bank_count → f (track_implied cx (state_of ch) t b x (track_of ch x)) ≡ f (track_of ch x) → (f (track_of ch x)).0 ≡ l
-        → (f (track_of (after_implied cx t (some b) ch) x)).0 ≡ l
+        → (f (track_of (after_implied cx t (Some b) ch) x)).0 ≡ l
     still-at f x l m e g = ap (λ (y : BankTrack). (f y).0) (track-implied x m) ∙ ap (λ (p : PacketAt). p.0) e ∙ g
 
-    pub lasts-implied : (st : ℕ → Bank) → ((x : ℕ) → state_of ch x ≡ st x) → b < bank_count → 4 ≤ t → ch.lasts.pre.0 ≤ t → Lasts cx (after_implied cx t (some b) ch) (implied_event cx st t b ∷ h)
+    pub lasts-implied : (st : ℕ → Bank) → ((x : ℕ) → state_of ch x ≡ st x) → b < bank_count → 4 ≤ t → ch.lasts.pre.0 ≤ t → Lasts cx (after_implied cx t (Some b) ch) (implied_event cx st t b ∷ h)
     unfolding after_implied track_implied implied_traits
     lasts-implied st same i low pre-late =
         record {
@@ -321,7 +321,7 @@ module _ (cx : Context) (ch : Channel) (h : List Event) (k : Lasts cx ch h) wher
               acts-in = tt;
               reads-in = tt;
               retired-in = tt;
-              reaching = record { precharges-in = i; closed-reached = λ x e. and_left (reaches cx (some b) x) _ e };
+              reaching = record { precharges-in = i; closed-reached = λ x e. and_left (reaches cx (Some b) x) _ e };
               bare = λ e. record { bank = b; is = refl };
             },
             k.fine,
@@ -336,7 +336,7 @@ module _ (cx : Context) (ch : Channel) (h : List Event) (k : Lasts cx ch h) wher
           opened = λ x m. still-at (λ y. y.opened) x _ m refl (k.opened x m);
           acts = λ x m. still-at (λ y. y.act) x _ m refl (k.acts x m);
           pres = λ x m. ap (λ (y : BankTrack). y.pre.0) (track-implied x m)
-              ∙ rw (same x) (cond-at (eqb x b || closes_bank cx st (some b) x) t (track_of ch x).pre (last_of (touches x) h) (k.pres x m) (λ _. omega (arith, touched-le x, pre-late)));
+              ∙ rw (same x) (cond-at (eqb x b || closes_bank cx st (Some b) x) t (track_of ch x).pre (last_of (touches x) h) (k.pres x m) (λ _. omega (arith, touched-le x, pre-late)));
           rds = λ x m. still-at (λ y. y.rd) x _ m refl (k.rds x m);
           retires = λ x m. still-at (λ y. y.retire) x _ m refl (k.retires x m);
         }
@@ -360,10 +360,10 @@ beyond cx (DataOf t d) x e m = refl
 -- a retire leaves the states
 left-state : (cx : Context) (ch : Channel) (h : List Event) → Lasts cx ch h → (t : ℕ) (o : Option Write) (x : ℕ) → state_of (after_retire t o ch) x ≡ state_of ch x
 unfolding after_retire track_retired
-left-state cx ch h k t none x = refl
-left-state cx ch h k t (some w) x = go (ltb x bank_count) refl
+left-state cx ch h k t None x = refl
+left-state cx ch h k t (Some w) x = go (ltb x bank_count) refl
   where
-    go : (b : Bool) → ltb x bank_count ≡ b → state_of (after_retire t (some w) ch) x ≡ state_of ch x
+    go : (b : Bool) → ltb x bank_count ≡ b → state_of (after_retire t (Some w) ch) x ≡ state_of ch x
     go true e = ap (λ (y : BankTrack). y.bank) (get_or-imap (track_retired t w) ch.banks x idle idle (rw k.size (ltb-true x bank_count e)))
     go false e =
         let m : bank_count ≤ x = ltb-false x bank_count e in
@@ -386,10 +386,10 @@ state-packet cx ch n r f x = go (ltb x bank_count) refl
 
 pub state-implied : (cx : Context) (ch : Channel) → length ch.banks ≡ bank_count → (t : ℕ) (o : Option ℕ) (x : ℕ) → state_of (after_implied cx t o ch) x ≡ closed_by cx o x (state_of ch x)
 unfolding after_implied track_implied
-state-implied cx ch n t none x = refl
-state-implied cx ch n t (some b) x = go (ltb x bank_count) refl
+state-implied cx ch n t None x = refl
+state-implied cx ch n t (Some b) x = go (ltb x bank_count) refl
   where
-    go : (q : Bool) → ltb x bank_count ≡ q → state_of (after_implied cx t (some b) ch) x ≡ closed_by cx (some b) x (state_of ch x)
+    go : (q : Bool) → ltb x bank_count ≡ q → state_of (after_implied cx t (Some b) ch) x ≡ closed_by cx (Some b) x (state_of ch x)
     go true e = ap (λ (y : BankTrack). y.bank) (get_or-imap (track_implied cx (state_of ch) t b) ch.banks x idle idle (rw n (ltb-true x bank_count e)))
     go false e =
         let m : bank_count ≤ x = ltb-false x bank_count e in
@@ -407,10 +407,10 @@ buffer-waiting (Two x y) = refl
 
 pub waiting-joined : (o : Option Write) (b : Buffer) → waiting_of (buffer_of (joined o (waiting_of b))) ≡ joined o (waiting_of b)
 unfolding waiting_of buffer_of
-waiting-joined none b = ap waiting_of (buffer-waiting b)
-waiting-joined (some w) Empty = refl
-waiting-joined (some w) (One x) = refl
-waiting-joined (some w) (Two x y) = refl
+waiting-joined None b = ap waiting_of (buffer-waiting b)
+waiting-joined (Some w) Empty = refl
+waiting-joined (Some w) (One x) = refl
+waiting-joined (Some w) (Two x y) = refl
 
 waiting-rest : (b : Buffer) → waiting_of (buffer_of (rest (waiting_of b))) ≡ rest (waiting_of b)
 unfolding waiting_of buffer_of
@@ -420,8 +420,8 @@ waiting-rest (Two x y) = refl
 
 pub waiting-left : (t : ℕ) (o : Option Write) (ch : Channel) → waiting_of (after_retire t o ch).buffer ≡ left o (waiting_of ch.buffer)
 unfolding after_retire
-waiting-left t none ch = refl
-waiting-left t (some w) ch = waiting-rest ch.buffer
+waiting-left t None ch = refl
+waiting-left t (Some w) ch = waiting-rest ch.buffer
 
 pub row_keeps : (t : PacketAt) (p : RowPacket) → (traits (RowAt t p)).not_read ≡ false
 unfolding traits row_traits
@@ -431,33 +431,33 @@ row_keeps t (Refa b) = refl
 row_keeps t (Refp b) = refl
 
 -- what does not take the COL pins, and RD, retires nothing
-pub keeps-all : (cx : Context) (r : Record) (ws : List Write) → (traits r).not_read ≡ false → leaving cx ws r ≡ none
+pub keeps-all : (cx : Context) (r : Record) (ws : List Write) → (traits r).not_read ≡ false → leaving cx ws r ≡ None
 unfolding leaving
 keeps-all cx r ws e = rw e
 
 pub waiting-implied : (cx : Context) (t : ℕ) (o : Option ℕ) (ch : Channel) → (after_implied cx t o ch).buffer ≡ ch.buffer
 unfolding after_implied
-waiting-implied cx t none ch = refl
-waiting-implied cx t (some b) ch = refl
+waiting-implied cx t None ch = refl
+waiting-implied cx t (Some b) ch = refl
 
 due-implied : (cx : Context) (t : ℕ) (o : Option ℕ) (ch : Channel) → (after_implied cx t o ch).due ≡ ch.due
 unfolding after_implied
-due-implied cx t none ch = refl
-due-implied cx t (some b) ch = refl
+due-implied cx t None ch = refl
+due-implied cx t (Some b) ch = refl
 
 last-implied : (cx : Context) (t : ℕ) (o : Option ℕ) (ch : Channel) → (after_implied cx t o ch).lasts.packet ≡ ch.lasts.packet
 unfolding after_implied
-last-implied cx t none ch = refl
-last-implied cx t (some b) ch = refl
+last-implied cx t None ch = refl
+last-implied cx t (Some b) ch = refl
 
 due-after : (cx : Context) (t : ℕ) (o : Option ℕ) (ch : Channel) → due_of cx (after_implied cx t o ch) ≡ due_of cx ch
 unfolding due_of after_implied
-due-after cx t none ch = refl
-due-after cx t (some b) ch = refl
+due-after cx t None ch = refl
+due-after cx t (Some b) ch = refl
 
 pub after-waits : (cx : Context) (ch : Channel) (r : Record) → waiting_of (after cx ch r).buffer ≡ waiting_next cx r (waiting_of ch.buffer)
 unfolding after after_packet after_data waiting_next loads traits
-after-waits cx ch (RowAt t p) = waiting-joined none ch.buffer ∙ rw (keeps-all cx (RowAt t p) (waiting_of ch.buffer) (row_keeps t p))
+after-waits cx ch (RowAt t p) = waiting-joined None ch.buffer ∙ rw (keeps-all cx (RowAt t p) (waiting_of ch.buffer) (row_keeps t p))
 after-waits cx ch (ColAt t p) =
     let o : Option Write = leaving_of cx ch (ColAt t p) in
     let c : Channel = after_retire t.0 o ch in
@@ -470,14 +470,14 @@ after-waits cx ch (DataOf t d) = rw (keeps-all cx (DataOf t d) (waiting_of ch.bu
     data-keeps t d = refl
 
 writes-joined : (o : Option Write) (ws : List Write) → WritesOf o → WritesIn ws → WritesIn (joined o ws)
-writes-joined none ws i k = k
-writes-joined (some w) [] i k = (i, tt)
-writes-joined (some w) (x ∷ ws) i k = (k.0, (i, tt))
+writes-joined None ws i k = k
+writes-joined (Some w) [] i k = (i, tt)
+writes-joined (Some w) (x ∷ ws) i k = (k.0, (i, tt))
 
 writes-left : (o : Option Write) (ws : List Write) → WritesIn ws → WritesIn (left o ws)
-writes-left none ws k = k
-writes-left (some w) [] k = tt
-writes-left (some w) (x ∷ ws) k = k.1
+writes-left None ws k = k
+writes-left (Some w) [] k = tt
+writes-left (Some w) (x ∷ ws) k = k.1
 
 loads-in : (r : Record) → Inside r → WritesOf (loads r)
 unfolding loads traits col_traits
@@ -494,9 +494,9 @@ due-packet cx ch es (RowAt t (Prer b)) e = refl
 due-packet cx ch es (RowAt t (Refa b)) e = refl
 due-packet cx ch es (RowAt t (Refp b)) e = refl
 due-packet cx ch es (ColAt t (Nocop m)) e = refl
-due-packet cx ch es (ColAt t (Wr b c m x)) e = rw (waiting-joined (some (record { bank = b; column = c; at = record { 0 = t.0 }; close = x })) ch.buffer) (go (waiting_of ch.buffer))
+due-packet cx ch es (ColAt t (Wr b c m x)) e = rw (waiting-joined (Some (record { bank = b; column = c; at = record { 0 = t.0 }; close = x })) ch.buffer) (go (waiting_of ch.buffer))
   where
-    go : (ws : List Write) → newest_due cx (queued ws (record { bank = b; column = c; at = record { 0 = t.0 }; close = x })) ≡ some (t.0 + cx.settings.cwd)
+    go : (ws : List Write) → newest_due cx (queued ws (record { bank = b; column = c; at = record { 0 = t.0 }; close = x })) ≡ Some (t.0 + cx.settings.cwd)
     go [] = refl
     go (y ∷ ws) = refl
 due-packet cx ch es (ColAt t (Rd b c m x)) e = refl
@@ -563,42 +563,42 @@ lasts-data cx ch h q =
 module _ (cx : Context) (ch : Channel) (h : List Event) (k : Lasts cx ch h) (t : ℕ) (low : 4 ≤ t) where
   lasts-left : last_of timed h ≤ t → (o : Option Write) → WritesOf o → Lasts cx (after_retire t o ch) (with_retire t o h)
   unfolding after_retire
-  lasts-left late none i = k
-  lasts-left late (some w) i = lasts-retire cx ch h k t late w i low
+  lasts-left late None i = k
+  lasts-left late (Some w) i = lasts-retire cx ch h k t late w i low
 
   lasts-closed : (st : ℕ → Bank) → ((x : ℕ) → state_of ch x ≡ st x) → (o : Option ℕ) → Within bank_count o → (has o ≡ true → ch.lasts.pre.0 ≤ t)
       → Lasts cx (after_implied cx t o ch) (with_implied cx st t o h)
   unfolding after_implied
-  lasts-closed st same none i late = k
-  lasts-closed st same (some b) i late = lasts-implied cx ch h k t b st same i low (late refl)
+  lasts-closed st same None i late = k
+  lasts-closed st same (Some b) i late = lasts-implied cx ch h k t b st same i low (late refl)
 
 -- the latest timed event, where a retire or an implied PRER is added
 timed-left : (t : ℕ) (o : Option Write) (h : List Event) → last_of timed h ≤ t → last_of timed (with_retire t o h) ≤ t
 unfolding retire_traits
-timed-left t none h late = late
-timed-left t (some w) h late = omega (arith, late)
+timed-left t None h late = late
+timed-left t (Some w) h late = omega (arith, late)
 
 timed-implied : (cx : Context) (st : ℕ → Bank) (u : ℕ) (o : Option ℕ) (h : List Event) → last_of timed (with_implied cx st u o h) ≡ last_of timed h
 unfolding implied_traits
-timed-implied cx st u none h = refl
-timed-implied cx st u (some b) h = refl
+timed-implied cx st u None h = refl
+timed-implied cx st u (Some b) h = refl
 
 -- the last PRER after a retire, and after an implied PRER
 pre-left : (t : ℕ) (o : Option Write) (ch : Channel) → (after_retire t o ch).lasts.pre ≡ ch.lasts.pre
 unfolding after_retire
-pre-left t none ch = refl
-pre-left t (some w) ch = refl
+pre-left t None ch = refl
+pre-left t (Some w) ch = refl
 
 pre-closed : (cx : Context) (u : ℕ) (o : Option ℕ) (ch : Channel) → ch.lasts.pre.0 ≤ u → (after_implied cx u o ch).lasts.pre.0 ≤ u
 unfolding after_implied
-pre-closed cx u none ch l = l
-pre-closed cx u (some b) ch l = omega arith
+pre-closed cx u None ch l = l
+pre-closed cx u (Some b) ch l = omega arith
 
 within-closing : (o : Option Write) → WritesOf o → Within bank_count (retire_implies o)
-within-closing none i = tt
-within-closing (some w) i = go w.close
+within-closing None i = tt
+within-closing (Some w) i = go w.close
   where
-    go : (b : Bool) → Within bank_count (only b (some w.bank))
+    go : (b : Bool) → Within bank_count (only b (Some w.bank))
     go true = i
     go false = tt
 
@@ -606,12 +606,12 @@ leaving-in : (cx : Context) (ws : List Write) (r : Record) → WritesIn ws → W
 unfolding leaving
 leaving-in cx [] r k = go ((traits r).not_read && false)
   where
-    go : (b : Bool) → WritesOf (only_write b none)
+    go : (b : Bool) → WritesOf (only_write b None)
     go true = tt
     go false = tt
-leaving-in cx (w ∷ ws) r k = go ((traits r).not_read && passed cx (some w) (instant r))
+leaving-in cx (w ∷ ws) r k = go ((traits r).not_read && passed cx (Some w) (instant r))
   where
-    go : (b : Bool) → WritesOf (only_write b (some w))
+    go : (b : Bool) → WritesOf (only_write b (Some w))
     go true = k.0
     go false = tt
 
@@ -633,7 +633,7 @@ module _ (cx : Context) (ch : Channel) (es : List Record) (k : Tracks cx ch es) 
     pub left-implied : has (retire_implies (leaving_of cx ch r)) ≡ true → ch.lasts.pre.0 ≤ instant r + cx.settings.offp
     pub own-implied : has (traits r).implies ≡ true → ch.lasts.pre.0 ≤ instant r + cx.settings.offp
 
-  col-precharges : (t : PacketAt) (p : ColPacket) → (traits (ColAt t p)).precharges ≡ none
+  col-precharges : (t : PacketAt) (p : ColPacket) → (traits (ColAt t p)).precharges ≡ None
   unfolding traits col_traits
   col-precharges t (Nocop m) = refl
   col-precharges t (Wr b c m x) = refl

@@ -1,7 +1,6 @@
 -- The tracked state of the channel: what it is after each record. An instant of 0 stands for none.
 -- Assumes nothing.
-use Rattle.std.specs.Prelude.{ℕ, suc, ◌+◌, Bool, false, ◌||◌, cond, List, [], ◌∷◌, eqb, get_or, replicate}
-use Rattle.std.proofs.Math.Option.{Option, none, some}
+use Rattle.std.specs.Prelude.{ℕ, suc, ◌+◌, Bool, false, ◌||◌, cond, List, [], ◌∷◌, eqb, get_or, replicate, Option, None, Some}
 use Rattle.settings.specs.declared.PacketAt.{PacketAt}
 use Rattle.record.specs.declared.Record.{Record}
 use Rattle.record.specs.declared.Record.TheVariants.{RowAt, ColAt, DataOf}
@@ -53,9 +52,9 @@ buffer_of (x ∷ y ∷ ws) = Two x y
 
 -- the instant at which the newest write's data are due
 abbrev pub newest_due : Context → List Write → Option ℕ
-newest_due cx [] = none
-newest_due cx (x ∷ []) = some (x.at.0 + cx.settings.cwd)
-newest_due cx (x ∷ y ∷ ws) = some (y.at.0 + cx.settings.cwd)
+newest_due cx [] = None
+newest_due cx (x ∷ []) = Some (x.at.0 + cx.settings.cwd)
+newest_due cx (x ∷ y ∷ ws) = Some (y.at.0 + cx.settings.cwd)
 
 unfoldable pub due_of : Context → Channel → Option ℕ
 due_of cx ch = only ch.due (newest_due cx (waiting_of ch.buffer))
@@ -64,8 +63,8 @@ due_of cx ch = only ch.due (newest_due cx (waiting_of ch.buffer))
 
 -- whether a bank is x, where there is one
 abbrev pub in_bank : Option ℕ → ℕ → Bool
-in_bank none x = false
-in_bank (some b) x = eqb x b
+in_bank None x = false
+in_bank (Some b) x = eqb x b
 
 module _ {A B : Type 0} where
   -- a function of the index and the element, over a list
@@ -123,8 +122,8 @@ track_retired t w x k =
 
 -- a retire at t, of the older write
 unfoldable pub after_retire : ℕ → Option Write → Channel → Channel
-after_retire t none ch = ch
-after_retire t (some w) ch =
+after_retire t None ch = ch
+after_retire t (Some w) ch =
     record {
       banks = imap (track_retired t w) 0 ch.banks;
       lasts = ch.lasts;
@@ -136,18 +135,18 @@ after_retire t (some w) ch =
 unfoldable pub track_implied : Context → (ℕ → Bank) → ℕ → ℕ → ℕ → BankTrack → BankTrack
 track_implied cx state t b x k =
     record {
-      bank = closed_by cx (some b) x k.bank;
+      bank = closed_by cx (Some b) x k.bank;
       opened = k.opened;
       act = k.act;
-      pre = cond (eqb x b || closes_bank cx state (some b) x) (record { 0 = t }) k.pre;
+      pre = cond (eqb x b || closes_bank cx state (Some b) x) (record { 0 = t }) k.pre;
       rd = k.rd;
       retire = k.retire;
     }
 
 -- an implied PRER at t
 unfoldable pub after_implied : Context → ℕ → Option ℕ → Channel → Channel
-after_implied cx t none ch = ch
-after_implied cx t (some b) ch =
+after_implied cx t None ch = ch
+after_implied cx t (Some b) ch =
     record {
       banks = imap (track_implied cx (state_of ch) t b) 0 ch.banks;
       lasts = record {

@@ -1,7 +1,6 @@
 -- The rules as tests on the tracked state: each distance is asked of the last instants alone.
 -- Assumes nothing.
-use Rattle.std.specs.Prelude.{ℕ, zero, suc, ◌+◌, max, Bool, not, ◌&&◌, ◌||◌, cond, List, [], ◌∷◌, eqb, leb, length}
-use Rattle.std.proofs.Math.Option.{Option, none, some}
+use Rattle.std.specs.Prelude.{ℕ, zero, suc, ◌+◌, max, Bool, not, ◌&&◌, ◌||◌, cond, List, [], ◌∷◌, eqb, leb, length, Option, None, Some}
 use Rattle.num.specs.Search.{first_false}
 use Rattle.settings.specs.Instants.{horizon, is_instant}
 use Rattle.record.specs.declared.Record.{Record}
@@ -21,8 +20,8 @@ abbrev pub since : ℕ → ℕ → ℕ
 since last gap = cond (eqb last 0) 0 (last + gap)
 
 abbrev pub asks : Option ℕ → ℕ → ℕ
-asks none last = 0
-asks (some gap) last = since last gap
+asks None last = 0
+asks (Some gap) last = since last gap
 
 -- the largest of f x over x < n
 unfoldable pub max_up_to : (ℕ → ℕ) → ℕ → ℕ
@@ -31,8 +30,8 @@ max_up_to f (suc n) = max (max_up_to f n) (f n)
 
 -- a bound where there is a bank
 abbrev pub bound_of : Option ℕ → (ℕ → ℕ) → ℕ
-bound_of none f = 0
-bound_of (some b) f = f b
+bound_of None f = 0
+bound_of (Some b) f = f b
 
 -- the largest of f d over the lines of a table
 abbrev pub max_line : (Distance → ℕ) → List Distance → ℕ
@@ -70,7 +69,7 @@ last_at k implied = 0
 module _ (cx : Context) (ch : Channel) where
   -- what the banks ask of a deed at bank b, by those that it counts
   abbrev pub bound_banks : (ℕ → ℕ → Bool) → Kind → ℕ → ℕ → ℕ
-  bound_banks counts from gap b = max_up_to (λ x. asks (only (counts b x) (some gap)) (last_at (track_of ch x) from)) bank_count
+  bound_banks counts from gap b = max_up_to (λ x. asks (only (counts b x) (Some gap)) (last_at (track_of ch x) from)) bank_count
 
   -- a PRER counts at the banks that it closed, so they need no case of their own
   abbrev pub bound_by : Banks → Kind → ℕ → ℕ → ℕ

@@ -1,8 +1,7 @@
 -- The rules that ask a distance from an earlier deed to a later one, as one table (document 01, "Rules over every earlier and
 -- later record").
 -- Assumes nothing.
-use Rattle.std.specs.Prelude.{ℕ, ◌+◌, ◌-◌, Bool, true, not, ◌&&◌, ◌||◌, List, [], ◌∷◌, eqb}
-use Rattle.std.proofs.Math.Option.{Option, none, some}
+use Rattle.std.specs.Prelude.{ℕ, ◌+◌, ◌-◌, Bool, true, not, ◌&&◌, ◌||◌, List, [], ◌∷◌, eqb, Option, None, Some}
 use Rattle.num.specs.Search.{all_up_to}
 use Rattle.settings.specs.declared.Settings.{Settings}
 use Rattle.spec_rules.specs.Neighbour.{Context, near, bank_count}
@@ -25,16 +24,16 @@ pub data Kind : Type 0 where
 
 -- the bank of a deed of this kind; a packet, a ROW and a COL packet count as of bank 0, for no distance between them asks for banks
 abbrev pub bank_as : Kind → Traits → Option ℕ
-bank_as packet k = only (on_pins k) (some 0)
-bank_as ROW k = only k.row (some 0)
-bank_as COL k = only k.col (some 0)
+bank_as packet k = only (on_pins k) (Some 0)
+bank_as ROW k = only k.row (Some 0)
+bank_as COL k = only k.col (Some 0)
 bank_as ACT k = k.opens
 bank_as only_act k = k.acts
 bank_as PRER k = k.precharges
 bank_as RD k = k.reads
 bank_as WR k = k.writes
 bank_as retire k = k.retires
-bank_as implied k = only (is_implied k) (some 0)
+bank_as implied k = only (is_implied k) (Some 0)
 
 -- which banks the two deeds must have
 pub data Banks : Type 0 where
@@ -105,7 +104,7 @@ distances s =
 -- the distance that a line of the table asks from an earlier deed to a later one, or none
 abbrev pub asked : Context → Distance → Traits → Event → Option ℕ
 asked cx d k e =
-    over (bank_as d.later k) (λ b. over (bank_as d.earlier e.traits) (λ p. only (within cx d.banks e b p) (some d.cycles)))
+    over (bank_as d.later k) (λ b. over (bank_as d.earlier e.traits) (λ p. only (within cx d.banks e b p) (Some d.cycles)))
 
 module _ {A : Type 0} where
   -- a test of all in a list

@@ -1,8 +1,7 @@
 -- The least instant that the rules allow a packet in a state (document 01, "Planner"): "Each ROW or COL packet takes the least
 -- instant, not before now, that the rules allow."
 -- Assumes nothing.
-use Rattle.std.specs.Prelude.{ℕ, ◌+◌, ◌-◌, max, Bool, not, ◌&&◌, ◌||◌, cond, List, [], ◌∷◌, leb}
-use Rattle.std.proofs.Math.Option.{Option, none, some}
+use Rattle.std.specs.Prelude.{ℕ, ◌+◌, ◌-◌, max, Bool, not, ◌&&◌, ◌||◌, cond, List, [], ◌∷◌, leb, Option, None, Some}
 use Rattle.settings.specs.Instants.{horizon}
 use Rattle.packet.specs.declared.ColPacket.{ColPacket}
 use Rattle.packet.specs.declared.ColPacket.TheVariants.{Nocop, Wr, Rd}
@@ -68,13 +67,13 @@ module _ (cx : Context) (ch : Channel) where
     -- rules 9, 14 and 17 of a retire of the older write
     abbrev pub retire_fits : Write → List Write → Bool
     retire_fits w ws =
-        open_for (state_of ch) (some w.bank)
-        && ((open_for (state_left (some w)) (traits r).reads && open_for (state_left (some w)) (traits r).writes)
-        && (loses_none cx (state_of ch) (retire_implies (some w)) ws && still_left ws))
+        open_for (state_of ch) (Some w.bank)
+        && ((open_for (state_left (Some w)) (traits r).reads && open_for (state_left (Some w)) (traits r).writes)
+        && (loses_none cx (state_of ch) (retire_implies (Some w)) ws && still_left ws))
 
     -- what the table asks of a retire and, tOFFP later, of the PRER that it implies
     abbrev pub retire_least : Write → ℕ
-    retire_least w = max (bounds cx ch (retire_traits w.bank)) (bound_implied (retire_implies (some w)) - cx.settings.offp)
+    retire_least w = max (bounds cx ch (retire_traits w.bank)) (bound_implied (retire_implies (Some w)) - cx.settings.offp)
 
     -- the least instant of a retire of this write: rule 12 and the table
     abbrev pub retire_bound : Write → ℕ
@@ -82,8 +81,8 @@ module _ (cx : Context) (ch : Channel) where
 
     -- rules 9, 10, 12, 14, 16 and 17 by what leaves: a packet retires the older write, or may leave the waiting ones and then has M = 0
     abbrev pub leaves_right : List Write → Option Write → ℕ → Bool
-    leaves_right ws none t = may_stay ws && not (traits r).masked
-    leaves_right ws (some w) t = retire_fits w (rest ws) && (leb (retire_least w) t && leb (t + implied_delay cx (some w)) horizon)
+    leaves_right ws None t = may_stay ws && not (traits r).masked
+    leaves_right ws (Some w) t = retire_fits w (rest ws) && (leb (retire_least w) t && leb (t + implied_delay cx (Some w)) horizon)
 
     -- from instant t on, the least at which the packet may leave the waiting writes or may retire the older one
     abbrev pub slot_from : ℕ → List Write → ℕ

@@ -1,7 +1,6 @@
 -- What earlier records did, read off the list. Lists of earlier records have the newest first.
 -- Assumes nothing.
-use Rattle.std.specs.Prelude.{ℕ, ◌+◌, Bool, true, false, not, ◌&&◌, ◌||◌, cond, List, [], ◌∷◌, eqb, leb}
-use Rattle.std.proofs.Math.Option.{Option, none, some}
+use Rattle.std.specs.Prelude.{ℕ, ◌+◌, Bool, true, false, not, ◌&&◌, ◌||◌, cond, List, [], ◌∷◌, eqb, leb, Option, None, Some}
 use Rattle.packet.specs.declared.RowPacket.{RowPacket}
 use Rattle.packet.specs.declared.RowPacket.TheVariants.{Act, Prer, Refa, Refp}
 use Rattle.packet.specs.declared.ColPacket.{ColPacket}
@@ -26,8 +25,8 @@ bank_by cx (Refp b) x before = cond (near cx b x) Closed before
 
 -- bank x where a PRER to this bank is implied
 abbrev pub closed_by : Context → Option ℕ → ℕ → Bank → Bank
-closed_by cx none x before = before
-closed_by cx (some b) x before = cond (near cx b x) Closed before
+closed_by cx None x before = before
+closed_by cx (Some b) x before = cond (near cx b x) Closed before
 
 unfoldable pub is_closed : Bank → Bool
 is_closed Closed = true
@@ -44,8 +43,8 @@ is_open Refresh = false
 
 -- "Two may wait, in order": the writes that wait are a list of at most two, oldest first
 abbrev pub first : List Write → Option Write
-first [] = none
-first (w ∷ ws) = some w
+first [] = None
+first (w ∷ ws) = Some w
 
 abbrev pub rest : List Write → List Write
 rest [] = []
@@ -53,12 +52,12 @@ rest (w ∷ ws) = ws
 
 abbrev pub only_write : Bool → Option Write → Option Write
 only_write true o = o
-only_write false o = none
+only_write false o = None
 
 -- whether tRTR has passed since the WR of a write, where there is one
 abbrev pub passed : Context → Option Write → ℕ → Bool
-passed cx none t = false
-passed cx (some w) t = leb (w.at.0 + cx.settings.rtr) t
+passed cx None t = false
+passed cx (Some w) t = leb (w.at.0 + cx.settings.rtr) t
 
 -- "A COL packet other than RD retires the older write if tRTR has passed since its WR": the write that a record retires, where
 -- these wait
@@ -67,19 +66,19 @@ leaving cx ws r = only_write ((traits r).not_read && passed cx (first ws) (insta
 
 -- the writes that a record leaves
 abbrev pub left : Option Write → List Write → List Write
-left none ws = ws
-left (some w) ws = rest ws
+left None ws = ws
+left (Some w) ws = rest ws
 
 -- "WR loads it."
 abbrev pub col_loads : ℕ → ColPacket → Option Write
-col_loads t (Nocop m) = none
-col_loads t (Wr b c m x) = some (record { bank = b; column = c; at = record { 0 = t }; close = x })
-col_loads t (Rd b c m x) = none
+col_loads t (Nocop m) = None
+col_loads t (Wr b c m x) = Some (record { bank = b; column = c; at = record { 0 = t }; close = x })
+col_loads t (Rd b c m x) = None
 
 unfoldable pub loads : Record → Option Write
-loads (RowAt t p) = none
+loads (RowAt t p) = None
 loads (ColAt t p) = col_loads t.0 p
-loads (DataOf t d) = none
+loads (DataOf t d) = None
 
 -- a write behind the oldest that waits: where two wait, rule 12 has no WR that retires none
 abbrev pub queued : List Write → Write → List Write
@@ -87,8 +86,8 @@ queued [] w = w ∷ []
 queued (x ∷ ws) w = x ∷ w ∷ []
 
 abbrev pub joined : Option Write → List Write → List Write
-joined none ws = ws
-joined (some w) ws = queued ws w
+joined None ws = ws
+joined (Some w) ws = queued ws w
 
 -- the writes that wait after a record: one may leave, then one may join
 unfoldable pub waiting_next : Context → Record → List Write → List Write
@@ -100,16 +99,16 @@ waiting_after cx [] = []
 waiting_after cx (r ∷ es) = waiting_next cx r (waiting_after cx es)
 
 abbrev pub bank_of : Option Write → Option ℕ
-bank_of none = none
-bank_of (some w) = some w.bank
+bank_of None = None
+bank_of (Some w) = Some w.bank
 
 abbrev pub only : Bool → Option ℕ → Option ℕ
 only true o = o
-only false o = none
+only false o = None
 
 abbrev pub has : Option ℕ → Bool
-has none = false
-has (some b) = true
+has None = false
+has (Some b) = true
 
 -- a test on the bank of some waiting write, of each
 abbrev pub any_write : (Write → Bool) → List Write → Bool
@@ -122,8 +121,8 @@ all_writes q (w ∷ ws) = q w && all_writes q ws
 
 -- the bank that the retire of a WRA closes
 abbrev pub retire_implies : Option Write → Option ℕ
-retire_implies none = none
-retire_implies (some w) = only w.close (some w.bank)
+retire_implies None = None
+retire_implies (Some w) = only w.close (Some w.bank)
 
 -- bank x once the write has left that a record retires
 abbrev pub bank_retired : Context → List Write → Record → ℕ → Bank → Bank
@@ -152,12 +151,12 @@ pub record Deed : Type 0 where
 
 -- a retire; and after other deeds a PRER that is implied
 abbrev pub retire_deeds : ℕ → Option Write → List Deed
-retire_deeds t none = []
-retire_deeds t (some w) = record { at = t; traits = retire_traits w.bank } ∷ []
+retire_deeds t None = []
+retire_deeds t (Some w) = record { at = t; traits = retire_traits w.bank } ∷ []
 
 abbrev pub implied_deeds : ℕ → Option ℕ → List Deed → List Deed
-implied_deeds t none l = l
-implied_deeds t (some b) l = record { at = t; traits = implied_traits b } ∷ l
+implied_deeds t None l = l
+implied_deeds t (Some b) l = record { at = t; traits = implied_traits b } ∷ l
 
 -- the deeds of a record, newest first, where these writes wait: "the implied PRER stands directly after its RDA or retire"; data are none
 unfoldable pub deeds : Context → List Write → Record → List Deed
@@ -176,8 +175,8 @@ pub record Event : Type 0 where
 
 -- whether a PRER or REFP to a bank reaches bank x
 abbrev pub reaches : Context → Option ℕ → ℕ → Bool
-reaches cx none x = false
-reaches cx (some b) x = near cx b x
+reaches cx None x = false
+reaches cx (Some b) x = near cx b x
 
 -- whether a PRER to this bank, where there is one, closes bank x, which was in this state
 abbrev pub closes_bank : Context → (ℕ → Bank) → Option ℕ → ℕ → Bool
@@ -212,8 +211,8 @@ events cx (r ∷ es) = done cx (bank_after cx es) (deeds cx (waiting_after cx es
 
 -- a distance that a rule asks of a pair, or none
 abbrev pub spaced : Option ℕ → ℕ → ℕ → Bool
-spaced none earlier later = true
-spaced (some gap) earlier later = leb (earlier + gap) later
+spaced None earlier later = true
+spaced (Some gap) earlier later = leb (earlier + gap) later
 
 -- the distance from every earlier event to a packet at t
 unfoldable pub keeps : (Event → Option ℕ) → ℕ → List Event → Bool
@@ -222,5 +221,5 @@ keeps gap t (e ∷ h) = spaced (gap e) e.at t && keeps gap t h
 
 -- a distance between the banks of two packets, where both have one
 abbrev pub over : Option ℕ → (ℕ → Option ℕ) → Option ℕ
-over none f = none
-over (some b) f = f b
+over None f = None
+over (Some b) f = f b

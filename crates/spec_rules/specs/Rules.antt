@@ -1,8 +1,7 @@
 -- The seventeen rules (document 01, "Rules over every earlier and later record"; 17 by document 02 f): of a record r after the earlier
 -- records es, newest first. The distances stand in a table.
 -- Assumes nothing.
-use Rattle.std.specs.Prelude.{ℕ, ◌+◌, max, Bool, true, not, ◌&&◌, ◌||◌, cond, List, [], ◌∷◌, eqb, leb}
-use Rattle.std.proofs.Math.Option.{Option, none, some}
+use Rattle.std.specs.Prelude.{ℕ, ◌+◌, max, Bool, true, not, ◌&&◌, ◌||◌, cond, List, [], ◌∷◌, eqb, leb, Option, None, Some}
 use Rattle.num.specs.Search.{all_up_to}
 use Rattle.settings.specs.Instants.{horizon, is_instant}
 use Rattle.packet.specs.declared.ColPacket.{ColPacket}
@@ -20,13 +19,13 @@ use Rattle.spec_rules.specs.Distances.{holds}
 
 -- "bank and neighbours closed"
 abbrev pub free_for : Context → (ℕ → Bank) → Option ℕ → Bool
-free_for cx state none = true
-free_for cx state (some b) = all_up_to (λ x. not (near cx b x) || is_closed (state x)) bank_count
+free_for cx state None = true
+free_for cx state (Some b) = all_up_to (λ x. not (near cx b x) || is_closed (state x)) bank_count
 
 -- "need the bank open by ACT"
 abbrev pub open_for : (ℕ → Bank) → Option ℕ → Bool
-open_for state none = true
-open_for state (some b) = is_open (state b)
+open_for state None = true
+open_for state (Some b) = is_open (state b)
 
 -- how long after a packet the last of what it sets itself comes: the data of RD and WR, the PRER that an RDA implies
 abbrev pub col_delay : Context → ColPacket → ℕ
@@ -41,15 +40,15 @@ longest_delay cx (DataOf t d) = 0
 
 -- the instant at which the data of the record before must come, where that record is a WR
 abbrev pub due_by : Context → ℕ → ColPacket → Option ℕ
-due_by cx t (Nocop m) = none
-due_by cx t (Wr b c m x) = some (t + cx.settings.cwd)
-due_by cx t (Rd b c m x) = none
+due_by cx t (Nocop m) = None
+due_by cx t (Wr b c m x) = Some (t + cx.settings.cwd)
+due_by cx t (Rd b c m x) = None
 
 unfoldable pub due_after : Context → List Record → Option ℕ
-due_after cx [] = none
-due_after cx (RowAt t p ∷ es) = none
+due_after cx [] = None
+due_after cx (RowAt t p ∷ es) = None
 due_after cx (ColAt t p ∷ es) = due_by cx t.0 p
-due_after cx (DataOf t d ∷ es) = none
+due_after cx (DataOf t d ∷ es) = None
 
 -- how long after a packet the PRER comes that its retire implies
 abbrev pub implied_delay : Context → Option Write → ℕ
@@ -109,8 +108,8 @@ rule14 cx es r = all_lose_none cx (bank_after cx es) (waiting_after cx es) r
 
 -- whether a record is the data that are due, or data are not due and it is none
 abbrev pub data_in_place : Option ℕ → Record → Bool
-data_in_place none r = is_packet r
-data_in_place (some t) r = not (is_packet r) && eqb (instant r) t
+data_in_place None r = is_packet r
+data_in_place (Some t) r = not (is_packet r) && eqb (instant r) t
 
 -- "15. Each WR is followed in the list by its data record D, at WR + tCWD; no D elsewhere. A list may end before the D;
 -- otherwise the record in its place is the bad one."

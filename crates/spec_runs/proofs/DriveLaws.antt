@@ -1,11 +1,11 @@
 -- Model calls, one for each room, are the plain run of as many records as they have taken; calls with room for an answer take one
 -- record each.
 -- Assumes nothing.
+use Rattle.std.specs.Prelude.{Option, None, Some, Err, Ok, Result}
 use Prim.Native.Nat.{ℕ, suc, ◌+◌, ◌-◌, ◌≤◌, ◌<◌}
 use mathlib.Core.Path.{◌≡◌, refl, sym, ap, ◌∙◌}
 use mathlib.Core.Bool.{Bool, true, false, cond}
 use mathlib.Core.List.{List, [], ◌∷◌, ◌++◌, append-nil, append_assoc}
-use mathlib.Core.Option.{Option, none, some}
 use lib.Dec.{leb}
 use lib.ListN.{length, take, drop, length-append, length-drop, take-append-drop, drop_of_length-le}
 use lib.Seq.{take_all, take-append_seam}
@@ -17,7 +17,6 @@ use Rattle.packet.specs.declared.RowPacket.TheVariants.{Act, Prer, Refa, Refp}
 use Rattle.packet.specs.declared.ColPacket.TheVariants.{Nocop, Wr, Rd}
 use Rattle.record.specs.declared.Record.{Record}
 use Rattle.record.specs.declared.Record.TheVariants.{RowAt, ColAt, DataOf}
-use Rattle.record.specs.declared.RecordRead.TheVariants.{Known}
 use Rattle.record.specs.declared.Refusal.TheVariants.{Full}
 use Rattle.record.specs.Refusal.{answer_of as answer_to}
 use Rattle.record.specs.Record.{record_fields, record_bytes, record_read}
@@ -28,8 +27,6 @@ use Rattle.spec_rules.specs.History.{has}
 use Rattle.spec_rules.specs.Broken.{record_in}
 use Rattle.spec_rules.proofs.Bools.{not-both}
 use Rattle.spec_model.specs.declared.ModelState.{ModelState}
-use Rattle.spec_model.specs.declared.Stepped.{Stepped}
-use Rattle.spec_model.specs.declared.Stepped.TheVariants.{Refused, Read}
 use Rattle.spec_model.specs.Store.{store_length}
 use Rattle.spec_model.specs.Model.{retire_mask, retired_write, store_next, model_next, read_of}
 use Rattle.spec_model.specs.Step.{retire_answer, passed_answer, record_answer, read_answer, step_answer, is_taken, model_by, step_model, store_by, step_store, bytes_read, bytes_by}
@@ -37,6 +34,9 @@ use Rattle.spec_runs.specs.Drive.{Drive, returned, left_by, fails, called_on, ca
 use Rattle.spec_runs.specs.Count.{ones_of}
 use Rattle.spec_runs.proofs.PlainRun.{answer_of, mask_by, model_all, store_all, answers_all, masks_all, answers-append, Passing, length-next}
 use Rattle.spec_runs.proofs.Count.{ones-append, passed-count}
+use Rattle.spec_model.specs.declared.Event.TheVariants.{Read}
+use Rattle.spec_model.specs.declared.Event.{Event}
+use Rattle.record.specs.declared.Refusal.{Refusal}
 
 -- ---- a claim of every record of a list
 
@@ -54,7 +54,7 @@ every-at P (r ∷ l) h = (h 0 (omega arith), every-at P l (λ j m. h (suc j) (om
 
 -- its bytes say the record
 abbrev pub Coded : Context → Record → Type 0
-Coded cx r = record_read cx.settings (record_bytes cx.settings r) ≡ Known r
+Coded cx r = record_read cx.settings (record_bytes cx.settings r) ≡ Some r
 
 pub length-record : (cx : Context) (r : Record) → length (record_bytes cx.settings r) ≡ 32
 unfolding record_bytes record_fields
@@ -66,63 +66,63 @@ length-record cx (DataOf t d) = simp (length-append, length-bytes)
 
 -- whether a call has room for the answer
 abbrev pub roomy : Option ℕ → ℕ → Bool
-roomy none room = true
-roomy (some k) room = leb 16 room
+roomy None room = true
+roomy (Some k) room = leb 16 room
 
 -- what a record that breaks no rule makes of a call
 module _ (room mask : ℕ) (w : Option Write) (store : List ℕ) (r : Record) (l : List Record) where
-  abbrev passed : Option ℕ → Stepped
+  abbrev passed : Option ℕ → Result Event Refusal
   passed o = passed_answer o (retire_answer w mask) room
 
   passed-taken : (o : Option ℕ) → is_taken (passed o) ≡ roomy o room
   unfolding passed_answer retire_answer is_taken
-  passed-taken none = go w
+  passed-taken None = go w
     where
-      go : (w : Option Write) → is_taken (retire_answer w mask) ≡ roomy none room
-      go none = refl
-      go (some w) = refl
-  passed-taken (some k) = go (leb 16 room)
+      go : (w : Option Write) → is_taken (retire_answer w mask) ≡ roomy None room
+      go None = refl
+      go (Some w) = refl
+  passed-taken (Some k) = go (leb 16 room)
     where
-      go : (b : Bool) → is_taken (cond b Read (Refused Full)) ≡ b
+      go : (b : Bool) → is_taken (cond b (Ok Read) (Err Full)) ≡ b
       go true = refl
       go false = refl
 
   passed-returned : (o : Option ℕ) → returned (passed o) (bytes_read o store) ≡ cond (roomy o room) (answer_of o store) []
   unfolding passed_answer retire_answer returned bytes_read answer_of
-  passed-returned none = go w
+  passed-returned None = go w
     where
-      go : (w : Option Write) → returned (retire_answer w mask) (bytes_read none store) ≡ cond (roomy none room) (answer_of none store) []
-      go none = refl
-      go (some w) = refl
-  passed-returned (some k) = go (leb 16 room)
+      go : (w : Option Write) → returned (retire_answer w mask) (bytes_read None store) ≡ cond (roomy None room) (answer_of None store) []
+      go None = refl
+      go (Some w) = refl
+  passed-returned (Some k) = go (leb 16 room)
     where
-      go : (b : Bool) → returned (cond b Read (Refused Full)) (bytes_read (some k) store) ≡ cond (b) (answer_of (some k) store) []
+      go : (b : Bool) → returned (cond b (Ok Read) (Err Full)) (bytes_read (Some k) store) ≡ cond (b) (answer_of (Some k) store) []
       go true = refl
       go false = refl
 
   passed-left : (o : Option ℕ) → left_by (passed o) r l ≡ cond (roomy o room) l (r ∷ l)
   unfolding passed_answer retire_answer left_by
-  passed-left none = go w
+  passed-left None = go w
     where
-      go : (w : Option Write) → left_by (retire_answer w mask) r l ≡ cond (roomy none room) l (r ∷ l)
-      go none = refl
-      go (some w) = refl
-  passed-left (some k) = go (leb 16 room)
+      go : (w : Option Write) → left_by (retire_answer w mask) r l ≡ cond (roomy None room) l (r ∷ l)
+      go None = refl
+      go (Some w) = refl
+  passed-left (Some k) = go (leb 16 room)
     where
-      go : (b : Bool) → left_by (cond b Read (Refused Full)) r l ≡ cond (b) l (r ∷ l)
+      go : (b : Bool) → left_by (cond b (Ok Read) (Err Full)) r l ≡ cond (b) l (r ∷ l)
       go true = refl
       go false = refl
 
   passed-fails : (o : Option ℕ) → fails (passed o) ≡ false
   unfolding passed_answer retire_answer fails answer_to
-  passed-fails none = go w
+  passed-fails None = go w
     where
       go : (w : Option Write) → fails (retire_answer w mask) ≡ false
-      go none = refl
-      go (some w) = refl
-  passed-fails (some k) = go (leb 16 room)
+      go None = refl
+      go (Some w) = refl
+  passed-fails (Some k) = go (leb 16 room)
     where
-      go : (b : Bool) → fails (cond b Read (Refused Full)) ≡ false
+      go : (b : Bool) → fails (cond b (Ok Read) (Err Full)) ≡ false
       go true = refl
       go false = refl
 
@@ -198,8 +198,8 @@ module _ (cx : Context) where
   next_one room rooms x r l k = ap (driven cx rooms) (call-is room x r l k)
 
   roomy-wide : (o : Option ℕ) (room : ℕ) → 16 ≤ room → roomy o room ≡ true
-  roomy-wide none room h = refl
-  roomy-wide (some k) room h = le-leb 16 room h
+  roomy-wide None room h = refl
+  roomy-wide (Some k) room h = le-leb 16 room h
 
   -- a call with room for an answer takes a record, where one waits
   wide-takes : (room : ℕ) → 16 ≤ room → (x : Drive) (l : List Record) → x.pending ≡ l → Ready x.model x.store l → (called cx room x l).pending ≡ drop 1 l
@@ -253,8 +253,8 @@ module _ (cx : Context) where
   ran-empty room rooms x y k = record { count = k.count; within = k.within; enough = omega arith; ran = k.ran; ready = k.ready }
 
   ran-left : (room : ℕ) (rooms : List ℕ) (o : Option ℕ) → roomy o room ≡ false → (x : Drive) (l : List Record) (y : Drive) → Ran rooms x l y → Ran (room ∷ rooms) x l y
-  ran-left room rooms none e x l y k = not-both true refl e
-  ran-left room rooms (some i) e x l y k = record { count = k.count; within = k.within; enough = rw (narrow_next room rooms e) k.enough; ran = k.ran; ready = k.ready }
+  ran-left room rooms None e x l y k = not-both true refl e
+  ran-left room rooms (Some i) e x l y k = record { count = k.count; within = k.within; enough = rw (narrow_next room rooms e) k.enough; ran = k.ran; ready = k.ready }
 
   ran-from : (rooms : List ℕ) (x : Drive) (l : List Record) (y z : Drive) → y ≡ z → Ran rooms x l z → Ran rooms x l y
   ran-from rooms x l y z e k = record { count = k.count; within = k.within; enough = k.enough; ran = e ∙ k.ran; ready = rw e k.ready }

@@ -1,9 +1,9 @@
 -- A plain run of the model: records taken one after the other, with no rooms, and over lists that are joined.
 -- Assumes nothing.
+use Rattle.std.specs.Prelude.{Option, None, Some}
 use Prim.Native.Nat.{ℕ, suc, ◌<◌}
 use mathlib.Core.Path.{◌≡◌, refl, sym, ◌∙◌}
 use mathlib.Core.List.{List, [], ◌∷◌, ◌++◌, append_assoc}
-use mathlib.Core.Option.{Option, none, some}
 use lib.ListN.{length, length-append}
 use lib.Seq.{get_or-append_seam, append_snoc}
 use native.Mathlib.Omega.{arith}
@@ -23,8 +23,8 @@ use Rattle.spec_runs.specs.Count.{mask_if}
 
 -- the dualoct that is read, where one is
 unfoldable pub answer_of : Option ℕ → List ℕ → List (List ℕ)
-answer_of none store = []
-answer_of (some k) store = dualoct store k ∷ []
+answer_of None store = []
+answer_of (Some k) store = dualoct store k ∷ []
 
 -- the mask under which a record retires a write, where it does
 abbrev pub mask_by : Context → ModelState → Record → List ℕ
@@ -81,8 +81,8 @@ module _ (cx : Context) where
   -- ---- the store keeps its length
 
   retired-length : (ch : Channel) (w : Option Write) (mask : ℕ) (d : Dualoct) (store : List ℕ) → length (retired_to cx ch w mask d store) ≡ length store
-  retired-length ch none mask d store = refl
-  retired-length ch (some w) mask d store = length-masked store _ mask _
+  retired-length ch None mask d store = refl
+  retired-length ch (Some w) mask d store = length-masked store _ mask _
 
   pub length-next : (m : ModelState) (r : Record) (store : List ℕ) → length (store_next cx m r store) ≡ length store
   unfolding store_next

@@ -1,11 +1,11 @@
 -- The planner in a call, the model that has taken its records, and flat memory: flat memory is the store with the waiting writes
 -- done, in order. Each packet of the planner keeps this.
 -- Assumes nothing.
+use Rattle.std.specs.Prelude.{Option, None, Some}
 use Prim.Native.Nat.{ℕ, ◌+◌, ◌^◌, ◌≤◌, ◌<◌, max}
 use mathlib.Core.Path.{◌≡◌, refl, sym, ap, ◌∙◌}
 use mathlib.Core.Bool.{Bool, true, false, ◌&&◌, cond}
 use mathlib.Core.List.{List, [], ◌∷◌, ◌++◌, append-nil, append_assoc}
-use mathlib.Core.Option.{Option, none, some}
 use lib.Dec.{leb}
 use borrow.Author.Tests.{le-leb}
 use native.Mathlib.Omega.{arith}
@@ -51,8 +51,8 @@ DataIn (DataOf t d) = (d.dqa < 2 ^ 64) × (d.dqb < 2 ^ 64)
 -- the waiting writes done in a store, in order, each under its mask and with its data
 abbrev pub done_all : Context → Channel → List Write → ℕ → ℕ → Dualoct → Dualoct → List ℕ → List ℕ
 done_all cx ch [] m n a b store = store
-done_all cx ch (x ∷ []) m n a b store = retired_to cx ch (some x) m a store
-done_all cx ch (x ∷ y ∷ ws) m n a b store = retired_to cx ch (some y) n b (retired_to cx ch (some x) m a store)
+done_all cx ch (x ∷ []) m n a b store = retired_to cx ch (Some x) m a store
+done_all cx ch (x ∷ y ∷ ws) m n a b store = retired_to cx ch (Some y) n b (retired_to cx ch (Some x) m a store)
 
 -- their masks
 abbrev pub wait_masks : List Write → ℕ → ℕ → List ℕ
@@ -80,7 +80,7 @@ pub record Sim (cx : Context) (st : List ℕ) (before : List Record) (d : Draft)
 module _ (cx : Context) (ch ch' : Channel) (q : ℕ → Bool) (new : Bank) (c : Changed q new (state_of ch) (state_of ch')) where
   -- a write's place goes by the row of its bank alone
   far-one : (w : Write) → w.bank < bank_count → q w.bank ≡ false → (mask : ℕ) (d : Dualoct) (store : List ℕ)
-      → retired_to cx ch (some w) mask d store ≡ retired_to cx ch' (some w) mask d store
+      → retired_to cx ch (Some w) mask d store ≡ retired_to cx ch' (Some w) mask d store
   far-one w i far mask d store = rw (c w.bank i, far)
 
   pub done-far : (ws : List Write) → WritesIn cx ws → in_banks q ws ≡ false → (m n : ℕ) (a b : Dualoct) (store : List ℕ) → done_all cx ch ws m n a b store ≡ done_all cx ch' ws m n a b store
@@ -89,7 +89,7 @@ module _ (cx : Context) (ch ch' : Channel) (q : ℕ → Bool) (new : Bank) (c : 
   done-far (x ∷ y ∷ ws) i far m n a b store =
       let fx = neither (q x.bank) _ far in
       let fy = neither (q y.bank) _ fx.1 in
-      ap (λ (k : List ℕ). retired_to cx ch (some y) n b k) (far-one x i.0.0 fx.0 m a store) ∙ far-one y i.1.0.0 fy.0 n b _
+      ap (λ (k : List ℕ). retired_to cx ch (Some y) n b k) (far-one x i.0.0 fx.0 m a store) ∙ far-one y i.1.0.0 fy.0 n b _
 
 -- it goes by the states of the banks alone
 done-same : (cx : Context) (ch ch' : Channel) → ((x : ℕ) → state_of ch x ≡ state_of ch' x) → (ws : List Write) (m n : ℕ) (a b : Dualoct) (store : List ℕ)
@@ -122,7 +122,7 @@ leave-masks f false m n = refl
 -- a write joins where fewer than two wait
 join-done : (cx : Context) (ch : Channel) (ws : List Write) → two ws ≡ false → (w : Write) (mask m n : ℕ) (d a b : Dualoct) (store : List ℕ) →
     let t : Bool = two (queued ws w) in
-    done_all cx ch (queued ws w) (cond t m mask) (cond t mask n) (cond t a d) (cond t d b) store ≡ retired_to cx ch (some w) mask d (done_all cx ch ws m n a b store)
+    done_all cx ch (queued ws w) (cond t m mask) (cond t mask n) (cond t a d) (cond t d b) store ≡ retired_to cx ch (Some w) mask d (done_all cx ch ws m n a b store)
 join-done cx ch [] e w mask m n d a b store = refl
 join-done cx ch (x ∷ []) e w mask m n d a b store = refl
 join-done cx ch (x ∷ y ∷ ws) e w mask m n d a b store = not-both true refl e
@@ -188,14 +188,14 @@ module _ (cx : Context) (st : List ℕ) (before : List Record) where
         }
 
     -- a packet that retires nothing and changes no bank of a waiting write
-    sim-kept : (x : Record) → leaver cx d.planner x ≡ none → waiting (sent cx x d) ≡ waiting d → WritesIn cx (waiting d) → (q : ℕ → Bool) (new : Bank) → in_banks q (waiting d) ≡ false
+    sim-kept : (x : Record) → leaver cx d.planner x ≡ None → waiting (sent cx x d) ≡ waiting d → WritesIn cx (waiting d) → (q : ℕ → Bool) (new : Bank) → in_banks q (waiting d) ≡ false
         → Changed q new (state_in d) (state_in (sent cx x d)) → DataIn (placed_in cx d.planner x) → bytes_next cx now (placed_in cx d.planner x) ≡ older → second_next now (placed_in cx d.planner x) ≡ newer
         → Sim cx st before (sent cx x d) memory (answers ++ answer_of (read_of cx d.planner.channel (placed_in cx d.planner x)) stored) masks
     unfolding store_next retired_write
     sim-kept x stays same i q new far c di bn sn =
         let z : Draft = sent cx x d in
         let r : Record = placed_in cx d.planner x in
-        let none-gone : leaving_of cx d.planner.channel r ≡ none = here-leaving cx x d ∙ stays in
+        let none-gone : leaving_of cx d.planner.channel r ≡ None = here-leaving cx x d ∙ stays in
         record {
           refr = refr_next cx r refr;
           older = bytes_next cx now r;
@@ -218,12 +218,12 @@ module _ (cx : Context) (st : List ℕ) (before : List Record) where
     unfolding bytes_next second_next read_of placed_at under answer_of retired_write state_by traits col_traits
     sim-rd close b c n i far =
         let x : Record = col_packet (Rd b c 0xFFFF close) in
-        let q : ℕ → Bool = reaches cx (cond close (some b) none) in
-        let ch : Changed q Closed (state_in d) (state_in (sent cx x d)) = λ y m. sent-state cx x d n y m ∙ rw (read-gone cx b c 0xFFFF close d) (implied-changed cx (cond close (some b) none) y (state_in d y)) in
+        let q : ℕ → Bool = reaches cx (cond close (Some b) None) in
+        let ch : Changed q Closed (state_in d) (state_in (sent cx x d)) = λ y m. sent-state cx x d n y m ∙ rw (read-gone cx b c 0xFFFF close d) (implied-changed cx (cond close (Some b) None) y (state_in d y)) in
         sim-kept x (read-gone cx b c 0xFFFF close d) (read-waiting cx b c 0xFFFF close d) i q Closed (reached-none close far) ch tt
         (rw (here-leaving cx x d ∙ read-gone cx b c 0xFFFF close d)) refl
       where
-        reached-none : (close : Bool) → close && in_banks (near cx b) (waiting d) ≡ false → in_banks (reaches cx (cond close (some b) none)) (waiting d) ≡ false
+        reached-none : (close : Bool) → close && in_banks (near cx b) (waiting d) ≡ false → in_banks (reaches cx (cond close (Some b) None)) (waiting d) ≡ false
         reached-none true h = h
         reached-none false h = none-picked (waiting d)
 
@@ -296,7 +296,7 @@ module _ (cx : Context) (st : List ℕ) (before : List Record) where
       late : (a b t : ℕ) → a ≤ max t (max a b)
       late a b t = omega arith
 
-      one : (q : Bool) (x : Write) → two (left (only_write q (some x)) (x ∷ [])) ≡ false
+      one : (q : Bool) (x : Write) → two (left (only_write q (Some x)) (x ∷ [])) ≡ false
       one true x = refl
       one false x = refl
 
@@ -357,15 +357,15 @@ module _ (cx : Context) (st : List ℕ) (before : List Record) where
     unfolding second_next placed_at under
     newer-then = refl
 
-    data-stays : (ws : List Write) (t : DataAt) → leaving cx ws (DataOf t bytes) ≡ none
+    data-stays : (ws : List Write) (t : DataAt) → leaving cx ws (DataOf t bytes) ≡ None
     unfolding traits
     data-stays ws t = keeps-all cx (DataOf t bytes) ws refl
 
-    wr-state : (y : ℕ) (b : Bank) → retire_implies o ≡ none → state_by cx o x y b ≡ b
+    wr-state : (y : ℕ) (b : Bank) → retire_implies o ≡ None → state_by cx o x y b ≡ b
     unfolding state_by traits col_traits
     wr-state y b e = rw e
 
-    pub sim-written : (bytes.dqa < 2 ^ 64) × (bytes.dqb < 2 ^ 64) → Sized d → WritesIn cx (waiting d) → retire_implies o ≡ none → at.bank < bank_count → state_in d at.bank ≡ Open row
+    pub sim-written : (bytes.dqa < 2 ^ 64) × (bytes.dqb < 2 ^ 64) → Sized d → WritesIn cx (waiting d) → retire_implies o ≡ None → at.bank < bank_count → state_in d at.bank ≡ Open row
         → Sim cx st before (written cx close at mask bytes d) (masked memory (dualoct_at cx at.bank row at.column) mask (dualoct_bytes bytes)) answers (masks ++ (mask ∷ []))
     unfolding written loaded bytes_next second_next read_of answer_of store_next retired_write open_row refr_next after after_data
     sim-written i n wi pl m op =

@@ -1,5 +1,6 @@
 -- Plan calls, accepted or refused, keep what joins planner, model and flat memory; and so do lists of them.
 -- Assumes nothing.
+use Rattle.std.specs.Prelude.{Err, Ok, Result}
 use Prim.Native.Nat.{ℕ}
 use mathlib.Core.Path.{◌≡◌, refl}
 use mathlib.Core.Bool.{Bool, true, false, cond}
@@ -9,8 +10,6 @@ use Rattle.record.specs.declared.Dualoct.{Dualoct}
 use Rattle.record.specs.declared.Record.{Record}
 use Rattle.record.specs.declared.Request.{Request}
 use Rattle.record.specs.declared.Request.TheVariants.{Read, Write, Refresh, Wait, Flush, Close}
-use Rattle.record.specs.declared.RequestRead.{RequestRead}
-use Rattle.record.specs.declared.RequestRead.TheVariants.{Refused, Accepted}
 use Rattle.record.specs.Request.{request_read}
 use Rattle.record.proofs.RequestLaws.{InRange, accepted-range}
 use Rattle.spec_rules.specs.Neighbour.{Context, Neighbours}
@@ -28,6 +27,7 @@ use Rattle.spec_runs.specs.WholeRun.{fed}
 use Rattle.spec_runs.proofs.PlainRun.{model_all, store_all, answers_all, masks_all}
 use Rattle.spec_runs.proofs.Sim.{Sim}
 use Rattle.spec_runs.proofs.SimPlan.{Both, sim_read, sim_write, sim-refresh, sim-wait, sim-flush, sim-close}
+use Rattle.record.specs.declared.Refusal.{Refusal}
 
 -- a planner between calls
 abbrev pub rested : PlannerState → Draft
@@ -54,16 +54,16 @@ module _ (cx : Context) (ns : Neighbours cx) (st : List ℕ) where
     sim-planned Close i = rw (append-nil answers, append-nil masks) (sim-close cx ns p st before memory answers masks (rested p) both)
 
     -- an accepted flush leaves no write
-    pub flush-empties : (request : List ℕ) (room : ℕ) → request_read cx.settings request ≡ Accepted Flush → accepted cx p request room ≡ true
+    pub flush-empties : (request : List ℕ) (room : ℕ) → request_read cx.settings request ≡ Ok Flush → accepted cx p request room ≡ true
         → waiting_of (plan_next cx p request room).channel.buffer ≡ []
     unfolding plan_next draft_by planned steps_of
     flush-empties request room e a = rw (a, e) (sim-flush cx ns p st before memory answers masks (rested p) both).1
 
-    sim-request : (x : RequestRead) (request : List ℕ) → Bytes request → request_read cx.settings request ≡ x
+    sim-request : (x : Result Request Refusal) (request : List ℕ) → Bytes request → request_read cx.settings request ≡ x
         → Sim cx st before (draft_by cx p x) (memory_of cx x memory) (answers ++ answers_of cx x memory) (masks ++ masks_of x)
     unfolding draft_by memory_of answers_of masks_of
-    sim-request (Refused why) request w e = rw (append-nil answers, append-nil masks) k
-    sim-request (Accepted q) request w e = sim-planned q (accepted-range cx.settings request q w e)
+    sim-request (Err why) request w e = rw (append-nil answers, append-nil masks) k
+    sim-request (Ok q) request w e = sim-planned q (accepted-range cx.settings request q w e)
 
   -- between calls the records go to the list
   sim-rest : (before : List Record) (d : Draft) (memory : List ℕ) (answers : List (List ℕ)) (masks : List ℕ) → Sim cx st before d memory answers masks
@@ -89,7 +89,7 @@ module _ (cx : Context) (ns : Neighbours cx) (st : List ℕ) where
   unfolding plan_next plan_records flat_next flat_answer flat_mask
   sim-call before p v memory answers masks k request room w = go (accepted cx p request room)
     where
-      x : RequestRead
+      x : Result Request Refusal
       x = request_read cx.settings request
 
       go : (b : Bool) → Between (before ++ cond b (draft_of cx p request).records []) (cond b (draft_of cx p request).planner p)

@@ -1,10 +1,10 @@
 -- Each step of a request keeps what joins planner, model and flat memory.
 -- Assumes nothing.
+use Rattle.std.specs.Prelude.{Some}
 use Prim.Native.Nat.{ℕ, zero, suc, ◌+◌, ◌^◌, ◌<◌, ◌≤◌}
 use mathlib.Core.Path.{◌≡◌, refl, sym, ap, ◌∙◌}
 use mathlib.Core.Bool.{Bool, true, false, not, ◌&&◌, ◌||◌, and-false}
 use mathlib.Core.List.{List, [], ◌∷◌, ◌++◌}
-use mathlib.Core.Option.{some}
 use lib.Dec.{eqb}
 use borrow.Author.Tests.{ltb-true, eq-eqb}
 use native.Mathlib.Omega.{arith}
@@ -47,7 +47,7 @@ row_in cx Refresh o e = not-both true refl (sym o)
 
 past_one : (cx : Context) (ch : Channel) → ((x : ℕ) → x < bank_count → bank_valid cx (state_of ch x) ≡ true)
     → (w : Write) → (w.bank < bank_count) × (w.column < cx.settings.columns) → is_open (state_of ch w.bank) ≡ true → (b row c : ℕ) → row < cx.settings.rows → c < cx.settings.columns → hits b c w ≡ false
-    → (mask : ℕ) (d : Dualoct) (store : List ℕ) → dualoct (retired_to cx ch (some w) mask d store) (dualoct_at cx b row c) ≡ dualoct store (dualoct_at cx b row c)
+    → (mask : ℕ) (d : Dualoct) (store : List ℕ) → dualoct (retired_to cx ch (Some w) mask d store) (dualoct_at cx b row c) ≡ dualoct store (dualoct_at cx b row c)
 past_one cx ch v w i o b row c lr lc h mask d store =
     let r : ℕ = open_row (state_of ch w.bank) in
     dualoct-other store (dualoct_at cx w.bank r w.column) mask (dualoct_bytes d) (dualoct_at cx b row c)
@@ -64,7 +64,7 @@ read_past cx ch v (w ∷ []) i o b row c lr lc h m n x y store =
 read_past cx ch v (w ∷ u ∷ ws) i o b row c lr lc h m n x y store =
     let ow = and_right (is_open (state_of ch w.bank)) _ o in
     let hw = neither (hits b c w) _ h in
-    past_one cx ch v u i.1.0 (and_left (is_open (state_of ch u.bank)) _ ow) b row c lr lc (neither (hits b c u) _ hw.1).0 n y (retired_to cx ch (some w) m x store)
+    past_one cx ch v u i.1.0 (and_left (is_open (state_of ch u.bank)) _ ow) b row c lr lc (neither (hits b c u) _ hw.1).0 n y (retired_to cx ch (Some w) m x store)
     ∙ past_one cx ch v w i.0 (and_left (is_open (state_of ch w.bank)) _ o) b row c lr lc hw.0 m x store
 
 module _ (cx : Context) (ns : Neighbours cx) (p : PlannerState) (st : List ℕ) (before : List Record) (memory : List ℕ) (answers : List (List ℕ)) (masks : List ℕ) where

@@ -1,32 +1,32 @@
 -- "the number of bytes a retire wrote (16 where M = 0); their sum over a run is the ones in all retired masks" (document 01, "What
 -- is turned back").
 -- Assumes nothing.
-use Rattle.std.specs.Prelude.{ℕ, ◌+◌, cond, List, [], ◌∷◌, ◌++◌, length}
-use Rattle.std.proofs.Math.Option.{Option, none, some}
+use Rattle.std.specs.Prelude.{ℕ, ◌+◌, cond, List, [], ◌∷◌, ◌++◌, length, Option, None, Some, Err, Ok, Result}
 use Rattle.record.specs.declared.Record.{Record}
 use Rattle.record.specs.Record.{record_read}
 use Rattle.spec_rules.specs.declared.Write.{Write}
 use Rattle.spec_rules.specs.Neighbour.{Context}
 use Rattle.spec_rules.specs.History.{leaving, waiting_after}
 use Rattle.spec_model.specs.declared.ModelState.{ModelState}
-use Rattle.spec_model.specs.declared.Stepped.{Stepped}
-use Rattle.spec_model.specs.declared.Stepped.TheVariants.{Refused, Read, Retired, Neither}
 use Rattle.spec_model.specs.Store.{ones}
 use Rattle.spec_model.specs.Model.{retire_mask}
 use Rattle.spec_model.specs.Step.{step_answer, taken, step_model, step_store}
 use Rattle.spec_model.specs.Judges.{record_said}
+use Rattle.spec_model.specs.declared.Event.TheVariants.{Neither, Read, Retired}
+use Rattle.spec_model.specs.declared.Event.{Event}
+use Rattle.record.specs.declared.Refusal.{Refusal}
 
 -- the number of bytes that an answer says were written
-unfoldable pub written_by : Stepped → ℕ
-written_by (Refused why) = 0
-written_by Read = 0
-written_by (Retired n) = n
-written_by Neither = 0
+unfoldable pub written_by : Result Event Refusal → ℕ
+written_by (Err why) = 0
+written_by (Ok Read) = 0
+written_by (Ok (Retired n)) = n
+written_by (Ok Neither) = 0
 
 -- the mask under which a write is retired, where one is
 abbrev pub mask_if : Option Write → ℕ → List ℕ
-mask_if none mask = []
-mask_if (some w) mask = mask ∷ []
+mask_if None mask = []
+mask_if (Some w) mask = mask ∷ []
 
 -- the mask of a record that retires a write, after the records es, newest first; FFFF stands for M = 0
 unfoldable pub mask_at : Context → List Record → Record → List ℕ

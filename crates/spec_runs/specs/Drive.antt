@@ -1,6 +1,6 @@
 -- A model that takes the records of a packet list in order (document 01, "Flat memory and whole runs").
 -- Assumes nothing.
-use Rattle.std.specs.Prelude.{ℕ, ◌+◌, Bool, true, false, not, ◌||◌, cond, List, [], ◌∷◌, ◌++◌, eqb, leb, length}
+use Rattle.std.specs.Prelude.{ℕ, ◌+◌, Bool, true, false, not, ◌||◌, cond, List, [], ◌∷◌, ◌++◌, eqb, leb, length, Err, Ok, Result}
 use Rattle.record.specs.declared.Record.{Record}
 use Rattle.record.specs.declared.Refusal.{Refusal}
 use Rattle.record.specs.Refusal.{answer_of}
@@ -9,11 +9,11 @@ use Rattle.spec_rules.specs.Neighbour.{Context}
 use Rattle.spec_rules.specs.Packets.{traits}
 use Rattle.spec_rules.specs.History.{has}
 use Rattle.spec_model.specs.declared.ModelState.{ModelState}
-use Rattle.spec_model.specs.declared.Stepped.{Stepped}
-use Rattle.spec_model.specs.declared.Stepped.TheVariants.{Refused, Read, Retired, Neither}
 use Rattle.spec_model.specs.Model.{fresh_model}
 use Rattle.spec_model.specs.Step.{step_answer, step_model, step_store, bytes_by}
 use Rattle.spec_runs.specs.Count.{written_by}
+use Rattle.spec_model.specs.declared.Event.TheVariants.{Neither, Read, Retired}
+use Rattle.spec_model.specs.declared.Event.{Event}
 
 -- the model and the store, the dualocts that it has returned, the sum of the numbers of bytes that it has said were written, the
 -- records that it has not taken yet, and whether a call was refused for another reason than 8
@@ -30,33 +30,33 @@ unfoldable pub started : List ℕ → List Record → Drive
 started store l = record { model = fresh_model; store = store; answers = []; written = 0; pending = l; failed = false }
 
 -- the dualocts of an answer
-unfoldable pub returned : Stepped → List ℕ → List (List ℕ)
-returned (Refused why) b = []
-returned Read b = b ∷ []
-returned (Retired n) b = []
-returned Neither b = []
+unfoldable pub returned : Result Event Refusal → List ℕ → List (List ℕ)
+returned (Err why) b = []
+returned (Ok Read) b = b ∷ []
+returned (Ok (Retired n)) b = []
+returned (Ok Neither) b = []
 
 -- "A model call refused 8 has taken no record, and the same record comes again until a call has room for its answer."
-unfoldable pub left_by : Stepped → Record → List Record → List Record
-left_by (Refused why) r l = r ∷ l
-left_by Read r l = l
-left_by (Retired n) r l = l
-left_by Neither r l = l
+unfoldable pub left_by : Result Event Refusal → Record → List Record → List Record
+left_by (Err why) r l = r ∷ l
+left_by (Ok Read) r l = l
+left_by (Ok (Retired n)) r l = l
+left_by (Ok Neither) r l = l
 
 abbrev pub is_full : Refusal → Bool
 is_full why = eqb (answer_of why).number 8
 
-unfoldable pub fails : Stepped → Bool
-fails (Refused why) = not (is_full why)
-fails Read = false
-fails (Retired n) = false
-fails Neither = false
+unfoldable pub fails : Result Event Refusal → Bool
+fails (Err why) = not (is_full why)
+fails (Ok Read) = false
+fails (Ok (Retired n)) = false
+fails (Ok Neither) = false
 
 -- a call with so many bytes for the answer, "each call with the model and store that the last one left"
 unfoldable pub called_on : Context → ℕ → Drive → Record → List Record → Drive
 called_on cx room x r l =
     let b : List ℕ = record_bytes cx.settings r in
-    let a : Stepped = step_answer cx x.model (length x.store) b room in
+    let a : Result Event Refusal = step_answer cx x.model (length x.store) b room in
     record {
       model = step_model cx x.model (length x.store) b room;
       store = step_store cx x.model x.store b room;

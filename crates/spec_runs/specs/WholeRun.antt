@@ -1,10 +1,9 @@
 -- Demand 3 (document 01, "Flat memory and whole runs"): "a single claim about the whole list of [plan calls] and not one for each
 -- call."
 -- Assumes nothing.
-use Rattle.std.specs.Prelude.{ℕ, ◌-◌, ◌≤◌, ◌≡◌, true, false, List, [], ◌∷◌, ◌++◌, length, take, drop}
+use Rattle.std.specs.Prelude.{ℕ, ◌-◌, ◌≤◌, ◌≡◌, true, false, List, [], ◌∷◌, ◌++◌, length, take, drop, Ok}
 use Rattle.record.specs.declared.Record.{Record}
 use Rattle.record.specs.declared.Request.TheVariants.{Flush}
-use Rattle.record.specs.declared.RequestRead.TheVariants.{Accepted}
 use Rattle.record.specs.Request.{request_read}
 use Rattle.spec_rules.specs.Neighbour.{Context}
 use Rattle.spec_rules.specs.Broken.{every_rule}
@@ -27,7 +26,7 @@ pub record EndsInFlush (cx : Context) (calls : List Call) : Type 0 where
   pub first : List Call
   pub last : Call
   pub ends : calls ≡ first ++ (last ∷ [])
-  pub flush : request_read cx.settings last.request ≡ Accepted Flush
+  pub flush : request_read cx.settings last.request ≡ Ok Flush
   pub taken : accepted cx (planner_after cx fresh_planner first) last.request last.room ≡ true
 
 -- the claim, of settings that are accepted, plan calls, the bytes of a store, and the room of each model call

@@ -1,8 +1,8 @@
 -- The channel after a record: the number of banks, and their states.
 -- Assumes nothing.
+use Rattle.std.specs.Prelude.{Option, None, Some}
 use Prim.Native.Nat.{ℕ, ◌+◌, ◌<◌}
 use mathlib.Core.Path.{◌≡◌, refl, ap, ◌∙◌}
-use mathlib.Core.Option.{Option, none, some}
 use lib.ListN.{length}
 use Rattle.settings.specs.declared.PacketAt.{PacketAt}
 use Rattle.packet.specs.declared.ColPacket.{ColPacket}
@@ -21,23 +21,23 @@ use Rattle.spec_rules.proofs.TrackLaws.{state-implied}
 
 retire-size : (t : ℕ) (o : Option Write) (ch : Channel) → length (after_retire t o ch).banks ≡ length ch.banks
 unfolding after_retire
-retire-size t none ch = refl
-retire-size t (some w) ch = length-imap _ 0 ch.banks
+retire-size t None ch = refl
+retire-size t (Some w) ch = length-imap _ 0 ch.banks
 
 pub retire-state : (t : ℕ) (o : Option Write) (ch : Channel) (x : ℕ) → length ch.banks ≡ bank_count → x < bank_count → state_of (after_retire t o ch) x ≡ state_of ch x
 unfolding after_retire track_retired
-retire-state t none ch x n m = refl
-retire-state t (some w) ch x n m = ap (λ (k : BankTrack). k.bank) (get_or-imap (track_retired t w) ch.banks x idle idle (rw n m))
+retire-state t None ch x n m = refl
+retire-state t (Some w) ch x n m = ap (λ (k : BankTrack). k.bank) (get_or-imap (track_retired t w) ch.banks x idle idle (rw n m))
 
 pub implied-size : (cx : Context) (t : ℕ) (o : Option ℕ) (ch : Channel) → length (after_implied cx t o ch).banks ≡ length ch.banks
 unfolding after_implied
-implied-size cx t none ch = refl
-implied-size cx t (some b) ch = length-imap _ 0 ch.banks
+implied-size cx t None ch = refl
+implied-size cx t (Some b) ch = length-imap _ 0 ch.banks
 
 pub implied-due : (cx : Context) (t : ℕ) (o : Option ℕ) (ch : Channel) → (after_implied cx t o ch).due ≡ ch.due
 unfolding after_implied
-implied-due cx t none ch = refl
-implied-due cx t (some b) ch = refl
+implied-due cx t None ch = refl
+implied-due cx t (Some b) ch = refl
 
 -- bank x after a record that retires this write
 unfoldable pub state_by : Context → Option Write → Record → ℕ → Bank → Bank

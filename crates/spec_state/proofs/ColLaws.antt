@@ -1,10 +1,10 @@
 -- What is stored for NOCOP, WR and data is the state after them: the writes that wait move up, and one may join.
 -- Assumes nothing.
+use Rattle.std.specs.Prelude.{Option, None, Some}
 use Prim.Native.Nat.{ℕ, ◌+◌, ◌*◌, ◌-◌, ◌<◌}
 use mathlib.Core.Path.{◌≡◌, refl, sym, ap, ◌∙◌}
 use mathlib.Core.Bool.{Bool, true, false}
 use mathlib.Core.List.{List, ◌++◌, append_assoc}
-use mathlib.Core.Option.{Option, none, some}
 use native.Mathlib.Omega.{arith}
 use lib.Dec.{eqb}
 use lib.ListN.{length, length-append}
@@ -126,7 +126,7 @@ rest_in_lem (Two x y) i = i.1
 
 module _ (ch : Channel) (q : List ℕ) (e : length ch.banks ≡ 32) (i : WriteIn ch.buffer) (d : ch.due ≡ false) (w : Write) (t : ℕ) (l : w.bank < 32) where
   abbrev gone : Channel
-  gone = after_retire t (some w) ch
+  gone = after_retire t (Some w) ch
 
   retired-track : (i : ℕ) → i < 32 → track_of gone i ≡ track_retired t w i (track_of ch i)
   unfolding after_retire
@@ -267,7 +267,7 @@ module _ (cx : Context) (ch : Channel) (q : List ℕ) (e : length ch.banks ≡ 3
 
 pub after-left : (cx : Context) (ch : Channel) (t : ℕ) (p : ColPacket) (o : Option Write) →
     let r : Record = ColAt (record { 0 = t }) p in
-    (col_traits p).implies ≡ none → leaving_of cx ch r ≡ o → after cx ch r ≡ after_packet cx (after_implied cx (t + cx.settings.offp) (retire_implies o) (after_retire t o ch)) r
+    (col_traits p).implies ≡ None → leaving_of cx ch r ≡ o → after cx ch r ≡ after_packet cx (after_implied cx (t + cx.settings.offp) (retire_implies o) (after_retire t o ch)) r
 unfolding after after_implied traits
 after-left cx ch t p o n h =
     let r : Record = ColAt (record { 0 = t }) p in
@@ -283,71 +283,71 @@ module _ (cx : Context) (ch : Channel) (q : List ℕ) (e : length ch.banks ≡ 3
   stored = channel_bytes ch ++ q
 
   -- where it is no WRA
-  after-by : (p : ColPacket) (o : Option Write) → (col_traits p).implies ≡ none → retire_implies o ≡ none → leaving_of cx ch (at p) ≡ o
+  after-by : (p : ColPacket) (o : Option Write) → (col_traits p).implies ≡ None → retire_implies o ≡ None → leaving_of cx ch (at p) ≡ o
       → after cx ch (at p) ≡ after_packet cx (after_retire t o ch) (at p)
   unfolding after_implied
   after-by p o n k h = after-left cx ch t p o n h ∙ ap (λ (z : Option ℕ). after_packet cx (after_implied cx (t + cx.settings.offp) z (after_retire t o ch)) (at p)) k
 
   -- NOCOP that retires none
-  pub nocop-stays : (m : ℕ) → leaving_of cx ch (at (Nocop m)) ≡ none → col_stored stored (t - 3) ≡ channel_bytes (after cx ch (at (Nocop m))) ++ q
+  pub nocop-stays : (m : ℕ) → leaving_of cx ch (at (Nocop m)) ≡ None → col_stored stored (t - 3) ≡ channel_bytes (after cx ch (at (Nocop m))) ++ q
   unfolding after_retire col_traits
-  nocop-stays m h = rw (after-by (Nocop m) none refl refl h) (nocop-stored cx ch q e i d t m)
+  nocop-stays m h = rw (after-by (Nocop m) None refl refl h) (nocop-stored cx ch q e i d t m)
 
   module _ (x c m : ℕ) (close : Bool) (l : x < 32) (k : c < 256) (due : Bool) where
     -- WR where none waits, and beside one that stays
     pub wr-none : ch.buffer ≡ Empty → col_stored (write_stored stored (count_word 1 due) x c close (t - 3)) (t - 3) ≡ channel_bytes (loaded_by due (after cx ch (at (Wr x c m close)))) ++ q
     unfolding after_retire col_traits
-    wr-none z = rw (after-by (Wr x c m close) none refl refl (leaving-none cx ch (at (Wr x c m close)) z)) (wr-stored cx ch q e i d t x c m close l k due z)
+    wr-none z = rw (after-by (Wr x c m close) None refl refl (leaving-none cx ch (at (Wr x c m close)) z)) (wr-stored cx ch q e i d t x c m close l k due z)
 
-    pub wr-beside : (w : Write) → ch.buffer ≡ One w → leaving_of cx ch (at (Wr x c m close)) ≡ none
+    pub wr-beside : (w : Write) → ch.buffer ≡ One w → leaving_of cx ch (at (Wr x c m close)) ≡ None
         → col_stored (beside_stored stored (count_word 2 due) x c close (t - 3)) (t - 3) ≡ channel_bytes (loaded_by due (after cx ch (at (Wr x c m close)))) ++ q
     unfolding after_retire col_traits
-    wr-beside w z h = rw (after-by (Wr x c m close) none refl refl h) (beside-stored cx ch q e i d t x c m close l k due w z)
+    wr-beside w z h = rw (after-by (Wr x c m close) None refl refl h) (beside-stored cx ch q e i d t x c m close l k due w z)
 
   -- where the older write w leaves, which is no WRA
   module _ (w : Write) (b : w.bank < 32) (f : w.close ≡ false) where
-    plain : retire_implies (some w) ≡ none
+    plain : retire_implies (Some w) ≡ None
     plain = rw f
 
     abbrev retired : List ℕ
     retired = retire_stored stored w.bank (t - 3)
 
     abbrev left : Channel
-    left = after_retire t (some w) ch
+    left = after_retire t (Some w) ch
 
     -- NOCOP, of one or two, and of one by a shorter store
-    pub nocop-leaves : (m : ℕ) → leaving_of cx ch (at (Nocop m)) ≡ some w
+    pub nocop-leaves : (m : ℕ) → leaving_of cx ch (at (Nocop m)) ≡ Some w
         → col_stored (shift_stored retired (length (rest (waiting_of ch.buffer)))) (t - 3) ≡ channel_bytes (after cx ch (at (Nocop m))) ++ q
     unfolding col_traits
     nocop-leaves m h =
-        rw (after-by (Nocop m) (some w) refl plain h)
+        rw (after-by (Nocop m) (Some w) refl plain h)
         (ap (λ (b : List ℕ). col_stored b (t - 3)) (shift-stored ch q e i d w t b)
         ∙ nocop-stored cx left q (gone-size ch q e i d w t b) (gone-in ch q e i d w t b) (gone-due ch q e i d w t b) t m)
 
-    pub nocop-leaves-one : (m : ℕ) → ch.buffer ≡ One w → leaving_of cx ch (at (Nocop m)) ≡ some w
+    pub nocop-leaves-one : (m : ℕ) → ch.buffer ≡ One w → leaving_of cx ch (at (Nocop m)) ≡ Some w
         → col_stored (empty_stored retired) (t - 3) ≡ channel_bytes (after cx ch (at (Nocop m))) ++ q
     unfolding col_traits
     nocop-leaves-one m z h =
-        rw (after-by (Nocop m) (some w) refl plain h)
+        rw (after-by (Nocop m) (Some w) refl plain h)
         (ap (λ (b : List ℕ). col_stored b (t - 3)) (retire-stored ch q e i d w t b z)
         ∙ nocop-stored cx left q (gone-size ch q e i d w t b) (gone-in ch q e i d w t b) (gone-due ch q e i d w t b) t m)
 
     module _ (x c m : ℕ) (close : Bool) (l : x < 32) (k : c < 256) (due : Bool) where
       -- WR in its place
-      pub wr-instead : ch.buffer ≡ One w → leaving_of cx ch (at (Wr x c m close)) ≡ some w
+      pub wr-instead : ch.buffer ≡ One w → leaving_of cx ch (at (Wr x c m close)) ≡ Some w
           → col_stored (write_stored retired (count_word 1 due) x c close (t - 3)) (t - 3) ≡ channel_bytes (loaded_by due (after cx ch (at (Wr x c m close)))) ++ q
       unfolding after_retire col_traits buffer_of waiting_of
       wr-instead z h =
-          rw (after-by (Wr x c m close) (some w) refl plain h)
+          rw (after-by (Wr x c m close) (Some w) refl plain h)
           (ap (λ (b : List ℕ). col_stored b (t - 3)) (write-over _ (count_word 1 due) x c close (t - 3) (retire-numbers ch q e i d w t b) ∙ ap (λ (b : List ℕ). write_stored b (count_word 1 due) x c close (t - 3)) (retire-stored ch q e i d w t b z))
           ∙ wr-stored cx left q (gone-size ch q e i d w t b) (gone-in ch q e i d w t b) (gone-due ch q e i d w t b) t x c m close l k due (rw z))
 
       -- WR behind the one that waited behind it
-      pub wr-behind : (y : Write) → ch.buffer ≡ Two w y → leaving_of cx ch (at (Wr x c m close)) ≡ some w
+      pub wr-behind : (y : Write) → ch.buffer ≡ Two w y → leaving_of cx ch (at (Wr x c m close)) ≡ Some w
           → col_stored (behind_stored retired (count_word 2 due) x c close (t - 3)) (t - 3) ≡ channel_bytes (loaded_by due (after cx ch (at (Wr x c m close)))) ++ q
       unfolding after_retire col_traits buffer_of waiting_of
       wr-behind y z h =
-          rw (after-by (Wr x c m close) (some w) refl plain h)
+          rw (after-by (Wr x c m close) (Some w) refl plain h)
           (ap (λ (b : List ℕ). col_stored b (t - 3)) (behind-over _ (count_word 2 due) (length (rest (waiting_of ch.buffer))) x c close (t - 3) (retire-numbers ch q e i d w t b) ∙ ap (λ (b : List ℕ). beside_stored b (count_word 2 due) x c close (t - 3)) (shift-stored ch q e i d w t b))
           ∙ beside-stored cx left q (gone-size ch q e i d w t b) (gone-in ch q e i d w t b) (gone-due ch q e i d w t b) t x c m close l k due y (rw z))
 

@@ -1,11 +1,11 @@
 -- A claim of every last instant of a state, and one of the WR of each waiting write: a record whose instant, and that of the PRER which
 -- it implies, keeps both keeps them.
 -- Assumes nothing.
+use Rattle.std.specs.Prelude.{Option, None, Some}
 use Prim.Native.Nat.{ℕ, ◌+◌, ◌<◌}
 use mathlib.Core.Path.{◌≡◌, refl, ◌∙◌}
 use mathlib.Core.Bool.{Bool, true, false, ◌||◌, cond}
 use mathlib.Core.List.{List, [], ◌∷◌}
-use mathlib.Core.Option.{Option, none, some}
 use lib.Dec.{eqb}
 use lib.ListN.{length}
 use Rattle.settings.specs.declared.PacketAt.{PacketAt}
@@ -52,9 +52,9 @@ pub record All (P Q : ℕ → Type 0) (ch : Channel) : Type 0 where
 
 module _ (Q : ℕ → Type 0) where
   writes-left : (o : Option Write) (ws : List Write) → WritesAll Q ws → WritesAll Q (left o ws)
-  writes-left none ws k = k
-  writes-left (some w) [] k = tt
-  writes-left (some w) (x ∷ ws) k = k.1
+  writes-left None ws k = k
+  writes-left (Some w) [] k = tt
+  writes-left (Some w) (x ∷ ws) k = k.1
 
   writes-joined : (r : Record) (ws : List Write) → Q (instant r) → WritesAll Q ws → WritesAll Q (joined (loads r) ws)
   unfolding loads instant
@@ -98,9 +98,9 @@ module _ (P : ℕ → Type 0) where
 
     retire-all : (t : ℕ) (o : Option Write) → P t → LastsAll P (after_retire t o ch)
     unfolding after_retire track_retired
-    retire-all t none e = k
-    retire-all t (some w) e =
-        let at : (x : ℕ) → x < bank_count → track_of (after_retire t (some w) ch) x ≡ track_retired t w x (track_of ch x) = λ x m. get_or-imap (track_retired t w) ch.banks x idle idle (rw k.size m) in
+    retire-all t None e = k
+    retire-all t (Some w) e =
+        let at : (x : ℕ) → x < bank_count → track_of (after_retire t (Some w) ch) x ≡ track_retired t w x (track_of ch x) = λ x m. get_or-imap (track_retired t w) ch.banks x idle idle (rw k.size m) in
         record {
           size = length-imap _ 0 ch.banks ∙ k.size;
           banks = λ x m. rw (at x m)
@@ -121,16 +121,16 @@ module _ (P : ℕ → Type 0) where
 
     implied-all : (t : ℕ) (o : Option ℕ) → (has o ≡ true → P t) → LastsAll P (after_implied cx t o ch)
     unfolding after_implied track_implied
-    implied-all t none e = k
-    implied-all t (some b) e =
-        let at : (x : ℕ) → x < bank_count → track_of (after_implied cx t (some b) ch) x ≡ track_implied cx (state_of ch) t b x (track_of ch x) = λ x m. get_or-imap (track_implied cx (state_of ch) t b) ch.banks x idle idle (rw k.size m) in
+    implied-all t None e = k
+    implied-all t (Some b) e =
+        let at : (x : ℕ) → x < bank_count → track_of (after_implied cx t (Some b) ch) x ≡ track_implied cx (state_of ch) t b x (track_of ch x) = λ x m. get_or-imap (track_implied cx (state_of ch) t b) ch.banks x idle idle (rw k.size m) in
         record {
           size = length-imap _ 0 ch.banks ∙ k.size;
           banks = λ x m. rw (at x m)
               (record {
                 opened = (k.banks x m).opened;
                 act = (k.banks x m).act;
-                pre = pick (eqb x b || closes_bank cx (state_of ch) (some b) x) t _ (e refl) (k.banks x m).pre;
+                pre = pick (eqb x b || closes_bank cx (state_of ch) (Some b) x) t _ (e refl) (k.banks x m).pre;
                 rd = (k.banks x m).rd;
                 retire = (k.banks x m).retire;
               });

@@ -1,10 +1,10 @@
 -- What is stored for an implied PRER is the state after it; so of an RDA, and of a COL packet that retires a WRA.
 -- Assumes nothing.
+use Rattle.std.specs.Prelude.{Option, None, Some}
 use Prim.Native.Nat.{ℕ, ◌+◌, ◌*◌, ◌-◌, ◌^◌, ◌<◌}
 use mathlib.Core.Path.{◌≡◌, refl, sym, ap, ◌∙◌}
 use mathlib.Core.Bool.{Bool, true, false, ◌||◌}
 use mathlib.Core.List.{List, ◌++◌}
-use mathlib.Core.Option.{Option, none, some}
 use native.Mathlib.Omega.{arith}
 use lib.Dec.{eqb}
 use lib.ListN.{length}
@@ -36,7 +36,7 @@ use Rattle.spec_state.proofs.ColLaws.{shift-stored, gone-size, gone-due, gone-in
 
 module _ (cx : Context) (ch : Channel) (q : List ℕ) (e : length ch.banks ≡ 32) (i : WriteIn ch.buffer) (x u : ℕ) (l : x < 32) where
   abbrev implied : Channel
-  implied = after_implied cx u (some x) ch
+  implied = after_implied cx u (Some x) ch
 
   implied-track : (y : ℕ) → y < 32 → track_of implied y ≡ track_implied cx (state_of ch) u x y (track_of ch y)
   unfolding after_implied
@@ -69,7 +69,7 @@ module _ (cx : Context) (ch : Channel) (q : List ℕ) (e : length ch.banks ≡ 3
       refl refl refl refl refl refl refl refl refl refl
 
   -- where its neighbours are closed
-  pub implied-stored : SidesClosed cx ch x → implied_stored (channel_bytes ch ++ q) x (u - 3) ≡ channel_bytes (after_implied cx u (some x) ch) ++ q
+  pub implied-stored : SidesClosed cx ch x → implied_stored (channel_bytes ch ++ q) x (u - 3) ≡ channel_bytes (after_implied cx u (Some x) ch) ++ q
   unfolding implied_stored shut_stored after_implied track_implied figure_of last_of_channel numbers_of
   implied-stored sides =
       let v : List ℕ = bytes 4 (u - 3) in
@@ -81,7 +81,7 @@ module _ (cx : Context) (ch : Channel) (q : List ℕ) (e : length ch.banks ≡ 3
 
   -- with these two banks on its sides
   module _ (low high : ℕ) (sides : (y : ℕ) → y < 32 → (eqb y x || eqb y low) || eqb y high ≡ near cx x y) (fits : (y : ℕ) → y < 32 → bank_tag (state_of ch y) < 256 ^ 2) where
-    pub implied-all-stored : implied_all_stored (channel_bytes ch ++ q) x low high (u - 3) ≡ channel_bytes (after_implied cx u (some x) ch) ++ q
+    pub implied-all-stored : implied_all_stored (channel_bytes ch ++ q) x low high (u - 3) ≡ channel_bytes (after_implied cx u (Some x) ch) ++ q
     unfolding implied_all_stored after_implied track_implied figure_of last_of_channel numbers_of
     implied-all-stored =
         let v : List ℕ = bytes 4 (u - 3) in
@@ -141,15 +141,15 @@ module _ (cx : Context) (ch : Channel) (q : List ℕ) (e : length ch.banks ≡ 3
   retired = shift_stored (retire_stored (channel_bytes ch ++ q) w.bank (t - 3)) (length (rest (waiting_of ch.buffer)))
 
   abbrev left : Channel
-  left = after_retire t (some w) ch
+  left = after_retire t (Some w) ch
 
   -- the state in which the packet itself then stands
   abbrev pub closing : Channel
-  closing = after_implied cx (t + cx.settings.offp) (some w.bank) left
+  closing = after_implied cx (t + cx.settings.offp) (Some w.bank) left
 
   left-state : (y : ℕ) → y < 32 → state_of left y ≡ state_of ch y
   unfolding bank_count
-  left-state y m = retire-state t (some w) ch y e m
+  left-state y m = retire-state t (Some w) ch y e m
 
   pub closing-stored : SidesClosed cx ch w.bank → implied_stored retired w.bank (t + cx.settings.offp - 3) ≡ channel_bytes closing ++ q
   closing-stored sides =
@@ -163,10 +163,10 @@ module _ (cx : Context) (ch : Channel) (q : List ℕ) (e : length ch.banks ≡ 3
         ∙ implied-all-stored cx left q (gone-size ch q e i d w t l) (gone-in ch q e i d w t l) w.bank (t + cx.settings.offp) l low high sides (same-fits ch left left-state fits)
 
   pub closing-size : length closing.banks ≡ 32
-  closing-size = implied-size cx (t + cx.settings.offp) (some w.bank) left ∙ gone-size ch q e i d w t l
+  closing-size = implied-size cx (t + cx.settings.offp) (Some w.bank) left ∙ gone-size ch q e i d w t l
 
   pub closing-due : closing.due ≡ false
-  closing-due = implied-due cx (t + cx.settings.offp) (some w.bank) left ∙ gone-due ch q e i d w t l
+  closing-due = implied-due cx (t + cx.settings.offp) (Some w.bank) left ∙ gone-due ch q e i d w t l
 
   pub closing-in : WriteIn closing.buffer
   unfolding after_implied
@@ -175,18 +175,18 @@ module _ (cx : Context) (ch : Channel) (q : List ℕ) (e : length ch.banks ≡ 3
   abbrev at : ColPacket → Record
   at p = ColAt (record { 0 = t }) p
 
-  pub closing_after : (p : ColPacket) → (col_traits p).implies ≡ none → w.close ≡ true → leaving_of cx ch (at p) ≡ some w → after cx ch (at p) ≡ after_packet cx closing (at p)
+  pub closing_after : (p : ColPacket) → (col_traits p).implies ≡ None → w.close ≡ true → leaving_of cx ch (at p) ≡ Some w → after cx ch (at p) ≡ after_packet cx closing (at p)
   closing_after p n k h =
-      let z : retire_implies (some w) ≡ some w.bank = rw k in
-      after-left cx ch t p (some w) n h ∙ ap (λ (o : Option ℕ). after_packet cx (after_implied cx (t + cx.settings.offp) o left) (at p)) z
+      let z : retire_implies (Some w) ≡ Some w.bank = rw k in
+      after-left cx ch t p (Some w) n h ∙ ap (λ (o : Option ℕ). after_packet cx (after_implied cx (t + cx.settings.offp) o left) (at p)) z
 
   -- the packet itself: NOCOP; WR where w waited alone, and where another waited behind it
   module _ (k : w.close ≡ true) where
-    pub nocop-closing : (m : ℕ) → leaving_of cx ch (at (Nocop m)) ≡ some w → col_stored (channel_bytes closing ++ q) (t - 3) ≡ channel_bytes (after cx ch (at (Nocop m))) ++ q
+    pub nocop-closing : (m : ℕ) → leaving_of cx ch (at (Nocop m)) ≡ Some w → col_stored (channel_bytes closing ++ q) (t - 3) ≡ channel_bytes (after cx ch (at (Nocop m))) ++ q
     unfolding col_traits
     nocop-closing m h = rw (closing_after (Nocop m) refl k h) (nocop-stored cx closing q closing-size closing-in closing-due t m)
 
-    module _ (x c m : ℕ) (close : Bool) (b : x < 32) (f : c < 256) (due : Bool) (h : leaving_of cx ch (at (Wr x c m close)) ≡ some w) where
+    module _ (x c m : ℕ) (close : Bool) (b : x < 32) (f : c < 256) (due : Bool) (h : leaving_of cx ch (at (Wr x c m close)) ≡ Some w) where
       pub wr-closing : ch.buffer ≡ One w
           → col_stored (write_stored (channel_bytes closing ++ q) (count_word 1 due) x c close (t - 3)) (t - 3) ≡ channel_bytes (loaded_by due (after cx ch (at (Wr x c m close)))) ++ q
       unfolding col_traits after_implied after_retire buffer_of waiting_of

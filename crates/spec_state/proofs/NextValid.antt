@@ -1,10 +1,10 @@
 -- A state of the channel that is not refused stays so after a record that breaks no rule.
 -- Assumes nothing.
+use Rattle.std.specs.Prelude.{Option, None, Some}
 use Prim.Native.Nat.{ℕ, ◌+◌, ◌<◌}
 use mathlib.Core.Path.{◌≡◌, refl, sym, ap, ◌∙◌}
 use mathlib.Core.Bool.{Bool, true, false, not, ◌&&◌, ◌||◌, cond, or-true}
 use mathlib.Core.List.{List, [], ◌∷◌}
-use mathlib.Core.Option.{Option, none, some}
 use lib.Dec.{eqb, leb, ltb}
 use lib.ListN.{length, get_or, length-replicate, get_or-replicate}
 use borrow.Author.Tests.{ltb-true, eqb-true, eq-eqb}
@@ -148,8 +148,8 @@ open-not-closed Refresh e = refl
 
 rows-implied : (cx : Context) (o : Option ℕ) (x : ℕ) (b : Bank) → bank_valid cx b ≡ true → bank_valid cx (closed_by cx o x b) ≡ true
 unfolding bank_valid
-rows-implied cx none x b h = h
-rows-implied cx (some p) x b h = either-bank (bank_valid cx) (near cx p x) Closed b refl h
+rows-implied cx None x b h = h
+rows-implied cx (Some p) x b h = either-bank (bank_valid cx) (near cx p x) Closed b refl h
 
 rows_next : (cx : Context) (o : Option Write) (r : Record) → record_fits cx.settings r ≡ true → (x : ℕ) (b : Bank) → bank_valid cx b ≡ true → bank_valid cx (state_by cx o r x b) ≡ true
 unfolding record_fits row_fits state_by bank_by bank_valid
@@ -166,7 +166,7 @@ OneClosed cx state = (x y : ℕ) → x < bank_count → y < bank_count → cx.nb
 
 module _ (cx : Context) (ns : Neighbours cx) (state : ℕ → Bank) where
   -- rule 4
-  near-closed : (b x : ℕ) → free_for cx state (some b) ≡ true → x < bank_count → near cx b x ≡ true → is_closed (state x) ≡ true
+  near-closed : (b x : ℕ) → free_for cx state (Some b) ≡ true → x < bank_count → near cx b x ≡ true → is_closed (state x) ≡ true
   near-closed b x f m e = or_else (near cx b x) _ (all-at (λ x. not (near cx b x) || is_closed (state x)) bank_count x f m) e
 
   shut-closed : (b : ℕ) → OneClosed cx state → OneClosed cx (λ x. cond (near cx b x) Closed (state x))
@@ -178,7 +178,7 @@ module _ (cx : Context) (ns : Neighbours cx) (state : ℕ → Bank) where
       go false true h = or-true (is_closed (state x))
       go false false h = h
 
-  open-closed : (b : ℕ) (new : Bank) → free_for cx state (some b) ≡ true → OneClosed cx state → OneClosed cx (λ x. cond (eqb x b) new (state x))
+  open-closed : (b : ℕ) (new : Bank) → free_for cx state (Some b) ≡ true → OneClosed cx state → OneClosed cx (λ x. cond (eqb x b) new (state x))
   open-closed b new f k x y mx my n = go (eqb x b) (eqb y b) refl refl
     where
       go : (i j : Bool) → eqb x b ≡ i → eqb y b ≡ j → is_closed (cond i new (state x)) || is_closed (cond j new (state y)) ≡ true
@@ -200,7 +200,7 @@ module _ (cx : Context) (ns : Neighbours cx) (state : ℕ → Bank) where
       go false h = o
 
   -- and rule 4: no bank of a write is refreshed
-  not-refreshed : (b x : ℕ) → x < bank_count → free_for cx state (some b) ≡ true → is_open (state x) ≡ true → is_open (cond (eqb x b) Refresh (state x)) ≡ true
+  not-refreshed : (b x : ℕ) → x < bank_count → free_for cx state (Some b) ≡ true → is_open (state x) ≡ true → is_open (cond (eqb x b) Refresh (state x)) ≡ true
   not-refreshed b x m f o = go (eqb x b) refl
     where
       go : (q : Bool) → eqb x b ≡ q → is_open (cond q Refresh (state x)) ≡ true
@@ -216,13 +216,13 @@ module _ (cx : Context) (ns : Neighbours cx) (state : ℕ → Bank) where
   row_open (Refp b) x m f c o = kept-open b x o c
 
   implied-open : (p : Option ℕ) (x : ℕ) → is_open (state x) ≡ true → not (closes_bank cx state p x) ≡ true → is_open (closed_by cx p x (state x)) ≡ true
-  implied-open none x o c = o
-  implied-open (some b) x o c = kept-open b x o c
+  implied-open None x o c = o
+  implied-open (Some b) x o c = kept-open b x o c
 
   -- of two neighbours one is closed after a PRER that is implied, where there is one
   implied-pairs : (p : Option ℕ) → OneClosed cx state → OneClosed cx (λ x. closed_by cx p x (state x))
-  implied-pairs none k = k
-  implied-pairs (some b) k = shut-closed b k
+  implied-pairs None k = k
+  implied-pairs (Some b) k = shut-closed b k
 
 closed-next : (cx : Context) → Neighbours cx → (state : ℕ → Bank) (o : Option Write) (r : Record) → free_for cx state (traits r).opens ≡ true → OneClosed cx state
     → OneClosed cx (λ x. state_by cx o r x (state x))
@@ -237,18 +237,18 @@ closed-next cx ns state o (DataOf t d) f k = k
 -- ---- the state after a record
 
 all_left : (q : Write → Bool) (o : Option Write) (ws : List Write) → all_writes q ws ≡ true → all_writes q (left o ws) ≡ true
-all_left q none ws h = h
-all_left q (some w) [] h = refl
-all_left q (some w) (x ∷ ws) h = and_right (q x) _ h
+all_left q None ws h = h
+all_left q (Some w) [] h = refl
+all_left q (Some w) (x ∷ ws) h = and_right (q x) _ h
 
 abbrev OneWrite : (Write → Bool) → Option Write → Type 0
-OneWrite q none = Unit {0}
-OneWrite q (some w) = q w ≡ true
+OneWrite q None = Unit {0}
+OneWrite q (Some w) = q w ≡ true
 
 all-joined : (q : Write → Bool) (o : Option Write) (ws : List Write) → OneWrite q o → all_writes q ws ≡ true → all_writes q (joined o ws) ≡ true
-all-joined q none ws i h = h
-all-joined q (some w) [] i h = rw i
-all-joined q (some w) (x ∷ ws) i h = rw (and_left (q x) _ h, i)
+all-joined q None ws i h = h
+all-joined q (Some w) [] i h = rw i
+all-joined q (Some w) (x ∷ ws) i h = rw (and_left (q x) _ h, i)
 
 -- where a test on each waiting write goes over to another, and holds of the one that joins
 pub all-next : (cx : Context) (r : Record) (q : Write → Bool) (ws : List Write) → OneWrite q (loads r) → all_writes q ws ≡ true → all_writes q (waiting_next cx r ws) ≡ true

@@ -1,10 +1,10 @@
 -- What is stored for a packet is the state after it.
 -- Assumes nothing.
+use Rattle.std.specs.Prelude.{None, Some}
 use Prim.Native.Nat.{ℕ, ◌+◌, ◌*◌, ◌-◌, ◌/◌, ◌%◌, ◌<◌}
 use mathlib.Core.Path.{◌≡◌, refl, sym, ap, ◌∙◌}
 use mathlib.Core.Bool.{Bool, true, false, cond, not, ◌||◌, ◌&&◌}
 use mathlib.Core.List.{List, ◌++◌, append_assoc}
-use mathlib.Core.Option.{none, some}
 use native.Mathlib.Omega.{arith}
 use lib.Dec.{eqb}
 use lib.ListN.{length}
@@ -186,7 +186,7 @@ module _ (cx : Context) (ch : Channel) (x : ℕ) where
 
 pub after_read : (cx : Context) (ch : Channel) (t x c m : ℕ) (close : Bool) →
     let r : Record = ColAt (record { 0 = t }) (Rd x c m close) in
-    after cx ch r ≡ after_implied cx (t + cx.settings.offp) (cond close (some x) none) (after_packet cx ch r)
+    after cx ch r ≡ after_implied cx (t + cx.settings.offp) (cond close (Some x) None) (after_packet cx ch r)
 unfolding after leaving after_retire after_implied traits col_traits
 after_read cx ch t x c m close = refl
 

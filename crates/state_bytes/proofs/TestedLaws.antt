@@ -2,12 +2,12 @@
 -- Assumes nothing.
 use Prim.Native.Nat.{ℕ, zero, suc, ◌+◌, ◌*◌, ◌-◌, ◌/◌, ◌%◌, ◌<◌, ◌≤◌}
 use mathlib.Core.Path.{◌≡◌, refl, sym, ap, ap₂, ◌∙◌}
-use mathlib.Core.Bool.{Bool, true, false, not, ◌&&◌, ◌||◌, cond, and_assoc, and_comm, and-true, and-false, or-false, or-true, or_self, or_comm}
+use mathlib.Core.Bool.{Bool, true, false, not, ◌&&◌, ◌||◌, cond, and_assoc, and-true, and-false, or_comm}
 use mathlib.Core.List.{List}
 use native.Mathlib.Omega.{arith}
-use borrow.Author.Tests.{eqb-true, eqb-false, eq-eqb, ne_eqb, le-leb, lt-leb, ltb-true}
-use lib.Dec.{eqb, leb, ltb}
-use lib.ListN.{length, get_or}
+use borrow.Author.Tests.{eqb-false, ne_eqb}
+use lib.Dec.{eqb, leb}
+use lib.ListN.{length}
 use Rattle.num.specs.Bytes.{number, part, Bytes}
 use Rattle.num.specs.Search.{all_up_to}
 use Rattle.num.proofs.SearchLaws.{all-at, all-intro}
@@ -15,19 +15,19 @@ use Rattle.num.proofs.PartLaws.{number_fits}
 use Rattle.settings.specs.declared.Settings.{Settings}
 use Rattle.spec_rules.specs.declared.Bank.{Bank}
 use Rattle.spec_rules.specs.Neighbour.{bank_count, Context, context_of}
-use Rattle.spec_rules.specs.History.{is_closed, is_open, any_write, all_writes}
-use Rattle.spec_rules.specs.Channel.{track_of, state_of, waiting_of}
+use Rattle.spec_rules.specs.History.{is_closed}
+use Rattle.spec_rules.specs.Channel.{track_of, state_of}
 use Rattle.spec_rules.proofs.Bools.{iff-eq, not-both, and_left, and_right, all-ext, all-and}
 use Rattle.spec_rules.proofs.NeighbourLaws.{core-neighbours}
-use Rattle.spec_state.specs.Valid.{bank_valid, track_valid, write_valid, lasts_valid, apart, channel_valid}
-use Rattle.spec_state.specs.ChannelBytes.{bank_in, track_in, tracks_in, lasts_in, write_in, buffer_in, channel_in, zero_part, channel_spare}
-use Rattle.spec_state.proofs.PlaneLaws.{length-tracks, tracks-at}
+use Rattle.spec_state.specs.Valid.{bank_valid, track_valid, lasts_valid, apart}
+use Rattle.spec_state.specs.ChannelBytes.{bank_in, track_in, lasts_in, channel_in}
+use Rattle.spec_state.proofs.PlaneLaws.{tracks-at}
 use Rattle.spec_plan.specs.Planner.{not_refresh}
 use Rattle.chan_view.specs.Form.Beside.{is_first, low_of}
 use Rattle.chan_view.proofs.NearLaws.{Beside, own, low, high, Below, no-low, one-low, Above, no-high, one-high, below, above, near-beside, near-low, or_right}
 use Rattle.state_bytes.specs.Form.Stored.{latest}
-use Rattle.state_bytes.specs.Form.Tested.{all_stored, most_tag, tags_right, write_right, buffer_right, channel_tested}
-use Rattle.state_bytes.proofs.NumberLaws.{stamp-stored, instant-stored, tag-valid, tag-planned, tag-closed, tag_open, count-parts, count-is}
+use Rattle.state_bytes.specs.Form.Tested.{all_stored, most_tag, tags_right}
+use Rattle.state_bytes.proofs.NumberLaws.{stamp-stored, tag-valid, tag-planned, tag-closed}
 
 -- ---- tests joined
 

@@ -1,12 +1,12 @@
 // A model's 792 bytes.
-ghost use Rattle.std.specs.Prelude.{◌≡◌, length};
+ghost use Rattle.std.specs.Prelude.{◌≡◌};
 ghost use Rattle.spec_rules.specs.Neighbour.{context_of};
 ghost use Rattle.spec_model.specs.ModelBytes.{model_in, model_right};
 
 use crate::tested::channel_right;
 use record::Dualoct;
 use settings::Settings;
-use spec_model::MODEL_BYTES;
+use spec_model::{MODEL_BYTES, ModelBytes};
 
 // Whether refusal 1 has nothing against a model's bytes.
 pub fn model_right(s: Settings, b: &[u8]) -> bool
@@ -16,20 +16,18 @@ pub fn model_right(s: Settings, b: &[u8]) -> bool
         return false;
     }
     let refr = num::u64_at(b, 752);
-    (refr < 65536) & (refr < num::wide32(s.rows)) & channel_right(s, 65535, 256, 1, b)
+    (refr < 65536) & (refr < u64::from(s.rows)) & channel_right(s, 65535, 256, 1, b)
 }
 
 // The model's REFR.
-pub fn refr_at(b: &[u8]) -> u32
-    requires { length b.now ≡ 792 }
+pub fn refr_at(b: &ModelBytes) -> u32
     ensures { result ≡ (model_in b.now).refr }
 {
     num::u16_at(b, 752)
 }
 
 // The data of the older waiting write.
-pub fn data_at(b: &[u8]) -> Dualoct
-    requires { length b.now ≡ 792 }
+pub fn data_at(b: &ModelBytes) -> Dualoct
     ensures { result ≡ (model_in b.now).bytes }
 {
     Dualoct {
@@ -39,8 +37,7 @@ pub fn data_at(b: &[u8]) -> Dualoct
 }
 
 // The data of the newer one.
-pub fn second_at(b: &[u8]) -> Dualoct
-    requires { length b.now ≡ 792 }
+pub fn second_at(b: &ModelBytes) -> Dualoct
     ensures { result ≡ (model_in b.now).second }
 {
     Dualoct {

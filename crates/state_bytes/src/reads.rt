@@ -69,8 +69,8 @@ fn write_at(b: &[u8], p: usize) -> Write
     ensures { result ≡ write_in b.now p }
 {
     Write {
-        bank: num::wide(b[p]),
-        column: num::wide(b[p + 1]),
+        bank: u32::from(b[p]),
+        column: u32::from(b[p + 1]),
         at: instant_at(b, p + 4),
         close: num::u16_at(b, p + 2) == 1,
     }

@@ -16,10 +16,8 @@ fn tops(b: &[u8], at: usize, n: usize) -> u32
     ensures { (k : ℕ) → k < n → number (part b.now (at + 4 * k) 4) ≤ result }
 {
     let mut top: u32 = 0;
-    let mut i = 0;
-    while i < n {
+    for i in 0..n {
         top = top | num::u32_at(b, at + 4 * i);
-        i += 1;
     }
     top
 }
@@ -30,10 +28,8 @@ fn all_stored(b: &[u8], at: usize, n: usize) -> bool
     ensures { result ≡ all_stored b.now at n }
 {
     let mut right = true;
-    let mut i = 0;
-    while i < n {
+    for i in 0..n {
         right = right & (num::u32_at(b, at + 4 * i) <= LATEST);
-        i += 1;
     }
     right
 }
@@ -70,13 +66,11 @@ pub(crate) fn tags_right(rows: u32, core: u32, also: u16, b: &[u8]) -> bool
 {
     let most = most_tag(rows);
     let mut right = true;
-    let mut x: u32 = 0;
-    while x < 32 {
+    for x in 0..32u32 {
         let i = x as usize;
         let below = num::half_at(b, 638 + 2 * i);
         let tag = num::half_at(b, 640 + 2 * i);
         right = right & tag_right(core, most, also, x, below, tag);
-        x += 1;
     }
     right
 }
@@ -88,10 +82,10 @@ fn write_right(columns: u32, close: u32, b: &[u8], p: usize) -> bool
     requires p_bound { p + 8 ≤ 752 }
     ensures { result ≡ write_right columns close b.now p }
 {
-    let bank = num::wide(b[p]);
+    let bank = u32::from(b[p]);
     let tag = num::u16_at(b, 640 + 2 * ((bank % 32) as usize));
     let at = num::u32_at(b, p + 4);
-    let fields = (bank < 32) & (num::wide(b[p + 1]) < columns) & (num::u16_at(b, p + 2) <= close);
+    let fields = (bank < 32) & (u32::from(b[p + 1]) < columns) & (num::u16_at(b, p + 2) <= close);
     fields & (tag != 0) & (tag != 65535) & (at != 0) & (at <= LATEST)
 }
 

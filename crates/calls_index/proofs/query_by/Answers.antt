@@ -1,18 +1,18 @@
--- `query_by` meets its contract: each arm is a case of the definition.
+-- `query_by` meets its contract: each way out is a case of the definition.
 use mathlib.Core.Path.{◌∙◌, sym}
 use Rattle.spec_index.specs.Answers.{lent_after}
 use Rattle.spec_calls.specs.Settings.{under_settings}
 use Rattle.calls_index.specs.Results.{index_query_call}
 use Rattle.calls_index.proofs.query_by.Goals as goal
 
-pub returns-in-Refused : goal.returns-in-Refused
+pub returns-in_default : goal.returns-in_default
 unfolding lent_after under_settings index_query_call
-returns-in-Refused c =
-    let e = sym c.read_settings.ensures ∙ c.in-Refused.is in
-    (rw e c.index_answer.ensures, rw e)
+returns-in_default c =
+    let e = sym c.read_settings.ensures ∙ c.in_default.is in
+    (rw e c.from.ensures, rw e)
 
-pub returns-in-Accepted : goal.returns-in-Accepted
+pub returns : goal.returns
 unfolding lent_after under_settings index_query_call
-returns-in-Accepted c =
-    let e = sym c.read_settings.ensures ∙ c.in-Accepted.is in
-    (rw e (rw c.query.ensures.0 at c.index_answer-in-Accepted.ensures), rw e c.query.ensures.1)
+returns c =
+    let e = sym c.read_settings.ensures ∙ c.in-Some.is in
+    (rw e (rw c.query.ensures.0 at c.from-2.ensures), rw e c.query.ensures.1)

@@ -1,5 +1,6 @@
 -- The records of a list, from the last to the first.
 -- Assumes nothing.
+use Rattle.std.specs.Prelude.{None, Some}
 use Prim.Native.Nat.{ℕ, zero, suc, ◌-◌, ◌*◌, ◌≤◌, ◌<◌}
 use mathlib.Core.Path.{◌≡◌, refl, sym, ap, ◌∙◌}
 use mathlib.Core.Bool.{Bool, true, false}
@@ -14,7 +15,6 @@ use Rattle.num.proofs.SearchLaws.{first-before}
 use Rattle.settings.specs.declared.Settings.{Settings}
 use Rattle.record.specs.declared.Record.{Record}
 use Rattle.record.specs.declared.Record.TheVariants.{DataOf}
-use Rattle.record.specs.declared.RecordRead.TheVariants.{NoRecord, Known}
 use Rattle.record.specs.Record.{record_read, is_known, well_formed, record_at, records_in, first_bad}
 use Rattle.spec_rules.specs.Broken.{record_in}
 use Rattle.spec_rules.proofs.Bools.{not-both}
@@ -47,7 +47,7 @@ module _ (s : Settings) (l : List ℕ) where
   none_left n h = let m = records-length (records_in l) in drop_of_length-le (records_up_to s l (records_in l)) {i = n} (omega arith)
 
   -- one record more
-  pub one_more_lem : (i : ℕ) (r : Record) → 0 < i → i ≤ records_in l → record_read s (part l (32 * (i - 1)) 32) ≡ Known r
+  pub one_more_lem : (i : ℕ) (r : Record) → 0 < i → i ≤ records_in l → record_read s (part l (32 * (i - 1)) 32) ≡ Some r
       → r ∷ drop i (records_of s l) ≡ drop (i - 1) (records_of s l)
   unfolding records_of known
   one_more_lem i r p h e =
@@ -57,6 +57,6 @@ module _ (s : Settings) (l : List ℕ) where
       sym (drop-cons (records_up_to s l (records_in l)) (i - 1) d (omega arith) ∙ rw (records-at (records_in l) (i - 1) (omega arith), e, z))
 
   -- every record of a well formed list is one
-  pub is-record : {R : Type 0} (i : ℕ) → first_bad s l ≡ records_in l → i < records_in l → record_read s (part l (32 * i) 32) ≡ NoRecord → R
+  pub is-record : {R : Type 0} (i : ℕ) → first_bad s l ≡ records_in l → i < records_in l → record_read s (part l (32 * i) 32) ≡ None → R
   unfolding first_bad well_formed is_known
   is-record i f h e = not-both (well_formed s (record_at l i)) (first-before (λ i. well_formed s (record_at l i)) (records_in l) i (omega arith)) (ap is_known e)

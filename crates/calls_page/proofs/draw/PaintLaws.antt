@@ -1,11 +1,11 @@
 -- A mark on a page, byte by byte: one cycle, one cycle more, and the page with one record more.
 -- Assumes nothing.
+use Rattle.std.specs.Prelude.{None, Some}
 use Prim.Native.Nat.{ℕ, ◌+◌, ◌-◌, ◌*◌, ◌/◌, ◌%◌, ◌≤◌, ◌<◌}
 use Prim.Native.Char.{code}
 use mathlib.Core.Path.{◌≡◌, refl, sym, ap, ◌∙◌}
 use mathlib.Core.Bool.{Bool, true, false, ◌&&◌, cond}
 use mathlib.Core.List.{List, ◌∷◌}
-use mathlib.Core.Option.{none, some}
 use lib.Dec.{eqb, leb, ltb}
 use lib.ListN.{length, get_or, set, length-set}
 use lib.Seq.{ext_get_or, get_or-set_same, get_or-set_other}
@@ -175,7 +175,7 @@ drawn-page f s rs start l d same =
 -- ---- the characters with one record more
 
 -- on one line
-shown : (b : Bool) (letter other : ℕ) → or_else (cond b (some letter) none) other ≡ cond b letter other
+shown : (b : Bool) (letter other : ℕ) → or_else (cond b (Some letter) None) other ≡ cond b letter other
 shown true letter other = refl
 shown false letter other = refl
 

@@ -2,6 +2,7 @@
 use mathlib.Core.Path.{◌∙◌, sym}
 use native.Mathlib.Omega.{arith}
 use borrow.Author.Tests.{eq-eqb, ne_eqb, le-leb, lt-leb}
+use Rattle.std.proofs.lemmas.Result.{err_from_is_err_and}
 use Rattle.settings.specs.Instants.{horizon}
 use Rattle.spec_rules.specs.Neighbour.{context_of}
 use Rattle.spec_page.specs.Page.{page_bytes}
@@ -24,18 +25,19 @@ unfolding page_answer room_for
 returns-then-room-lt-PAGE c =
     let a = c.args in
     let z = c.if-list-ne0.false in
-    rw (eq-eqb _ 0 z, le-leb a.start horizon (omega arith), whole-list (context_of a.s) a.list.now z (sym c.check_list.ensures ∙ c.in-Passed.is), lt-leb page_bytes a.room (omega arith))
+    rw (eq-eqb _ 0 z, le-leb a.start horizon (omega arith), whole-list (context_of a.s) a.list.now z (sym c.check_list.ensures ∙ c.in_ok-check_list.was), lt-leb page_bytes a.room (omega arith))
 
-pub returns-in-Refused : goal.returns-in-Refused
+pub returns-in_err-check_list : goal.returns-in_err-check_list
 unfolding page_answer room_for
-returns-in-Refused c =
+returns-in_err-check_list c =
     let a = c.args in
     let z = c.if-list-ne0.false in
-    rw (eq-eqb _ 0 z, le-leb a.start horizon (omega arith), whole-list (context_of a.s) a.list.now z (sym c.check_list.ensures ∙ c.in-Refused.is))
+    let p = err_from_is_err_and c.from_residual.result c.from_residual.ensures.1 in
+    rw (p.1, p.2, eq-eqb _ 0 z, le-leb a.start horizon (omega arith), whole-list (context_of a.s) a.list.now z (sym c.check_list.ensures ∙ c.in_err-check_list.was))
 
-pub returns-else-room-lt-PAGE : goal.returns-else-room-lt-PAGE
+pub returns : goal.returns
 unfolding page_answer room_for
-returns-else-room-lt-PAGE c =
+returns c =
     let a = c.args in
     let z = c.if-list-ne0.false in
-    rw (eq-eqb _ 0 z, le-leb a.start horizon (omega arith), whole-list (context_of a.s) a.list.now z (sym c.check_list.ensures ∙ c.in-Passed.is), le-leb page_bytes a.room (omega arith))
+    rw (eq-eqb _ 0 z, le-leb a.start horizon (omega arith), whole-list (context_of a.s) a.list.now z (sym c.check_list.ensures ∙ c.in_ok-check_list.was), le-leb page_bytes a.room (omega arith))

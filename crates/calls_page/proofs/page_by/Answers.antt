@@ -4,14 +4,14 @@ use Rattle.spec_calls.specs.Settings.{under_settings}
 use Rattle.calls_page.specs.Results.{page_lent, page_call}
 use Rattle.calls_page.proofs.page_by.Goals as goal
 
-pub returns-in-Refused : goal.returns-in-Refused
+pub returns-in_default : goal.returns-in_default
 unfolding under_settings page_call page_lent
-returns-in-Refused c =
-    let e = sym c.read_settings.ensures ∙ c.in-Refused.is in
-    (rw e c.check_answer.ensures, rw e)
+returns-in_default c =
+    let e = sym c.read_settings.ensures ∙ c.in_default.is in
+    (rw e c.from.ensures, rw e)
 
-pub returns-in-Accepted : goal.returns-in-Accepted
+pub returns : goal.returns
 unfolding under_settings page_call
-returns-in-Accepted c =
-    let e = sym c.read_settings.ensures ∙ c.in-Accepted.is in
-    (rw e (rw c.put_page.ensures.0 at c.check_answer-in-Accepted.ensures), rw e (rw c.put_page.ensures.0 at c.put_page.ensures.1))
+returns c =
+    let e = sym c.read_settings.ensures ∙ c.in-Some.is in
+    (rw e (rw c.put_page.ensures.0 at c.from-2.ensures), rw e (rw c.put_page.ensures.0 at c.put_page.ensures.1))

@@ -5,10 +5,10 @@ use Rattle.plan_bytes.proofs.calm.CalmLaws.{calm-below}
 use Rattle.calls_plan.proofs.CallLaws.{turned-back}
 use Rattle.calls_plan.proofs.plan_under.Goals as goal
 
-pub returns-then-planner-ne-PLANNER_BYTES : goal.returns-then-planner-ne-PLANNER_BYTES
-returns-then-planner-ne-PLANNER_BYTES c =
+pub returns-in_default : goal.returns-in_default
+returns-in_default c =
     let a = c.args in
-    let all = turned-back a.s a.planner.now a.request.now a.room.now (planner-length-wrong a.s a.planner.now c.if-planner-ne-PLANNER_BYTES.true) _ c.answer.ensures in
+    let all = turned-back a.s a.planner.now a.request.now a.room.now (planner-length-wrong a.s a.planner.now c.in_default.ensures.cases) _ c.answer.ensures in
     record {
       value = all.0;
       planner_after = all.1.0;
@@ -18,10 +18,10 @@ returns-then-planner-ne-PLANNER_BYTES c =
 pub returns-then-not-right : goal.returns-then-not-right
 returns-then-not-right c =
     let a = c.args in
-    let all = turned-back a.s a.planner.now a.request.now a.room.now (sym c.right.ensures ∙ c.if-not-right.true) _ c.answer-then-not-right.ensures in
+    let all = turned-back a.s a.planner.now a.request.now a.room.now (sym (rw c.in-Some.ensures.cases.same at c.right.ensures) ∙ c.if-not-right.true) _ c.answer-then-not-right.ensures in
     record {
       value = all.0;
-      planner_after = all.1.0;
+      planner_after = rw c.in-Some.ensures.cases.same all.1.0;
       room_after = all.1.1;
     }
 
@@ -31,12 +31,4 @@ asked-requires c =
       s_value = c.requires;
       planner_value = sym c.right.ensures ∙ c.if-not-right.false;
       below = λ e. calm-below _ (sym c.calm-quick.ensures ∙ e);
-    }
-
-pub returns : goal.returns
-returns c =
-    record {
-      value = c.asked.ensures.value;
-      planner_after = c.asked.ensures.planner_after;
-      room_after = c.asked.ensures.room_after;
     }

@@ -6,12 +6,5 @@ use Rattle.calls_plan.proofs.right.Goals as goal
 pub planner_rest_right-requires : goal.planner_rest_right-requires
 planner_rest_right-requires c =
     record {
-      b_len = c.requires.b_len;
       b_value = calm-stored c.args.b.now (sym c.requires.quick_value ∙ c.if-quick.true);
     }
-
-pub returns-then-quick : goal.returns-then-quick
-returns-then-quick c = c.planner_rest_right.ensures
-
-pub returns : goal.returns
-returns c = c.planner_right.ensures

@@ -4,4 +4,4 @@ use Rattle.calls_shortest.proofs.in_numbers.Goals as goal
 
 pub returns : goal.returns
 unfolding in_numbers
-returns c = rw c.check_answer-a.ensures
+returns c = rw c.from-a.ensures

@@ -4,12 +4,12 @@ use Rattle.spec_calls.specs.Settings.{under_settings}
 use Rattle.calls_shortest.specs.Results.{shortest_call}
 use Rattle.calls_shortest.proofs.shortest_by.Goals as goal
 
-pub returns-in-Refused : goal.returns-in-Refused
+pub returns-in_default : goal.returns-in_default
 unfolding under_settings shortest_call
-returns-in-Refused c = rw (sym c.read_settings.ensures ∙ c.in-Refused.is) c.in_numbers.ensures
+returns-in_default c = rw (sym c.read_settings.ensures ∙ c.in_default.is) c.in_numbers.ensures
 
-pub returns-in-Accepted : goal.returns-in-Accepted
+pub returns : goal.returns
 unfolding under_settings shortest_call
-returns-in-Accepted c =
-    rw (sym c.read_settings.ensures ∙ c.in-Accepted.is)
-    (rw c.check_shortest.ensures at c.in_numbers-in-Accepted.ensures)
+returns c =
+    rw (sym c.read_settings.ensures ∙ c.in-Some.is)
+    (rw c.check_shortest.ensures at c.in_numbers-2.ensures)

@@ -2,10 +2,10 @@
 use Rattle.calls_word.specs.Words.{col_answer}
 use Rattle.calls_word.proofs.col_answer.Goals as goal
 
-pub returns-in-NoCol : goal.returns-in-NoCol
+pub returns-in-None : goal.returns-in-None
 unfolding col_answer
-returns-in-NoCol c = rw c.in-NoCol.is c.no_packet.ensures
+returns-in-None c = rw c.in-None.is c.from.ensures
 
-pub returns-in-Col : goal.returns-in-Col
+pub returns-in-Some : goal.returns-in-Some
 unfolding col_answer
-returns-in-Col c = rw c.in-Col.is c.col_numbers.ensures
+returns-in-Some c = rw c.in-Some.is c.from-in-Some.ensures

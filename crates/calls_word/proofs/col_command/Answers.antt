@@ -1,16 +1,18 @@
--- `col_command` meets its contract: the tests are the definition's, in their order.
-use borrow.Author.Tests.{eq-eqb, ne_eqb}
+-- `col_command` meets its contract: each arm is a case of the definition.
+use native.Mathlib.Omega.{arith}
+use mathlib.Core.Logic.{⊎_elim}
+use borrow.Author.Tests.{ne_eqb}
 use Rattle.calls_word.specs.Words.{col_command}
 use Rattle.calls_word.proofs.col_command.Goals as goal
 
-pub returns-then-command-eq4 : goal.returns-then-command-eq4
+pub returns-in-4 : goal.returns-in-4
 unfolding col_command
-returns-then-command-eq4 c = rw (eq-eqb _ 4 c.if-command-eq4.true)
+returns-in-4 c = rw c.in-4.is
 
-pub returns-then-command : goal.returns-then-command
+pub returns-in-5 : goal.returns-in-5
 unfolding col_command
-returns-then-command c = rw (ne_eqb _ 4 c.if-command-eq4.false, c.if-command.true)
+returns-in-5 c = ⊎_elim (λ e. rw e) (λ e. rw e) c.in-5.is
 
-pub returns : goal.returns
+pub returns-in_default : goal.returns-in_default
 unfolding col_command
-returns c = rw (ne_eqb _ 4 c.if-command-eq4.false, c.if-command.false)
+returns-in_default c = rw (ne_eqb c.args.command 4 (λ e. omega arith), ne_eqb c.args.command 5 (λ e. grind arith), ne_eqb c.args.command 7 (λ e. grind arith))

@@ -4,10 +4,10 @@ use Rattle.spec_calls.specs.Settings.{under_settings}
 use Rattle.calls_word.specs.Words.{word_decode_call}
 use Rattle.calls_word.proofs.decode_by.Goals as goal
 
-pub returns-in-Refused : goal.returns-in-Refused
+pub returns-in_default : goal.returns-in_default
 unfolding under_settings word_decode_call
-returns-in-Refused c = rw (sym c.read_settings.ensures ∙ c.in-Refused.is) c.no_packet.ensures
+returns-in_default c = rw (sym c.read_settings.ensures ∙ c.in_default.is) c.from.ensures
 
-pub returns-in-Accepted : goal.returns-in-Accepted
+pub returns : goal.returns
 unfolding under_settings word_decode_call
-returns-in-Accepted c = rw (sym c.read_settings.ensures ∙ c.in-Accepted.is) c.packet_answer.ensures
+returns c = rw (sym c.read_settings.ensures ∙ c.in-Some.is) c.packet_answer.ensures

@@ -8,14 +8,14 @@ use Rattle.calls_word.proofs.encode_by.Goals as goal
 
 pub command_coded-requires : goal.command_coded-requires
 command_coded-requires c =
-    let e = sym c.read_settings.ensures ∙ c.in-Accepted.is in
+    let e = sym c.read_settings.ensures ∙ c.in-Some.is in
     let b = bounds _ (accepted-valid _ _ e) in
     omega arith
 
-pub returns-in-Refused : goal.returns-in-Refused
+pub returns-in_default : goal.returns-in_default
 unfolding under_settings word_encode_call
-returns-in-Refused c = rw (sym c.read_settings.ensures ∙ c.in-Refused.is) c.no_word.ensures
+returns-in_default c = rw (sym c.read_settings.ensures ∙ c.in_default.is) c.from.ensures
 
-pub returns-in-Accepted : goal.returns-in-Accepted
+pub returns : goal.returns
 unfolding under_settings word_encode_call
-returns-in-Accepted c = rw (sym c.read_settings.ensures ∙ c.in-Accepted.is, ← c.command_coded.ensures, ← c.why_no_word-why.ensures) c.word_answer.ensures
+returns c = rw (sym c.read_settings.ensures ∙ c.in-Some.is, ← c.command_coded.ensures, ← c.why_no_word-why.ensures) c.word_answer.ensures

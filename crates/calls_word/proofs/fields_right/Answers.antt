@@ -1,20 +1,21 @@
--- `fields_right` meets its contract: the tests are the definition's, in their order.
-use borrow.Author.Tests.{eq-eqb, ne_eqb, le-leb, lt-leb}
+-- `fields_right` meets its contract: each arm is a case of the definition.
+use native.Mathlib.Omega.{arith}
+use borrow.Author.Tests.{ne_eqb, le-leb, lt-leb}
 use Rattle.calls_word.specs.Words.{fields_right}
 use Rattle.calls_word.proofs.fields_right.Goals as goal
 
-pub returns-then-command-eq0 : goal.returns-then-command-eq0
+pub returns-in-0 : goal.returns-in-0
 unfolding fields_right
-returns-then-command-eq0 c = rw (eq-eqb _ 0 c.if-command-eq0.true)
+returns-in-0 c = rw c.in-0.is
 
-pub returns-then-command-le3 : goal.returns-then-command-le3
+pub returns-in-1-to-3 : goal.returns-in-1-to-3
 unfolding fields_right
-returns-then-command-le3 c = rw (ne_eqb _ 0 c.if-command-eq0.false, le-leb _ 3 c.if-command-le3.true) c.both.ensures
+returns-in-1-to-3 c = rw (ne_eqb c.args.command 0 (λ e. omega arith), le-leb c.args.command 3 (omega arith))
 
-pub returns-then-command-eq4 : goal.returns-then-command-eq4
+pub returns-in-4 : goal.returns-in-4
 unfolding fields_right
-returns-then-command-eq4 c = rw (ne_eqb _ 0 c.if-command-eq0.false, lt-leb _ 3 c.if-command-le3.false, eq-eqb _ 4 c.if-command-eq4.true) c.both-then-command-eq4.ensures
+returns-in-4 c = rw c.in-4.is
 
-pub returns : goal.returns
+pub returns-in_default : goal.returns-in_default
 unfolding fields_right
-returns c = rw (ne_eqb _ 0 c.if-command-eq0.false, lt-leb _ 3 c.if-command-le3.false, ne_eqb _ 4 c.if-command-eq4.false)
+returns-in_default c = rw (ne_eqb c.args.command 0 (λ e. omega arith), lt-leb c.args.command 3 (omega arith), ne_eqb c.args.command 4 (λ e. omega arith))

@@ -13,4 +13,4 @@ returns-then-kind-eq1 c = rw (ne_eqb _ 0 c.if-kind-eq0.false, eq-eqb _ 1 c.if-ki
 
 pub returns : goal.returns
 unfolding packet_answer
-returns c = rw (ne_eqb _ 0 c.if-kind-eq0.false, ne_eqb _ 1 c.if-kind-eq1.false) c.no_packet.ensures
+returns c = rw (ne_eqb _ 0 c.if-kind-eq0.false, ne_eqb _ 1 c.if-kind-eq1.false) c.from.ensures

@@ -2,10 +2,10 @@
 use Rattle.calls_word.specs.Words.{row_answer}
 use Rattle.calls_word.proofs.row_answer.Goals as goal
 
-pub returns-in-NoRow : goal.returns-in-NoRow
+pub returns-in-None : goal.returns-in-None
 unfolding row_answer
-returns-in-NoRow c = rw c.in-NoRow.is c.no_packet.ensures
+returns-in-None c = rw c.in-None.is c.from.ensures
 
-pub returns-in-Row : goal.returns-in-Row
+pub returns-in-Some : goal.returns-in-Some
 unfolding row_answer
-returns-in-Row c = rw c.in-Row.is c.row_numbers.ensures
+returns-in-Some c = rw c.in-Some.is c.from-in-Some.ensures

@@ -1,20 +1,21 @@
--- `row_command` meets its contract: the tests are the definition's, in their order.
-use borrow.Author.Tests.{eq-eqb, ne_eqb}
+-- `row_command` meets its contract: each arm is a case of the definition.
+use native.Mathlib.Omega.{arith}
+use borrow.Author.Tests.{ne_eqb}
 use Rattle.calls_word.specs.Words.{row_command}
 use Rattle.calls_word.proofs.row_command.Goals as goal
 
-pub returns-then-command-eq0 : goal.returns-then-command-eq0
+pub returns-in-0 : goal.returns-in-0
 unfolding row_command
-returns-then-command-eq0 c = rw (eq-eqb _ 0 c.if-command-eq0.true)
+returns-in-0 c = rw c.in-0.is
 
-pub returns-then-command-eq1 : goal.returns-then-command-eq1
+pub returns-in-1 : goal.returns-in-1
 unfolding row_command
-returns-then-command-eq1 c = rw (ne_eqb _ 0 c.if-command-eq0.false, eq-eqb _ 1 c.if-command-eq1.true)
+returns-in-1 c = rw c.in-1.is
 
-pub returns-then-command-eq2 : goal.returns-then-command-eq2
+pub returns-in-2 : goal.returns-in-2
 unfolding row_command
-returns-then-command-eq2 c = rw (ne_eqb _ 0 c.if-command-eq0.false, ne_eqb _ 1 c.if-command-eq1.false, eq-eqb _ 2 c.if-command-eq2.true)
+returns-in-2 c = rw c.in-2.is
 
-pub returns : goal.returns
+pub returns-in_default : goal.returns-in_default
 unfolding row_command
-returns c = rw (ne_eqb _ 0 c.if-command-eq0.false, ne_eqb _ 1 c.if-command-eq1.false, ne_eqb _ 2 c.if-command-eq2.false)
+returns-in_default c = rw (ne_eqb c.args.command 0 (λ e. omega arith), ne_eqb c.args.command 1 (λ e. omega arith), ne_eqb c.args.command 2 (λ e. omega arith))

@@ -1,5 +1,4 @@
 -- `why_no_word` meets its contract: the tests are the definition's, in their order.
-use mathlib.Core.Path.{◌∙◌, sym}
 use borrow.Author.Tests.{le-leb, lt-leb}
 use Rattle.calls_word.specs.Words.{why_no_word}
 use Rattle.calls_word.proofs.why_no_word.Goals as goal
@@ -8,14 +7,14 @@ pub returns-then-bank-gt31 : goal.returns-then-bank-gt31
 unfolding why_no_word
 returns-then-bank-gt31 c = rw (lt-leb _ 31 c.if-bank-gt31.true)
 
-pub returns-then-both : goal.returns-then-both
+pub returns-then-command-s : goal.returns-then-command-s
 unfolding why_no_word
-returns-then-both c = rw (le-leb _ 31 c.if-bank-gt31.false, sym c.both.ensures ∙ c.if-both.true)
+returns-then-command-s c = rw (le-leb _ 31 c.if-bank-gt31.false, c.if-command-s.true)
 
-pub returns-then-both-2 : goal.returns-then-both-2
+pub returns-then-column-s : goal.returns-then-column-s
 unfolding why_no_word
-returns-then-both-2 c = rw (le-leb _ 31 c.if-bank-gt31.false, sym c.both.ensures ∙ c.if-both.false, sym c.both-2.ensures ∙ c.if-both-2.true)
+returns-then-column-s c = rw (le-leb _ 31 c.if-bank-gt31.false, c.if-command-s.false, c.if-column-s.true)
 
 pub returns : goal.returns
 unfolding why_no_word
-returns c = rw (le-leb _ 31 c.if-bank-gt31.false, sym c.both.ensures ∙ c.if-both.false, sym c.both-2.ensures ∙ c.if-both-2.false)
+returns c = rw (le-leb _ 31 c.if-bank-gt31.false, c.if-command-s.false, c.if-column-s.false)

@@ -2,10 +2,10 @@
 use Rattle.calls_word.specs.Words.{word_answer}
 use Rattle.calls_word.proofs.word_answer.Goals as goal
 
-pub returns-in-NoWord : goal.returns-in-NoWord
+pub returns-in-None : goal.returns-in-None
 unfolding word_answer
-returns-in-NoWord c = rw c.in-NoWord.is c.no_word.ensures
+returns-in-None c = rw c.in-None.is c.from.ensures
 
-pub returns-in-Word : goal.returns-in-Word
+pub returns-in-Some : goal.returns-in-Some
 unfolding word_answer
-returns-in-Word c = rw c.in-Word.is
+returns-in-Some c = rw c.in-Some.is

@@ -1,11 +1,9 @@
 -- The rules as tests on what one record concerns: of a packet its view, its PRER, the waiting writes, the last instants of the
 -- channel and the tracks of five banks. The laws in proofs/ say that these tests are those of the tracked state.
 -- Assumes nothing.
-use Rattle.std.specs.Prelude.{ℕ, suc, ◌+◌, ◌-◌, Bool, true, false, not, ◌&&◌, ◌||◌, cond, List, [], ◌∷◌, ◌++◌, eqb, leb, get_or}
+use Rattle.std.specs.Prelude.{ℕ, suc, ◌+◌, ◌-◌, Bool, true, false, not, ◌&&◌, ◌||◌, cond, List, [], ◌∷◌, ◌++◌, eqb, leb, get_or, None, Option, Some}
 use Rattle.settings.specs.declared.Settings.{Settings}
 use Rattle.settings.specs.declared.DataAt.{DataAt}
-use Rattle.settings.specs.declared.Arrival.{Arrival}
-use Rattle.settings.specs.declared.Arrival.TheVariants.{Late, At}
 use Rattle.settings.specs.Instants.{horizon, is_instant}
 use Rattle.spec_rules.specs.declared.BankTrack.{BankTrack}
 use Rattle.spec_rules.specs.declared.LastInstants.{LastInstants}
@@ -33,14 +31,14 @@ act_over s l b = max_up_to (act_term s l b) 32
 -- ---- instants of data
 
 -- whether data come in time
-unfoldable pub in_time : Arrival → Bool
-in_time Late = false
-in_time (At t) = true
+unfoldable pub in_time : Option DataAt → Bool
+in_time None = false
+in_time (Some t) = true
 
 -- whether data come at this instant
-unfoldable pub comes_at : DataAt → Arrival → Bool
-comes_at t Late = false
-comes_at t (At u) = eqb t.0 u.0
+unfoldable pub comes_at : DataAt → Option DataAt → Bool
+comes_at t None = false
+comes_at t (Some u) = eqb t.0 u.0
 
 -- the data of an RD or WR are in time
 abbrev pub data_in_time : Settings → View → Bool

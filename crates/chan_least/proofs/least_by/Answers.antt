@@ -1,24 +1,31 @@
 -- `chan_least::least_by` meets its contract: with what leaves, and where nothing does.
-use mathlib.Core.Path.{sym, ◌∙◌}
+use Prim.Native.Nat.{ℕ, max}
+use mathlib.Core.Path.{◌≡◌, sym, ◌∙◌}
+use native.Mathlib.Omega.{arith}
 use Rattle.chan_least.specs.Form.Least.{least_by}
 use Rattle.chan_least.proofs.least_by.Goals as goal
+
+max_assoc : (a b c : ℕ) → max (max a b) c ≡ max a (max b c)
+max_assoc a b c = omega arith
 
 pub returns-then-leaves_from : goal.returns-then-leaves_from
 unfolding least_by
 returns-then-leaves_from c =
     let e = rw (
-      c.later-free.ensures,
-      c.later.ensures,
+      c.max-free.ensures,
       c.packet_bound.ensures,
-      c.wide32.ensures.0,
+      c.max.ensures,
+      c.from.ensures,
+      max_assoc c.args.now.0 4 _,
     ) at (sym c.leaves_from.ensures ∙ c.if-leaves_from.true) in
     rw (
-      c.later-then-leaves_from.ensures,
+      c.max-then-leaves_from.ensures,
       c.retire_least.ensures,
-      c.later-free.ensures,
-      c.later.ensures,
+      c.max-free.ensures,
       c.packet_bound.ensures,
-      c.wide32.ensures.0,
+      c.max.ensures,
+      c.from.ensures,
+      max_assoc c.args.now.0 4 _,
       e,
     )
 
@@ -26,15 +33,17 @@ pub returns : goal.returns
 unfolding least_by
 returns c =
     let e = rw (
-      c.later-free.ensures,
-      c.later.ensures,
+      c.max-free.ensures,
       c.packet_bound.ensures,
-      c.wide32.ensures.0,
+      c.max.ensures,
+      c.from.ensures,
+      max_assoc c.args.now.0 4 _,
     ) at (sym c.leaves_from.ensures ∙ c.if-leaves_from.false) in
     rw (
-      c.later-free.ensures,
-      c.later.ensures,
+      c.max-free.ensures,
       c.packet_bound.ensures,
-      c.wide32.ensures.0,
+      c.max.ensures,
+      c.from.ensures,
+      max_assoc c.args.now.0 4 _,
       e,
     )

@@ -8,7 +8,7 @@ use Rattle.chan_least.proofs.least_from.Goals as goal
 pub returns-in_default : goal.returns-in_default
 returns-in_default c =
     let long : length c.args.ch.banks ≡ 32 = search (length-of-map, c.well_formed.1.0) in
-    rw (c.later.ensures, c.wide32.ensures.0)
+    rw (c.max.ensures, c.from.ensures)
     (least-data c.args.s c.args.ch (long) c.args.r _ (sym c.seen_of.ensures ∙ c.in_default.is) c.args.now.0)
 
 pub returns : goal.returns

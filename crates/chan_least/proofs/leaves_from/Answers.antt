@@ -2,4 +2,4 @@
 use Rattle.chan_least.proofs.leaves_from.Goals as goal
 
 pub returns : goal.returns
-returns c = rw (c.may_stay.ensures, c.wide32-2.ensures.0, c.wide32.ensures.0)
+returns c = rw (c.may_stay.ensures, c.from-2.ensures, c.from.ensures)

@@ -22,7 +22,7 @@ pub returns-then-v-3 : goal.returns-then-v-3
 unfolding packet_bound
 returns-then-v-3 c =
     rw (
-      c.later.ensures,
+      c.max.ensures,
       c.implied_bound.ensures,
       c.read_bound-read.ensures,
       c.if-v-3.true,

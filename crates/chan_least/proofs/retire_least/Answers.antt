@@ -4,4 +4,4 @@ use Rattle.chan_least.proofs.retire_least.Goals as goal
 
 pub returns : goal.returns
 unfolding retire_least
-returns c = rw (c.later.ensures, c.implied_bound.ensures, c.retire_bound.ensures)
+returns c = rw (c.max.ensures, c.implied_bound.ensures, c.retire_bound.ensures)

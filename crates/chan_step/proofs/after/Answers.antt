@@ -1,8 +1,8 @@
 -- `chan_step::after` meets its contract: the state after a packet, with the PRER that it implies or without one, and after data.
+use Rattle.std.specs.Prelude.{Some}
 use Prim.Native.Nat.{◌+◌}
 use mathlib.Core.Path.{◌≡◌, sym, ◌∙◌}
 use mathlib.Core.Bool.{true}
-use mathlib.Core.Option.{some}
 use native.Mathlib.Omega.{arith}
 use lib.ListN.{length}
 use Rattle.spec_rules.specs.Neighbour.{context_of}
@@ -28,7 +28,7 @@ implied_at-requires c =
 pub returns-then-implies : goal.returns-then-implies
 returns-then-implies c =
     let long : length c.args.ch.banks ≡ 32 = search (length-of-map, c.well_formed.1.0) in
-    let packet-next : let a = c.args in let v = c.in-Packet.v in after (context_of a.s) a.ch a.r ≡ after_implied (context_of a.s) (v.at.0 + a.s.offp) (only c.implies.result (some (centre_of a.s c.held_of-h.result v))) (channel_of c.banks_after.result c.lasts_after.result c.buffer_after.result v.writes) = rw (
+    let packet-next : let a = c.args in let v = c.in-Packet.v in after (context_of a.s) a.ch a.r ≡ after_implied (context_of a.s) (v.at.0 + a.s.offp) (only c.implies.result (Some (centre_of a.s c.held_of-h.result v))) (channel_of c.banks_after.result c.lasts_after.result c.buffer_after.result v.writes) = rw (
       c.implies.ensures,
       c.buffer_after.ensures,
       c.lasts_after.ensures,
@@ -51,7 +51,7 @@ pub returns : goal.returns
 unfolding after_implied
 returns c =
     let long : length c.args.ch.banks ≡ 32 = search (length-of-map, c.well_formed.1.0) in
-    let packet-next : let a = c.args in let v = c.in-Packet.v in after (context_of a.s) a.ch a.r ≡ after_implied (context_of a.s) (v.at.0 + a.s.offp) (only c.implies.result (some (centre_of a.s c.held_of-h.result v))) (channel_of c.banks_after.result c.lasts_after.result c.buffer_after.result v.writes) = rw (
+    let packet-next : let a = c.args in let v = c.in-Packet.v in after (context_of a.s) a.ch a.r ≡ after_implied (context_of a.s) (v.at.0 + a.s.offp) (only c.implies.result (Some (centre_of a.s c.held_of-h.result v))) (channel_of c.banks_after.result c.lasts_after.result c.buffer_after.result v.writes) = rw (
       c.implies.ensures,
       c.buffer_after.ensures,
       c.lasts_after.ensures,

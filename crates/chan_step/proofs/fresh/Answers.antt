@@ -5,4 +5,4 @@ use Rattle.chan_step.proofs.fresh.Goals as goal
 
 pub returns : goal.returns
 unfolding fresh bank_count
-returns c = rw c.unused-banks.ensures
+returns c = rw (c.unused-banks.ensures, c.no_lasts.ensures)

@@ -1,7 +1,6 @@
 -- The last instants and the write buffer after a record. The laws in proofs/ say that these are those of the state after it.
 -- Assumes nothing.
-use Rattle.std.specs.Prelude.{Bool, false, cond}
-use Rattle.std.proofs.Math.Option.{some}
+use Rattle.std.specs.Prelude.{Bool, false, cond, Some}
 use Rattle.settings.specs.declared.Settings.{Settings}
 use Rattle.settings.specs.declared.PacketAt.{PacketAt}
 use Rattle.packet.specs.declared.ColPacket.{ColPacket}
@@ -46,7 +45,7 @@ left_buffer leaves b = buffer_of (cond leaves (rest (waiting_of b)) (waiting_of 
 
 -- with a write behind the older one
 unfoldable pub joined_buffer : Buffer → Write → Buffer
-joined_buffer b w = buffer_of (joined (some w) (waiting_of b))
+joined_buffer b w = buffer_of (joined (Some w) (waiting_of b))
 
 -- after a COL packet, and after a record; leaves says whether the older write does
 unfoldable pub col_buffer : PacketAt → ColPacket → Bool → Buffer → Buffer

@@ -1,5 +1,6 @@
 -- `check_list` meets its contract: where the walk stops says which of the definition's cases holds; the first bad record counts
 -- before a broken rule.
+use Rattle.std.specs.Prelude.{Err}
 use mathlib.Core.Path.{◌≡◌, sym, ◌∙◌, ap}
 use native.Mathlib.Omega.{arith}
 use borrow.Author.Tests.{eq-eqb, ne_eqb}
@@ -8,7 +9,6 @@ use Rattle.spec_rules.proofs.NeighbourLaws.{core-neighbours}
 use Rattle.record.specs.declared.Refusal.TheVariants.{Word, Rule}
 use Rattle.record.specs.Record.{records_in}
 use Rattle.check_walk.specs.declared.Stop.{Stop}
-use Rattle.spec_check.specs.declared.Judged.TheVariants.{Refused}
 use Rattle.spec_check.specs.Check.{list_answer, records_answer, rule_answer}
 use Rattle.check_walk.specs.Form.Walk.{stop_of}
 use Rattle.check_list.proofs.WalkLaws.{list-via, list-within, list-formed}
@@ -43,7 +43,7 @@ returns-then-stop-eq0 c =
     let e = ap (λ (x : Stop). x.at) w in
     let n = c.if-at-n.false in
     let g = list-bad (context_of a.s) a.list.now (λ z. n (e ∙ z)) (sym (ap (λ (x : Stop). x.rule) w) ∙ c.if-stop-eq0.true) in
-    rw (eq-eqb _ 0 c.if-list-ne0.false, ne_eqb _ _ (λ z. n (e ∙ sym g ∙ z)), g) (ap (λ (x : Stop). Refused (Word x.at)) w)
+    rw (eq-eqb _ 0 c.if-list-ne0.false, ne_eqb _ _ (λ z. n (e ∙ sym g ∙ z)), g) (ap (λ (x : Stop). Err (Word x.at)) w)
 
 pub returns-then-bad-n : goal.returns-then-bad-n
 unfolding list_answer records_answer context_of
@@ -59,6 +59,6 @@ returns c =
     let e = ap (λ (x : Stop). x.at) w in
     let g = sym c.first_bad-bad.ensures ∙ c.if-bad-n.false in
     rw (eq-eqb _ 0 c.if-list-ne0.false, eq-eqb _ _ g)
-    (ap (λ (x : Stop). Refused (Rule x.rule x.at)) w
+    (ap (λ (x : Stop). Err (Rule x.rule x.at)) w
     ∙ stop-refused (context_of a.s) _ a.list.now (records_in a.list.now) (core-neighbours a.s) (list-formed a.s a.list.now g) (λ z. c.if-at-n.false (e ∙ z))
     ∙ ap (rule_answer (context_of a.s)) (list-via a.s a.list.now))

@@ -17,9 +17,6 @@ pub returns-then-log-ne0 : goal.returns-then-log-ne0
 unfolding log_answer context_of
 returns-then-log-ne0 c = rw (ne_eqb _ 0 c.if-log-ne0.true)
 
-pub faults-found-requires : goal.faults-found-requires
-faults-found-requires c = omega arith
-
 pub returns-then-block-log : goal.returns-then-block-log
 unfolding log_answer context_of
 returns-then-block-log c =
@@ -28,10 +25,7 @@ returns-then-block-log c =
 
 pub records_in-n-requires : goal.records_in-n-requires
 records_in-n-requires c =
-    record {
-      le_per = fifteen;
-      log_value = sym c.faults-found.ensures.0 ∙ c.if-block-log.false;
-    }
+    record { log_value = sym c.faults-found.ensures.0 ∙ c.if-block-log.false }
 
 pub returns-then-bad-n : goal.returns-then-bad-n
 unfolding log_answer records_answer context_of

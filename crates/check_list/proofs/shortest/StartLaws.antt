@@ -1,10 +1,10 @@
 -- One turn of the search: a start that is tried, and one that need not be.
 -- Assumes nothing.
+use Rattle.std.specs.Prelude.{Option, None, Some}
 use Prim.Native.Nat.{ℕ, zero, suc, ◌-◌, ◌<◌}
 use mathlib.Core.Path.{◌≡◌, refl, sym, ap, ◌∙◌}
 use mathlib.Core.Bool.{Bool, true, false, not, ◌||◌}
 use mathlib.Core.List.{List}
-use mathlib.Core.Option.{Option, none, some}
 use lib.ListN.{length}
 use native.Mathlib.Omega.{arith}
 use borrow.Author.Tests.{ltb-true}
@@ -28,9 +28,9 @@ last-before : (f : ℕ → Bool) (i : ℕ) → 0 < i → f i ≡ false → last_
 last-before f zero h e = absurd (omega arith)
 last-before f (suc m) h e = let q : suc m - 1 ≡ m = omega arith in rw q (last-skips f m e)
 
-no-bank : (o : Option ℕ) → has o ≡ false → o ≡ none
-no-bank none e = refl
-no-bank (some b) e = not-both true refl e
+no-bank : (o : Option ℕ) → has o ≡ false → o ≡ None
+no-bank None e = refl
+no-bank (Some b) e = not-both true refl e
 
 module _ (cx : Context) (rs : List Record) (n j : ℕ) where
   -- what the search knows at i: the start m that it looks for is not after i; and where the flag says so, the run after i is refused

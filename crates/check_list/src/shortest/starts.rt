@@ -12,7 +12,7 @@ ghost use Rattle.check_list.specs.Form.Tried.{tried_at};
 use crate::shortest::Tried;
 use check_walk::walk;
 use packet::RowPacket;
-use record::{Record, RecordRead};
+use record::Record;
 use record_bytes::read_record;
 use settings::Settings;
 
@@ -45,8 +45,8 @@ fn opens_at(s: Settings, list: &[u8], i: usize) -> bool
 {
     let read = read_record(s, list, 32 * i);
     match read {
-        RecordRead::NoRecord => false,
-        RecordRead::Known(r) => opens(r),
+        None => false,
+        Some(r) => opens(r),
     }
 }
 
@@ -87,8 +87,7 @@ pub(crate) fn latest_start(s: Settings, list: &[u8], rule: u32, j: usize) -> usi
     ensures { result ≡ shortest_start (context_of s) (records_of s list.now) rule j }
 {
     let mut early = false;
-    let mut i = j;
-    while 0 < i {
+    for i in (1..=j).rev() {
         if to_try(s, list, i, early) {
             let t = try_from(s, list, rule, i, j);
             if t.found {
@@ -96,7 +95,6 @@ pub(crate) fn latest_start(s: Settings, list: &[u8], rule: u32, j: usize) -> usi
             }
             early = t.early;
         }
-        i -= 1;
     }
     0
 }

@@ -1,5 +1,4 @@
 -- `walk` meets its contract: the state is that after the records passed, each of which is one and breaks no rule.
-use Prim.Native.Nat.{◌-◌}
 use mathlib.Core.Path.{◌≡◌, refl, sym, ◌∙◌, ap}
 use native.Mathlib.Omega.{arith}
 use borrow.Author.Count.{below_more}
@@ -17,7 +16,7 @@ use Rattle.check_walk.proofs.TurnLaws.{Turn, Implied, Stored, formed-here, bank-
 use Rattle.check_walk.proofs.ImpliedLaws.{implied-fits}
 use Rattle.check_walk.proofs.ShortLaws.{Before, read-turn, data-turn}
 use Rattle.check_walk.proofs.walk.Goals as goal
-use Rattle.check_walk.proofs.walk.Goals.{then-not-passes+else-rule-ne0, else-not-passes, then-v, else-v+then-v-2, else-v+else-v-2+then-v-3, else-v+else-v-2+else-v-3+then-v-4, else-v+else-v-2+else-v-3+else-v-4}
+use Rattle.check_walk.proofs.walk.Goals.{then-not-passes+else-rule-ne0, else-not-passes, then-v, else-v+then-v-2, else-v+else-v-2+then-v-3, else-v+else-v-2+else-v-3+then-v-4, else-v+else-v-2+else-v-3+else-v-4, then-leaving, else-leaving}
 
 opened-by : {a b : Latest} → a ≡ b → a.opened ≡ b.opened
 opened-by e = ap (λ (k : Latest). k.opened) e
@@ -128,10 +127,10 @@ returns-then-rule-ne0 c =
     let a = c.args in
     let k = c.loop-i in
     let lt = c.loop-i-test.true in
-    let r = c.in-Known.r in
-    let e = sym (rw c.place_of-at.ensures at c.read_record.ensures) ∙ c.in-Known.is in
+    let r = c.in-Some.r in
+    let e = sym (rw c.place_of-at.ensures at c.read_record.ensures) ∙ c.in-Some.is in
     let ch : Channel = channel_of k.banks k.l k.buffer k.latest.due in
-    let m = c.judge-rule.ensures ∙ ap (λ (x : Channel). judged (context_of a.s) x r) c.channel_of.ensures in
+    let m = c.judge-rule.ensures in
     stop-broken (context_of a.s) a.per a.b.now a.n k.i _ k.invariant.5 lt (formed-here a.s a.per a.b.now a.n k.i lt r e)
     (found_here a.s a.per a.b.now a.n k.i lt r e ch k.invariant.1 ∙ sym m) c.if-rule-ne0.true
 
@@ -140,10 +139,10 @@ banks_implied-banks-requires c =
     let a = c.args in
     let k = c.loop-i in
     let lt = c.loop-i-test.true in
-    let r = c.in-Known.r in
-    let e = sym (rw c.place_of-at.ensures at c.read_record.ensures) ∙ c.in-Known.is in
+    let r = c.in-Some.r in
+    let e = sym (rw c.place_of-at.ensures at c.read_record.ensures) ∙ c.in-Some.is in
     let ch : Channel = channel_of k.banks k.l k.buffer k.latest.due in
-    let zero : judged (context_of a.s) ch r ≡ 0 = sym (c.judge-rule.ensures ∙ ap (λ (n : Channel). judged (context_of a.s) n r) c.channel_of.ensures) ∙ c.if-rule-ne0.false in
+    let zero : judged (context_of a.s) ch r ≡ 0 = sym c.judge-rule.ensures ∙ c.if-rule-ne0.false in
     λ q. let fits = implied-fits a.s ch r zero q in omega arith
 
 pub lasts_implied-l-requires : goal.lasts_implied-l-requires
@@ -151,10 +150,10 @@ lasts_implied-l-requires c =
     let a = c.args in
     let k = c.loop-i in
     let lt = c.loop-i-test.true in
-    let r = c.in-Known.r in
-    let e = sym (rw c.place_of-at.ensures at c.read_record.ensures) ∙ c.in-Known.is in
+    let r = c.in-Some.r in
+    let e = sym (rw c.place_of-at.ensures at c.read_record.ensures) ∙ c.in-Some.is in
     let ch : Channel = channel_of k.banks k.l k.buffer k.latest.due in
-    let zero : judged (context_of a.s) ch r ≡ 0 = sym (c.judge-rule.ensures ∙ ap (λ (n : Channel). judged (context_of a.s) n r) c.channel_of.ensures) ∙ c.if-rule-ne0.false in
+    let zero : judged (context_of a.s) ch r ≡ 0 = sym c.judge-rule.ensures ∙ c.if-rule-ne0.false in
     λ q. let fits = implied-fits a.s ch r zero q in omega arith
 
 pub offset_bounds-banks-x-then-v : goal.offset_bounds-banks-x-then-v
@@ -260,8 +259,8 @@ loop-i-preserved c =
     let a = c.args in
     let k = c.loop-i in
     let lt = c.loop-i-test.true in
-    let r = c.in-Known.r in
-    let e = sym (rw c.place_of-at.ensures at c.read_record.ensures) ∙ c.in-Known.is in
+    let r = c.in-Some.r in
+    let e = sym (rw c.place_of-at.ensures at c.read_record.ensures) ∙ c.in-Some.is in
     let ch : Channel = channel_of k.banks k.l k.buffer k.latest.due in
     let v = c.view_of-v.result in
     let h = c.held_of-h.result in
@@ -280,12 +279,11 @@ loop-i-preserved c =
       waiting = c.slot_of-w.ensures.0;
       second = o.ensures.value;
     } in
-    let tracks = c.tracks_of-k.ensures in
     let test = c.passes.ensures in
     let zero : judged (context_of a.s) ch r ≡ 0 =
     elim c.if-not-passes.branch [
-      | then-not-passes+else-rule-ne0 o ↦ sym (o.judge-rule.ensures ∙ ap (λ (n : Channel). judged (context_of a.s) n r) o.channel_of.ensures) ∙ o.if-rule-ne0.false
-      | else-not-passes o ↦ quick-here t _ _ tracks test o.if-not-passes.false
+      | then-not-passes+else-rule-ne0 o ↦ sym o.judge-rule.ensures ∙ o.if-rule-ne0.false
+      | else-not-passes o ↦ quick-here t _ _ refl test o.if-not-passes.false
     ]
     in
     let m = c.if-not-passes.banks in
@@ -293,7 +291,7 @@ loop-i-preserved c =
     let implied : Implied t m p =
     elim c.if-not-passes.branch [
       | then-not-passes+else-rule-ne0 o ↦ slow-here t m p (o.banks-is ∙ o.banks_implied-banks.ensures) (o.l-is ∙ o.lasts_implied-l.ensures)
-      | else-not-passes o ↦ plain_here t m p (quick-plain t _ _ tracks test o.if-not-passes.false) o.banks-is o.l-is
+      | else-not-passes o ↦ plain_here t m p (quick-plain t _ _ refl test o.if-not-passes.false) o.banks-is o.l-is
     ]
     in
     let n = c.if-v.banks in
@@ -301,10 +299,10 @@ loop-i-preserved c =
     let newest = c.if-v.latest.opened in
     let stored : Stored t m p implied n q newest =
     elim c.if-v.branch [
-      | then-v o ↦ open-here t m p implied n q newest _ o.if-v.true o.opened_track.ensures o.banks-is o.buffer-is (opened-by o.latest-is ∙ o.larger.ensures)
+      | then-v o ↦ open-here t m p implied n q newest _ o.if-v.true o.opened_track.ensures o.banks-is o.buffer-is (opened-by o.latest-is ∙ o.max.ensures)
       | else-v+then-v-2 o ↦ close-here t m p implied n q newest _ _ _ o.if-v.false o.if-v-2.true o.closed_track.ensures o.side_track.ensures o.side_track-then-v-2.ensures o.banks-is o.buffer-is (opened-by o.latest-is)
       | else-v+else-v-2+then-v-3 o ↦ read_here t m p implied n q newest o.if-v.false o.if-v-2.false o.if-v-3.true o.banks-is o.buffer-is (opened-by o.latest-is)
-      | else-v+else-v-2+else-v-3+then-v-4 o ↦ left_here t m p implied n q newest _ _ _ o.if-v.false o.if-v-2.false o.if-v-3.false o.if-v-4.true o.leaving.ensures o.pick.ensures o.buffer_next-buffer.ensures o.banks-is o.buffer-is (opened-by o.latest-is)
+      | else-v+else-v-2+else-v-3+then-v-4 o ↦ left_here t m p implied n q newest _ _ _ o.if-v.false o.if-v-2.false o.if-v-3.false o.if-v-4.true o.leaving.ensures (elim o.if-leaving.branch [ then-leaving w ↦ rw w.if-leaving.true w.retire-is | else-leaving w ↦ rw w.if-leaving.false w.retire-is ]) o.buffer_next-buffer.ensures o.banks-is o.buffer-is (opened-by o.latest-is)
       | else-v+else-v-2+else-v-3+else-v-4 o ↦ none_here t m p implied n q newest o.if-v.false o.if-v-2.false o.if-v-3.false o.if-v-4.false o.banks-is o.buffer-is (opened-by o.latest-is)
     ]
     in

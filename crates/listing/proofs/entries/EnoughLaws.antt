@@ -1,5 +1,6 @@
 -- A plan call under set H makes at most 16 records, so that room for these is as good as any more.
 -- Assumes nothing.
+use Rattle.std.specs.Prelude.{Err, Ok, Result}
 use Prim.Native.Nat.{ℕ, ◌*◌, ◌/◌, ◌≤◌}
 use mathlib.Core.Path.{◌≡◌, refl}
 use mathlib.Core.Bool.{Bool, true, false, cond}
@@ -12,14 +13,10 @@ use Rattle.settings.specs.Bench.{set_of, set_h}
 use Rattle.record.specs.declared.Record.{Record}
 use Rattle.record.specs.declared.Request.{Request}
 use Rattle.record.specs.declared.Refusal.TheVariants.{Horizon, Full, Unretired}
-use Rattle.record.specs.declared.RequestRead.{RequestRead}
-use Rattle.record.specs.declared.RequestRead.TheVariants.{Refused as RefusedRequest, Accepted}
 use Rattle.record.specs.Request.{request_read}
 use Rattle.spec_rules.specs.Neighbour.{Context, context_of}
 use Rattle.spec_rules.proofs.NeighbourLaws.{core-neighbours}
 use Rattle.spec_plan.specs.declared.PlannerState.{PlannerState}
-use Rattle.spec_plan.specs.declared.Outcome.{Outcome}
-use Rattle.spec_plan.specs.declared.Outcome.TheVariants.{Refused, Made}
 use Rattle.spec_plan.specs.Planner.{planner_valid}
 use Rattle.spec_plan.specs.Plan.{planned}
 use Rattle.spec_plan.specs.Call.{timely, outcome_of, unretired, outcome_by, plan_outcome, is_made, draft_by, plan_next, plan_records}
@@ -29,6 +26,7 @@ use Rattle.spec_plan.proofs.Bound.{most}
 use Rattle.spec_plan.proofs.Valid.{next-valid}
 use Rattle.listing_text.specs.Text.{most_records}
 use Rattle.listing.specs.Entries.{room_bytes}
+use Rattle.record.specs.declared.Refusal.{Refusal}
 
 abbrev cx : Context
 cx = context_of set_h
@@ -39,16 +37,16 @@ module _ (p : PlannerState) (v : planner_valid cx p ≡ true) where
   unfolding set_h set_of request_most
   most-planned q u = let m = most set_h p v q u in omega (arith, m.0, m.1)
 
-  outcome-enough : (x : RequestRead) (room : ℕ) → room_bytes ≤ room → outcome_by cx p x room ≡ outcome_by cx p x room_bytes
+  outcome-enough : (x : Result Request Refusal) (room : ℕ) → room_bytes ≤ room → outcome_by cx p x room ≡ outcome_by cx p x room_bytes
   unfolding outcome_by outcome_of
-  outcome-enough (RefusedRequest why) room h = refl
-  outcome-enough (Accepted q) room h = go (unretired q p) refl
+  outcome-enough (Err why) room h = refl
+  outcome-enough (Ok q) room h = go (unretired q p) refl
     where
       l : List Record
       l = (planned cx q p).records
 
-      by : Bool → Bool → Outcome
-      by u f = cond u (Refused Unretired) (cond (timely cx p (planned cx q p)) (cond f (Made (length l)) (Refused Full)) (Refused Horizon))
+      by : Bool → Bool → Result ℕ Refusal
+      by u f = cond u (Err Unretired) (cond (timely cx p (planned cx q p)) (cond f (Ok (length l)) (Err Full)) (Err Horizon))
 
       go : (u : Bool) → unretired q p ≡ u → by u (leb (length l) (room / 32)) ≡ by u (leb (length l) (room_bytes / 32))
       go true e = refl
@@ -69,10 +67,10 @@ module _ (p : PlannerState) (v : planner_valid cx p ≡ true) where
   unfolding plan_records
   records-enough request room h = rw (call-enough request room h)
 
-  made-most : (x : RequestRead) (room : ℕ) → length (cond (is_made (outcome_by cx p x room)) (draft_by cx p x).records []) ≤ most_records
+  made-most : (x : Result Request Refusal) (room : ℕ) → length (cond (is_made (outcome_by cx p x room)) (draft_by cx p x).records []) ≤ most_records
   unfolding outcome_by draft_by is_made
-  made-most (RefusedRequest why) room = omega arith
-  made-most (Accepted q) room = go (unretired q p) refl
+  made-most (Err why) room = omega arith
+  made-most (Ok q) room = go (unretired q p) refl
     where
       l : List Record
       l = (planned cx q p).records
@@ -81,7 +79,7 @@ module _ (p : PlannerState) (v : planner_valid cx p ≡ true) where
       either true h = h
       either false h = omega arith
 
-      go : (u : Bool) → unretired q p ≡ u → length (cond (is_made (cond u (Refused Unretired) (outcome_of cx p (planned cx q p) room))) l []) ≤ most_records
+      go : (u : Bool) → unretired q p ≡ u → length (cond (is_made (cond u (Err Unretired) (outcome_of cx p (planned cx q p) room))) l []) ≤ most_records
       go true e = omega arith
       go false e = either (is_made (outcome_of cx p (planned cx q p) room)) (most-planned q e)
 

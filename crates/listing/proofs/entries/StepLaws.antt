@@ -1,5 +1,6 @@
 -- The loop over an input: planner, records and text are those of the requests before the next one.
 -- Assumes nothing.
+use Rattle.std.specs.Prelude.{Err, Ok, Result}
 use Prim.Native.Nat.{ℕ, suc, ◌+◌, ◌-◌, ◌*◌, ◌/◌, ◌%◌, ◌≤◌, ◌<◌}
 use mathlib.Core.Path.{◌≡◌, refl, sym, ap, ap₂, ◌∙◌}
 use mathlib.Core.Bool.{false}
@@ -17,8 +18,6 @@ use Rattle.record.specs.declared.Record.{Record}
 use Rattle.record.specs.Request.{request_read}
 use Rattle.spec_rules.specs.Neighbour.{Context, context_of}
 use Rattle.spec_plan.specs.declared.PlannerState.{PlannerState}
-use Rattle.spec_plan.specs.declared.Outcome.{Outcome}
-use Rattle.spec_plan.specs.declared.Outcome.TheVariants.{Refused, Made}
 use Rattle.spec_plan.specs.Planner.{fresh_planner}
 use Rattle.spec_plan.specs.PlannerBytes.{planner_bytes}
 use Rattle.spec_plan.specs.Looked.{looked_by}
@@ -39,6 +38,7 @@ use Rattle.listing_text.proofs.LineLaws.{bank-append, column-append}
 use Rattle.listing.specs.Entries.{room_bytes, outcome_text, request_text, request_in, calls_up_to, planner_for, records_listed, text_up_to, most_requests, longest_input, requests_room}
 use Rattle.listing.proofs.entries.EnoughLaws.{call-enough}
 use Rattle.listing.proofs.entries.TurnLaws.{set_h-valid, planner-valid, records-most, planner-more, records-more, at, request-is, turns-most, place-within, planner-turns, records-turns, turns-back, text-turns}
+use Rattle.record.specs.declared.Refusal.{Refusal}
 
 abbrev cx : Context
 cx = context_of set_h
@@ -80,16 +80,16 @@ rest-whole : (l : List ℕ) (n : ℕ) → take (length l - n) (drop n l) ≡ dro
 rest-whole l n = take_all (length l - n) (drop n l) (rw length-drop (omega arith))
 
 -- the number of an answer, whatever it counts
-number-any : (banks : ℕ) (o : Outcome) → (plan_answer banks o).number ≡ (plan_answer 0 o).number
+number-any : (banks : ℕ) (o : Result ℕ Refusal) → (plan_answer banks o).number ≡ (plan_answer 0 o).number
 unfolding plan_answer
-number-any banks (Refused why) = refl
-number-any banks (Made n) = refl
+number-any banks (Err why) = refl
+number-any banks (Ok n) = refl
 
 -- the text of a refused call
-refused-text : (before : List Record) (banks : ℕ) (o : Outcome) (l : List Record) → (plan_answer banks o).number ≢ 0 → outcome_text before o l ≡ refused_line (plan_answer banks o).number
+refused-text : (before : List Record) (banks : ℕ) (o : Result ℕ Refusal) (l : List Record) → (plan_answer banks o).number ≢ 0 → outcome_text before o l ≡ refused_line (plan_answer banks o).number
 unfolding outcome_text plan_answer
-refused-text before banks (Refused why) l e = refl
-refused-text before banks (Made n) l e = absurd (e refl)
+refused-text before banks (Err why) l e = refl
+refused-text before banks (Ok n) l e = absurd (e refl)
 
 module _ {input out₀ : List ℕ} (g : Given input out₀) {planner out : List ℕ} {bank column records end i : ℕ} (k : Listed input out₀ planner out bank column records end i)
     (l : i < length input / 24) (room : List ℕ) (large : length room ≡ room_bytes * most_requests) where
@@ -204,7 +204,7 @@ module _ {input out₀ : List ℕ} (g : Given input out₀) {planner out : List 
       abbrev request : List ℕ
       request = request_in input (i + place)
 
-      abbrev o : Outcome
+      abbrev o : Result ℕ Refusal
       o = plan_outcome cx q request room_bytes
 
       abbrev rest : List ℕ
@@ -217,7 +217,7 @@ module _ {input out₀ : List ℕ} (g : Given input out₀) {planner out : List 
           let space : room_bytes ≤ length rest = omega (arith, length-drop (32 * y.answer.records) y.room, room-kept, large, stands.records-are, made-most, below, rest-length, g.short) in
           let same : (plan_under y.planner (request_at requests place) rest set_h).answer.number ≡ (plan_under (planner_bytes q) request rest set_h).answer.number =
           ap₂ (λ (b r : List ℕ). (plan_under b r rest set_h).answer.number) planned.planner-is (request-is input g.bytes g.short i room enough place) in
-          ap (λ (o : Outcome). (plan_answer 0 o).number) (sym (call-enough q v request (length rest) space))
+          ap (λ (o : Result ℕ Refusal). (plan_answer 0 o).number) (sym (call-enough q v request (length rest) space))
           ∙ sym (number-any (looked_by q (request_read cx.settings request)) (plan_outcome cx q request (length rest)))
           ∙ ap (λ (a : PlanAnswer). a.number) (sym (under-answer set_h set_h-valid q v request rest)) ∙ sym same
           ∙ (at input g.bytes g.short i room enough n requests-fit).refused-again e

@@ -1,6 +1,7 @@
 -- Many requests in one call, from the planner of request i on: what they leave is that of the requests in turn, each with room for
 -- the records of any request, and the lines of their records are their texts.
 -- Assumes nothing.
+use Rattle.std.specs.Prelude.{Err, Ok, Result}
 use Prim.Native.Nat.{ℕ, zero, suc, ◌+◌, ◌*◌, ◌≤◌}
 use mathlib.Core.Path.{◌≡◌, refl, sym, ap, ap₂, ◌∙◌, subst}
 use mathlib.Core.Bool.{Bool, true, false}
@@ -21,8 +22,6 @@ use Rattle.record.specs.declared.Record.{Record}
 use Rattle.spec_rules.specs.Neighbour.{Context, context_of}
 use Rattle.spec_rules.proofs.NeighbourLaws.{core-neighbours}
 use Rattle.spec_plan.specs.declared.PlannerState.{PlannerState}
-use Rattle.spec_plan.specs.declared.Outcome.{Outcome}
-use Rattle.spec_plan.specs.declared.Outcome.TheVariants.{Refused, Made}
 use Rattle.spec_plan.specs.Planner.{fresh_planner, planner_valid}
 use Rattle.spec_plan.specs.PlannerBytes.{planner_bytes}
 use Rattle.spec_plan.specs.Call.{list_bytes, plan_outcome, is_made, accepted, plan_next, plan_records}
@@ -41,6 +40,7 @@ use Rattle.listing_text.specs.Text.{most_records, write_bank_after, write_column
 use Rattle.listing_text.proofs.LineLaws.{bank-append, column-append, lines-append}
 use Rattle.listing.specs.Entries.{room_bytes, outcome_text, request_text, request_in, calls_up_to, planner_for, records_listed, text_up_to, most_requests, longest_input}
 use Rattle.listing.proofs.entries.EnoughLaws.{call-enough, next-enough, records-enough, listed-most}
+use Rattle.record.specs.declared.Refusal.{Refusal}
 
 abbrev cx : Context
 cx = context_of set_h
@@ -122,14 +122,14 @@ last-same a b x y n ea eb e = (
 )
 
 -- the text of an accepted call
-made-text : (before : List Record) (o : Outcome) (l : List Record) → is_made o ≡ true → outcome_text before o l ≡ record_lines (write_bank_after 0 before) (write_column_after 0 before) l
+made-text : (before : List Record) (o : Result ℕ Refusal) (l : List Record) → is_made o ≡ true → outcome_text before o l ≡ record_lines (write_bank_after 0 before) (write_column_after 0 before) l
 unfolding outcome_text is_made
-made-text before (Refused why) l e = absurd (omega (arith, ap (λ (t : Bool). length (records t)) e))
+made-text before (Err why) l e = absurd (omega (arith, ap (λ (t : Bool). length (records t)) e))
   where
     records : Bool → List ℕ
     records true = 0 ∷ []
     records false = []
-made-text before (Made n) l e = refl
+made-text before (Ok n) l e = refl
 
 -- ---- many requests from one on
 

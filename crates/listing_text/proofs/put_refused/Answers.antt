@@ -4,4 +4,4 @@ use Rattle.listing_text.proofs.put_refused.Goals as goal
 
 pub returns : goal.returns
 unfolding codes refused_line
-returns c = rw c.wide32.ensures.0 at c.put_count.ensures
+returns c = rw c.from.ensures at c.put_count.ensures

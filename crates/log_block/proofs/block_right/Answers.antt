@@ -14,7 +14,7 @@ returns-then-not-count_right c = rw (sym c.number_right.ensures ∙ c.if-not-num
 
 pub zeros_right-requires : goal.zeros_right-requires
 zeros_right-requires c =
-    let a = c.args in (search rules, (count-says a.per a.last a.b.now (sym c.count_right.ensures ∙ c.if-not-count_right.false)).1, search rules)
+    let a = c.args in (count-says a.per.records a.last a.b.now (sym c.count_right.ensures ∙ c.if-not-count_right.false)).1
 
 pub returns-then-not-zeros_right : goal.returns-then-not-zeros_right
 unfolding block_right

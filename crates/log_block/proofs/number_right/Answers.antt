@@ -2,4 +2,4 @@
 use Rattle.log_block.proofs.number_right.Goals as goal
 
 pub returns : goal.returns
-returns c = rw (c.wide32.ensures.0, c.u32_at.ensures)
+returns c = rw (c.from.ensures, c.u32_at.ensures)

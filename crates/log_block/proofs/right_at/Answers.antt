@@ -6,4 +6,5 @@ pub returns : goal.returns
 returns c =
     let k = c.args.k in
     let e : 512 * k + 512 - 512 * k ≡ 512 = omega arith in
-    rw e at c.block_right.ensures
+    let whole = rw c.unwrap-b.ensures at c.as_array.ensures.cases in
+    rw (whole.same, e) at c.block_right.ensures

@@ -1,5 +1,6 @@
 -- The fields of a record say the bank that it names.
 -- Assumes nothing.
+use Rattle.std.specs.Prelude.{None, Option, Some}
 use Prim.Native.Nat.{ℕ, zero, suc, ◌+◌, ◌*◌, ◌/◌, ◌%◌, ◌^◌, ◌<◌, ◌≤◌}
 use mathlib.Core.Path.{◌≡◌, refl, sym, ap, ap₂, ◌∙◌}
 use mathlib.Core.Bool.{Bool, true, false, cond, not, ◌&&◌, ◌||◌, true≢false}
@@ -13,16 +14,10 @@ use Rattle.num.proofs.PartLaws.{length_part, part-part, byte_at, Bytes-part}
 use Rattle.num.proofs.SearchLaws.{first-before}
 use Rattle.settings.specs.declared.Settings.{Settings}
 use Rattle.packet.specs.declared.RowPacket.TheVariants.{Act, Prer, Refa, Refp}
-use Rattle.packet.specs.declared.RowDecoded.{RowDecoded}
-use Rattle.packet.specs.declared.RowDecoded.TheVariants.{Row, NoRow}
 use Rattle.packet.specs.declared.ColPacket.TheVariants.{Nocop, Wr, Rd}
-use Rattle.packet.specs.declared.ColDecoded.{ColDecoded}
-use Rattle.packet.specs.declared.ColDecoded.TheVariants.{Col, NoCol}
 use Rattle.packet.specs.Row.{device_head, row_of, row_decoded}
 use Rattle.packet.specs.Col.{mask_said, mask_of, col_of, col_decoded}
 use Rattle.record.specs.declared.Record.TheVariants.{DataOf}
-use Rattle.record.specs.declared.RecordRead.{RecordRead}
-use Rattle.record.specs.declared.RecordRead.TheVariants.{NoRecord, Known}
 use Rattle.record.specs.Record.{is_known, row_record, col_record, record_of, record_read, well_formed, record_at, records_in, first_bad}
 use Rattle.record.proofs.RecordLaws.{field_in, head_in}
 use Rattle.num.proofs.bits.BitLaws.{word_same}
@@ -32,6 +27,9 @@ use Rattle.log_block.proofs.ListThenLog.{used-most, used-few, length-next, part-
 use Rattle.log_block.proofs.ReadLaws.{list-within}
 use Rattle.spec_index.specs.Touched.{some_up_to, row_names, col_names, names, said_names, touches, touched_word}
 use Rattle.log_index.specs.Form.Fields.{fields_name, bank_field, fields_at, fields_up_to, fields_word}
+use Rattle.packet.specs.declared.RowPacket.{RowPacket}
+use Rattle.packet.specs.declared.ColPacket.{ColPacket}
+use Rattle.record.specs.declared.Record.{Record}
 
 none : {P : Type 0} → false ≡ true → P
 none e = absurd (true≢false (sym e))
@@ -39,7 +37,7 @@ none e = absurd (true≢false (sym e))
 -- ---- the tests of a word, by their outcomes
 
 row-tests : (at bank row b : ℕ) (head av low p a r : Bool)
-    → let d : RowDecoded = cond head (cond av (cond low (Row (Act bank row)) NoRow) (cond p (Row (Prer bank)) (cond a (Row (Refa bank)) (cond r (Row (Refp bank)) NoRow)))) NoRow in
+    → let d : Option RowPacket = cond head (cond av (cond low (Some (Act bank row)) None) (cond p (Some (Prer bank)) (cond a (Some (Refa bank)) (cond r (Some (Refp bank)) None)))) None in
     is_known (row_record at d) ≡ true → said_names (row_record at d) b ≡ eqb bank b
 unfolding row_record is_known said_names names row_names
 row-tests at bank row b false av low p a r e = none e
@@ -56,9 +54,9 @@ unfolding row_decoded row_of
 row-bank at device rows w b e = row-tests at (w / 2 ^ 13 % 32) (w % 2 ^ 12) b (eqb (w / 2 ^ 18) (device_head device)) (eqb (w / 2 ^ 12 % 2) 1) (ltb (w % 2 ^ 12) rows) (eqb (w % 2 ^ 12) 0x600) (eqb (w % 2 ^ 12) 0x0C0) (eqb (w % 2 ^ 12) 0x540) e
 
 col-tests : (at bank column mask b : ℕ) (head none_named zeros low w wa r ra : Bool)
-    → let access : ColDecoded =
-    cond w (Col (Wr bank column mask false)) (cond wa (Col (Wr bank column mask true)) (cond r (Col (Rd bank column mask false)) (cond ra (Col (Rd bank column mask true)) NoCol))) in
-    let d : ColDecoded = cond head (cond none_named (cond zeros (Col (Nocop mask)) NoCol) (cond low access NoCol)) NoCol in
+    → let access : Option ColPacket =
+    cond w (Some (Wr bank column mask false)) (cond wa (Some (Wr bank column mask true)) (cond r (Some (Rd bank column mask false)) (cond ra (Some (Rd bank column mask true)) None))) in
+    let d : Option ColPacket = cond head (cond none_named (cond zeros (Some (Nocop mask)) None) (cond low access None)) None in
     is_known (col_record at d) ≡ true → said_names (col_record at d) b ≡ (not none_named && eqb bank b)
 unfolding col_record is_known said_names names col_names
 col-tests at bank column mask b false n z low w wa r ra e = none e
@@ -83,11 +81,11 @@ col-bank at device columns w b e = col-tests at (w / 2 ^ 29 % 32) (w / 2 ^ 21 % 
 abbrev by_fields : ℕ → ℕ → ℕ → Bool
 by_fields head w b = fields_name head w && eqb (bank_field head w) b
 
-said-none : (at x y b : ℕ) → said_names (Known (DataOf (record { 0 = at }) (record { dqa = x; dqb = y }))) b ≡ false
+said-none : (at x y b : ℕ) → said_names (Some (DataOf (record { 0 = at }) (record { dqa = x; dqb = y }))) b ≡ false
 unfolding said_names names
 said-none at x y b = refl
 
-not_known : {P : Type 0} → is_known NoRecord ≡ true → P
+not_known : {P : Type 0} → is_known None ≡ true → P
 unfolding is_known
 not_known e = none e
 
@@ -95,20 +93,20 @@ of_fields : (s : Settings) (at kind w x y b : ℕ) → is_known (record_of s at 
 unfolding record_of
 of_fields s at kind w x y b = go (eqb kind 2) refl (eqb w 0) (eqb x 0 && eqb y 0) (eqb kind 0) refl (eqb kind 1) refl
   where
-    no-bank : said_names (Known (DataOf (record { 0 = at }) (record { dqa = x; dqb = y }))) b ≡ by_fields 2 w b
+    no-bank : said_names (Some (DataOf (record { 0 = at }) (record { dqa = x; dqb = y }))) b ≡ by_fields 2 w b
     no-bank = said-none at x y b
 
-    row : RecordRead
+    row : Option Record
     row = row_record at (row_decoded s.device s.rows w)
 
-    col : RecordRead
+    col : Option Record
     col = col_record at (col_decoded s.device s.columns w)
 
-    dat : RecordRead
-    dat = Known (DataOf (record { 0 = at }) (record { dqa = x; dqb = y }))
+    dat : Option Record
+    dat = Some (DataOf (record { 0 = at }) (record { dqa = x; dqb = y }))
 
     go : (two : Bool) → eqb kind 2 ≡ two → (z d : Bool) → (nought : Bool) → eqb kind 0 ≡ nought → (one : Bool) → eqb kind 1 ≡ one
-        → let r : RecordRead = cond two (cond z dat NoRecord) (cond d (cond nought row (cond one col NoRecord)) NoRecord) in
+        → let r : Option Record = cond two (cond z dat None) (cond d (cond nought row (cond one col None)) None) in
         is_known r ≡ true → said_names r b ≡ by_fields kind w b
     go true p true d nought q one o e = rw (eqb-true kind 2 p) no-bank
     go true p false d nought q one o e = not_known e
@@ -123,11 +121,11 @@ pub fields-said : (s : Settings) (l : List ℕ) (at b : ℕ) → at + 32 ≤ len
 unfolding well_formed record_read fields_at
 fields-said s l at b h g e = go (eqb (number (part (part l at 32) 5 3)) 0) refl e
   where
-    r : RecordRead
+    r : Option Record
     r = record_of s (number (part (part l at 32) 0 4)) (number (part (part l at 32) 4 1)) (number (part (part l at 32) 8 8)) (number (part (part l at 32) 16 8)) (number (part (part l at 32) 24 8))
 
-    go : (t : Bool) → eqb (number (part (part l at 32) 5 3)) 0 ≡ t → is_known (cond t r NoRecord) ≡ true
-        → said_names (cond t r NoRecord) b ≡ by_fields (number (part l (at + 4) 4)) (number (part l (at + 8) 8)) b
+    go : (t : Bool) → eqb (number (part (part l at 32) 5 3)) 0 ≡ t → is_known (cond t r None) ≡ true
+        → said_names (cond t r None) b ≡ by_fields (number (part l (at + 4) 4)) (number (part l (at + 8) 8)) b
     go false q k = not_known k
     go true q k =
         let x : ℕ = number (part l (at + 4) 4) in

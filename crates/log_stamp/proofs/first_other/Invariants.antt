@@ -2,7 +2,7 @@
 use mathlib.Core.List.{List}
 use mathlib.Core.Path.{◌≡◌}
 use mathlib.Core.Bool.{Bool, true}
-use Prim.Native.Nat.{ℕ, ◌-◌, ◌<◌, ◌≤◌}
+use Prim.Native.Nat.{ℕ, ◌<◌}
 use Rattle.log_stamp.specs.Stamp.{stamp_at, same_stamp}
 use Rattle.log_stamp.proofs.first_other.Given as goal
 
@@ -11,7 +11,4 @@ abbrev same_at : List ℕ → ℕ → Bool
 same_at log k = same_stamp (stamp_at log k) (stamp_at log 0)
 
 abbrev pub invariant-loop-k : goal.invariant-loop-k
-invariant-loop-k l = (l.k ≤ l.n) × ((i : ℕ) → i < l.k → same_at l.log i ≡ true)
-
-abbrev pub decreases-loop-k : goal.decreases-loop-k
-decreases-loop-k l = l.n - l.k
+invariant-loop-k l = (i : ℕ) → i < l.k → same_at l.log i ≡ true

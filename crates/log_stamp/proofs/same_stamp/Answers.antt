@@ -1,6 +1,5 @@
 -- `same_stamp` meets its contract: the bytes before index i are compared in every turn.
 use mathlib.Core.Path.{◌≡◌}
-use Prim.Native.Nat.{◌-◌}
 use native.Mathlib.Omega.{arith}
 use lib.Dec.{eqb}
 use lib.ListN.{get_or}
@@ -12,11 +11,11 @@ use Rattle.log_stamp.proofs.same_stamp.Goals as goal
 pub loop-i-preserved : goal.loop-i-preserved
 loop-i-preserved c =
     let a = c.args in
-    (search rules, rw (all-next (λ j. eqb (get_or a.a.now j 0) (get_or a.b.now j 0)) c.loop-i.i, c.loop-i.invariant.1))
+    rw (all-next (λ j. eqb (get_or a.a.now j 0) (get_or a.b.now j 0)) c.loop-i.i, c.loop-i.invariant)
 
 pub returns : goal.returns
 returns c =
-    let e : c.loop-i.i ≡ 32 = omega arith in rw e at c.loop-i.invariant.1
+    let e : c.loop-i.i ≡ 32 = omega arith in rw e at c.loop-i.invariant
 
 pub loop-i-init : goal.loop-i-init
 unfolding all_up_to

@@ -6,13 +6,13 @@ use Rattle.log_stamp.proofs.tested.Goals as goal
 pub tested_under-requires : goal.tested_under-requires
 tested_under-requires c =
     let log = c.args.log.now in
-    let e = sym c.settings_of.ensures ∙ c.in-Accepted.is in
+    let e = sym c.settings_of.ensures ∙ c.in-Some.is in
     record {
       log_value = said-range log _ e;
       s_value = said-is log _ e;
     }
 
-pub returns-in-Refused : goal.returns-in-Refused
-returns-in-Refused c =
+pub returns-in-None : goal.returns-in-None
+returns-in-None c =
     let log = c.args.log.now in
-    none-answer log (sym c.settings_of.ensures ∙ c.in-Refused.is) _ c.unstamped.ensures
+    none-answer log (sym c.settings_of.ensures ∙ c.in-None.is) _ c.unstamped.ensures

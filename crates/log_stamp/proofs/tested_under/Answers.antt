@@ -1,4 +1,5 @@
 -- `tested_under` meets its contract: the tests are the definition's, in their order.
+use Rattle.std.specs.Prelude.{Ok}
 use mathlib.Core.Path.{◌∙◌, sym, ap}
 use native.Mathlib.Omega.{arith}
 use borrow.Author.Tests.{eq-eqb, ne_eqb}
@@ -6,7 +7,6 @@ use Rattle.settings.specs.declared.Settings.{Settings}
 use Rattle.record.specs.Record.{first_bad}
 use Rattle.log_block.specs.Block.{list_of}
 use Rattle.log_list.proofs.BadLaws.{bad-of-all}
-use Rattle.log_stamp.specs.declared.Judgement.TheVariants.{Right}
 use Rattle.log_stamp.proofs.StampLaws.{fourteen, others-are}
 use Rattle.log_stamp.proofs.tested_under.Goals as goal
 
@@ -27,7 +27,6 @@ returns-then-other-n c =
 pub records_in-requires : goal.records_in-requires
 records_in-requires c =
     record {
-      le_per = fourteen;
       log_value = sym c.found_in-found.ensures.block_value.0 ∙ c.if-found-n.false;
     }
 
@@ -47,4 +46,4 @@ returns c =
     let g = sym f.0 ∙ c.if-found-n.false in
     let o = sym (c.first_unlike-other.ensures ∙ others-are log c.requires.log_value) ∙ c.if-other-n.false in
     let e = f.1 ∙ bad-of-all c.args.s 14 log g ∙ ap (λ (x : Settings). first_bad x (list_of log)) c.requires.s_value in
-    rw (eq-eqb _ _ g, eq-eqb _ _ o, eq-eqb _ _ (sym e ∙ c.if-found-records_in.false ∙ c.records_in.ensures)) (ap Right c.requires.s_value)
+    rw (eq-eqb _ _ g, eq-eqb _ _ o, eq-eqb _ _ (sym e ∙ c.if-found-records_in.false ∙ c.records_in.ensures)) (ap Ok c.requires.s_value)

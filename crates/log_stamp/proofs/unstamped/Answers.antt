@@ -4,9 +4,6 @@ use native.Mathlib.Omega.{arith}
 use borrow.Author.Tests.{eq-eqb, ne_eqb}
 use Rattle.log_stamp.proofs.unstamped.Goals as goal
 
-pub faults-found-requires : goal.faults-found-requires
-faults-found-requires c = omega arith
-
 pub returns-then-found-log : goal.returns-then-found-log
 returns-then-found-log c =
     let e = c.faults-found.ensures.0 in

@@ -6,7 +6,7 @@ use Rattle.spec_state.specs.ChannelBytes.{channel_in}
 use Rattle.spec_model.specs.ModelBytes.{model_in}
 use Rattle.state_bytes.proofs.RangeLaws.{model-in-range}
 use Rattle.chan_judge.proofs.JudgeLaws.{judged-packet, judged-data}
-use Rattle.model_judge.proofs.ReadLaws.{banks-count, right-length}
+use Rattle.model_judge.proofs.ReadLaws.{banks-count}
 use Rattle.model_judge.proofs.judge_in.Goals as goal
 
 pub returns-in-Packet : goal.returns-in-Packet
@@ -27,7 +27,7 @@ held_at-h-requires c =
     let cx = context_of c.args.s in
     let b = c.args.b.now in
     record {
-      in_bounds = omega (arith, right-length cx b c.requires);
+      in_bounds = omega arith;
       in_range = model-in-range cx b c.requires;
     }
 
@@ -36,6 +36,6 @@ packet_in-requires c =
     let cx = context_of c.args.s in
     let b = c.args.b.now in
     record {
-      in_bounds = omega (arith, right-length cx b c.requires);
+      in_bounds = omega arith;
       in_range = model-in-range cx b c.requires;
     }

@@ -1,8 +1,7 @@
 -- What a record that breaks no rule asks of the store, as the code decides it before it touches the store. The laws in proofs/ say
 -- that this is what the model's definitions do.
 -- Assumes nothing.
-use Rattle.std.specs.Prelude.{ℕ, zero, suc, ◌+◌, ◌<◌, ◌^◌, cond, List, [], leb, get_or, set}
-use Rattle.std.proofs.Math.Option.{Option, none, some}
+use Rattle.std.specs.Prelude.{ℕ, zero, suc, ◌+◌, ◌<◌, ◌^◌, cond, List, [], leb, get_or, set, Option, None, Some, Err, Ok, Result}
 use Rattle.num.specs.Bytes.{number, part}
 use Rattle.packet.specs.declared.ColPacket.{ColPacket}
 use Rattle.packet.specs.declared.ColPacket.TheVariants.{Nocop, Wr, Rd}
@@ -14,12 +13,13 @@ use Rattle.record.specs.declared.Refusal.TheVariants.{Full}
 use Rattle.spec_rules.specs.declared.Bank.{Bank}
 use Rattle.spec_rules.specs.declared.Write.{Write}
 use Rattle.spec_rules.specs.Neighbour.{Context}
-use Rattle.spec_model.specs.declared.Stepped.{Stepped}
-use Rattle.spec_model.specs.declared.Stepped.TheVariants.{Refused, Read, Retired, Neither}
 use Rattle.spec_model.specs.Store.{dualoct_at, dualoct, dualoct_bytes, governs, masked, ones}
 use Rattle.spec_model.specs.Model.{open_row}
 use Rattle.model_store.specs.declared.Touch.{Touch}
 use Rattle.model_store.specs.declared.Touch.TheVariants.{Nothing, Reads, Retires}
+use Rattle.spec_model.specs.declared.Event.TheVariants.{Neither, Read, Retired}
+use Rattle.spec_model.specs.declared.Event.{Event}
+use Rattle.record.specs.declared.Refusal.{Refusal}
 
 -- ---- from a record: the bank that it names is in one state, the bank of the write that it retires in another
 
@@ -27,8 +27,8 @@ abbrev pub write_place : Write → Bank → Place
 write_place w held = record { bank = w.bank; row = open_row held; column = w.column }
 
 unfoldable pub retire_touch : Option Write → Bank → ℕ → Touch
-retire_touch none held mask = Nothing
-retire_touch (some w) held mask = Retires (write_place w held) mask
+retire_touch None held mask = Nothing
+retire_touch (Some w) held mask = Retires (write_place w held) mask
 
 unfoldable pub col_touch : ColPacket → Option Write → Bank → Bank → Touch
 col_touch (Nocop m) leaving own held = retire_touch leaving held m
@@ -66,10 +66,10 @@ module _ (cx : Context) where
   touch_bytes (Reads p) store room = cond (leb 16 room) (dualoct store (place_at p)) []
   touch_bytes (Retires p mask) store room = []
 
-unfoldable pub touch_answer : Touch → ℕ → Stepped
-touch_answer Nothing room = Neither
-touch_answer (Reads p) room = cond (leb 16 room) Read (Refused Full)
-touch_answer (Retires p mask) room = Retired (ones mask)
+unfoldable pub touch_answer : Touch → ℕ → Result Event Refusal
+touch_answer Nothing room = Ok Neither
+touch_answer (Reads p) room = cond (leb 16 room) (Ok Read) (Err Full)
+touch_answer (Retires p mask) room = Ok (Retired (ones mask))
 
 -- ---- dualocts in bytes
 

@@ -1,26 +1,20 @@
 -- What a draft in code says of a draft of the plan's definition.
 -- Assumes nothing.
-use Rattle.std.specs.Prelude.{ℕ, zero, suc, ◌+◌, ◌≤◌, ◌≡◌, Bool, true, false, not, cond, ◌&&◌, ◌||◌, List, [], ◌∷◌, ◌++◌, leb, ltb, get_or, set, length}
+use Rattle.std.specs.Prelude.{ℕ, zero, suc, ◌+◌, ◌≤◌, ◌≡◌, Bool, false, not, cond, ◌||◌, List, [], ◌∷◌, ◌++◌, leb, ltb, get_or, set, length}
 use Rattle.settings.specs.declared.Settings.{Settings}
 use Rattle.settings.specs.Instants.{horizon}
 use Rattle.packet.specs.declared.RowPacket.TheVariants.{Act}
 use Rattle.record.specs.declared.Record.{Record}
 use Rattle.record.specs.declared.Record.TheVariants.{RowAt}
-use Rattle.spec_rules.specs.declared.Write.{Write}
-use Rattle.spec_rules.specs.Neighbour.{context_of, near}
-use Rattle.spec_rules.specs.History.{any_write, two}
+use Rattle.spec_rules.specs.Neighbour.{context_of}
 use Rattle.spec_rules.specs.Channel.{never, leaving_of}
 use Rattle.spec_rules.specs.Earliest.{placed_at, under}
 use Rattle.spec_plan.specs.declared.PlannerState.{PlannerState}
-use Rattle.spec_plan.specs.Plan.{Draft, row_packet, col_packet, carried, hits}
+use Rattle.spec_plan.specs.Plan.{Draft, row_packet, col_packet, carried}
 use Rattle.spec_plan.specs.Call.{timely}
 use Rattle.spec_plan.proofs.Timely.{Walked}
 use Rattle.plan_by_value.specs.declared.Command.{Command}
 use Rattle.plan_by_value.specs.declared.Command.TheVariants.{Row, Col}
-use Rattle.plan_by_value.specs.declared.Before.{Before}
-use Rattle.plan_by_value.specs.declared.Before.TheVariants.{Prer, Rd, Flush, WriteEnd}
-use Rattle.plan_by_value.specs.declared.Banks.{Banks}
-use Rattle.plan_by_value.specs.declared.Banks.TheVariants.{Near, All}
 use Rattle.plan_by_value.specs.declared.Entry.{Entry}
 use Rattle.plan_by_value.specs.declared.Draft.{Draft as Drawn}
 
@@ -29,26 +23,6 @@ use Rattle.plan_by_value.specs.declared.Draft.{Draft as Drawn}
 abbrev pub packet_of : Command → Record
 packet_of (Row p) = row_packet p
 packet_of (Col p) = col_packet p
-
-abbrev pub concerns : Settings → Before → Write → Bool
-concerns s (Prer x) = λ w. near (context_of s) x w.bank
-concerns s (Rd bank column close) = λ w. hits bank column w || (close && near (context_of s) bank w.bank)
-concerns s Flush = λ w. true
-concerns s WriteEnd = λ w. w.close
-
-abbrev pub reads : Before → Bool
-reads (Prer x) = false
-reads (Rd bank column close) = true
-reads Flush = false
-reads WriteEnd = false
-
--- the waiting writes ask for a NOCOP: two before an RD, or one that concerns what is sent next
-abbrev pub holds_up : Settings → Before → List Write → Bool
-holds_up s next ws = (reads next && two ws) || any_write (concerns s next) ws
-
-abbrev pub bank_in : Settings → Banks → ℕ → Bool
-bank_in s (Near b) = near (context_of s) b
-bank_in s All = λ x. true
 
 -- ---- a packet in its place
 

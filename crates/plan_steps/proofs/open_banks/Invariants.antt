@@ -1,5 +1,4 @@
 -- `plan_steps::open_banks` meets its contract.
-use Prim.Native.Nat.{◌-◌, ◌≤◌}
 use mathlib.Core.Path.{◌≡◌}
 use Rattle.spec_plan.specs.Plan.{state_in}
 use Rattle.plan_bytes.specs.Form.Drawn.{drafted}
@@ -7,7 +6,4 @@ use Rattle.plan_steps.specs.Form.Opened.{open_up_to}
 use Rattle.plan_steps.proofs.open_banks.Given as goal
 
 abbrev pub invariant-loop-x : goal.invariant-loop-x
-invariant-loop-x l = (l.x ≤ 32) × (l.n ≡ open_up_to (state_in (drafted l.b)) l.x)
-
-abbrev pub decreases-loop-x : goal.decreases-loop-x
-decreases-loop-x l = 32 - l.x
+invariant-loop-x l = l.n ≡ open_up_to (state_in (drafted l.b)) l.x

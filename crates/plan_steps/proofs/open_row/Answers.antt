@@ -16,7 +16,6 @@ close_near-to-requires c =
     let r = row_packet (Act c.args.bank c.args.row) in
     record {
       rested = c.requires.rested;
-      b_len = c.requires.b_len;
       x_bound = c.requires.bank_bound;
       fits = cleared-first _ _ _ c.requires.rested (omega arith) c.args.bank (sent (context_of c.args.s) r) (sent-blind (context_of c.args.s) r) c.args.room.now c.requires.fits;
     }
@@ -30,7 +29,6 @@ act-requires c =
     let f = cleared-fits _ _ _ c.requires.rested (omega arith) c.args.bank (sent cx r) (sent-blind cx r) _ c.requires.fits _ _ _ w in
     record {
       ready = ready-more _ 1000011000 1000012000 _ (omega arith) (ready _ _ _ a.ready);
-      b_len = a.size;
       bank_bound = c.requires.bank_bound;
       to_in_bounds = omega (arith, f, one-sent cx r (planner_in c.close_near-to.new.b));
     }

@@ -7,8 +7,8 @@ pub returns : goal.returns
 returns c =
     let a = c.args in
     fields-put a.out.now a.at a.instant a.kind a.word a.d.dqa a.d.dqb (omega arith) (omega arith)
-    (rw c.wide32.ensures.0 at c.put_u32.ensures)
-    (rw c.wide32-2.ensures.0 at c.put_u32-2.ensures)
+    (rw c.from.ensures at c.put_u32.ensures)
+    (rw c.from-2.ensures at c.put_u32-2.ensures)
     c.put_u64.ensures
     c.put_u64-2.ensures
     c.put_u64-3.ensures

@@ -1,6 +1,7 @@
 -- What passes the quick test of records is a record.
 -- Assumes nothing.
-use Rattle.std.proofs.Common.{◌≡◌, ℕ, ◌+◌, ◌-◌, ◌*◌, ◌/◌, ◌%◌, ◌^◌, ◌<◌, ◌≤◌, min, Bool, true, false, cond, ◌&&◌, ◌||◌, eqb, ltb, List, length, get_or, sym, refl, ap, ◌∙◌, add-zero, add-one, arith, ltb-false, ltb-true, lt-ltb, eq-eqb, ne_eqb, eqb-true}
+use Rattle.std.specs.Prelude.{None, Option, Some}
+use Rattle.std.proofs.Common.{◌≡◌, ℕ, ◌+◌, ◌-◌, ◌*◌, ◌/◌, ◌%◌, ◌^◌, ◌<◌, ◌≤◌, min, Bool, true, false, cond, ◌&&◌, ◌||◌, eqb, ltb, List, length, get_or, sym, refl, ◌∙◌, arith, ltb-false, ltb-true, lt-ltb, eq-eqb, ne_eqb, eqb-true}
 use mathlib.Core.Bool.{and-eq-true_iff}
 use borrow.Author.Tests.{eqb-false}
 use Rattle.num.specs.Bytes.{number, part}
@@ -9,17 +10,15 @@ use Rattle.num.proofs.ByteLaws.{number-part}
 use Rattle.num.proofs.SearchLaws.{all-next, all-at}
 use Rattle.settings.specs.declared.Settings.{Settings}
 use Rattle.packet.specs.declared.RowPacket.TheVariants.{Prer}
-use Rattle.packet.specs.declared.RowDecoded.{RowDecoded}
-use Rattle.packet.specs.declared.RowDecoded.TheVariants.{Row, NoRow}
-use Rattle.packet.specs.declared.ColDecoded.{ColDecoded}
-use Rattle.packet.specs.declared.ColDecoded.TheVariants.{Col, NoCol}
 use Rattle.packet.proofs.FieldLaws.{joined}
 use Rattle.packet.proofs.RowLaws.{row-range}
 use Rattle.packet.specs.Row.{device_head, row_fields, row_word, row_fits, row_of, row_decoded}
 use Rattle.packet.specs.Col.{mask_said, col_of, col_decoded}
-use Rattle.record.specs.declared.RecordRead.{RecordRead}
 use Rattle.record.specs.Record.{is_known, row_record, col_record, record_of, record_read, well_formed, record_at}
 use Rattle.record.proofs.RecordLaws.{field_in, head_in}
+use Rattle.packet.specs.declared.RowPacket.{RowPacket}
+use Rattle.packet.specs.declared.ColPacket.{ColPacket}
+use Rattle.record.specs.declared.Record.{Record}
 
 -- one record more, as a loop takes it
 pub one_more_lem : (f : ℕ → Bool) (k : ℕ) (right r : Bool) → (right ≡ true → all_up_to f k ≡ true) → (r ≡ true → f k ≡ true)
@@ -233,7 +232,7 @@ col-says device columns lo hi d y hl ey e =
 shape : Bool → Bool → Bool → Bool → Bool → Bool → Bool → Bool
 shape d z n r rk c ck = cond d z (cond n (cond r rk (cond c ck false)) false)
 
-known-cond : (b : Bool) (x y : RecordRead) → is_known (cond b x y) ≡ cond b (is_known x) (is_known y)
+known-cond : (b : Bool) (x y : Option Record) → is_known (cond b x y) ≡ cond b (is_known x) (is_known y)
 known-cond true x y = refl
 known-cond false x y = refl
 
@@ -241,15 +240,15 @@ cond_same : (b : Bool) → cond b true false ≡ b
 cond_same true = refl
 cond_same false = refl
 
-row_any : (at : ℕ) (d : RowDecoded) → is_known (row_record at d) ≡ is_known (row_record 0 d)
+row_any : (at : ℕ) (d : Option RowPacket) → is_known (row_record at d) ≡ is_known (row_record 0 d)
 unfolding row_record is_known
-row_any at NoRow = refl
-row_any at (Row p) = refl
+row_any at None = refl
+row_any at (Some p) = refl
 
-col-any : (at : ℕ) (d : ColDecoded) → is_known (col_record at d) ≡ is_known (col_record 0 d)
+col-any : (at : ℕ) (d : Option ColPacket) → is_known (col_record at d) ≡ is_known (col_record 0 d)
 unfolding col_record is_known
-col-any at NoCol = refl
-col-any at (Col p) = refl
+col-any at None = refl
+col-any at (Some p) = refl
 
 known-shape : (s : Settings) (at kind w a b : ℕ)
     → is_known (record_of s at kind w a b) ≡ shape (eqb kind 2) (eqb w 0) (eqb a 0 && eqb b 0) (eqb kind 0) (row_known s.device s.rows w) (eqb kind 1) (col_known s.device s.columns w)

@@ -9,7 +9,7 @@ unfolding record_read
 returns-then-head-ne0 c =
     let l = c.args.b.now in
     let at = c.args.at in
-    let e = head_in l at c.u32_at-head.result (omega arith) (omega (arith, c.shared_slice_known-1.given (at + 4))) c.u32_at-head.ensures in
+    let e = head_in l at c.u32_at-head.result (omega arith) (omega (arith, c.type_inv.b (at + 4))) c.u32_at-head.ensures in
     rw (ne_eqb _ 0 (λ z. c.if-head-ne0.true (e.1 ∙ z)))
 
 pub returns : goal.returns
@@ -17,7 +17,7 @@ unfolding record_read
 returns c =
     let l = c.args.b.now in
     let at = c.args.at in
-    let e = head_in l at c.u32_at-head.result (omega arith) (omega (arith, c.shared_slice_known-1.given (at + 4))) c.u32_at-head.ensures in
+    let e = head_in l at c.u32_at-head.result (omega arith) (omega (arith, c.type_inv.b (at + 4))) c.u32_at-head.ensures in
     rw (
       eq-eqb _ 0 (sym e.1 ∙ c.if-head-ne0.false),
       ← e.0,

@@ -1,11 +1,11 @@
 -- Laws of the kinds of a request: kinds 6 and 7 are a read and a write that close their bank.
 -- Assumes nothing.
+use Rattle.std.specs.Prelude.{Ok}
 use Rattle.std.proofs.Common.{◌≡◌, ℕ, ◌≤◌, Bool, true, false, ◌||◌, eqb, List, length, sym, refl, arith, lt-ltb, eq-eqb, eqb-true}
 use mathlib.Core.Bool.{or-true, false≢true}
 use Rattle.num.specs.Bytes.{number, part}
 use Rattle.settings.specs.declared.Settings.{Settings}
 use Rattle.record.specs.declared.Request.TheVariants.{Read, Write}
-use Rattle.record.specs.declared.RequestRead.TheVariants.{Accepted}
 use Rattle.record.specs.Request.{kind_of, place_of, placed, spare_right, request_of, request_read}
 use Rattle.record.proofs.RequestLaws.{InPlace, data_of}
 
@@ -45,6 +45,6 @@ pub last-kind : (k : ℕ) → k ≤ 7 → (eqb k 0 || eqb k 6) ≡ false → (eq
 last-kind k l r w refresh wait flush = let n = no_access k l r w in omega (arith, refresh, wait, flush)
 
 -- a read in range that leaves its bank open
-pub plain-says : (s : Settings) (b : List ℕ) → length b ≡ 24 → kind_of b ≡ 0 → spare_right b ≡ true → InPlace s (place_of b) → request_read s b ≡ Accepted (Read (place_of b) false)
+pub plain-says : (s : Settings) (b : List ℕ) → length b ≡ 24 → kind_of b ≡ 0 → spare_right b ≡ true → InPlace s (place_of b) → request_read s b ≡ Ok (Read (place_of b) false)
 unfolding request_read request_of placed
 plain-says s b n k h i = rw (eq-eqb (length b) 24 n, k, h, lt-ltb _ _ i.0, lt-ltb _ _ i.1, lt-ltb _ _ i.2)

@@ -1,7 +1,7 @@
 -- Laws of the spare bytes of a request: bytes that are used alike are tested as one number, and the groups of the 24 bytes.
 -- Assumes nothing.
-use Rattle.std.proofs.Common.{◌≡◌, ℕ, zero, suc, ◌+◌, ◌*◌, ◌^◌, ◌≤◌, Bool, true, false, ◌&&◌, ◌||◌, eqb, leb, List, length, get_or, sym, refl, ap, ◌∙◌, ap₂, add-zero, add-suc, mul-zero, mul-suc, add-one, arith, ne_eqb}
-use mathlib.Core.Bool.{and-true, and-false, and_assoc, or-true, or-and_distrib_left}
+use Rattle.std.proofs.Common.{◌≡◌, ℕ, zero, suc, ◌+◌, ◌*◌, ◌^◌, ◌≤◌, Bool, true, false, ◌&&◌, ◌||◌, eqb, leb, List, length, get_or, sym, refl, ap, ◌∙◌, ap₂, add-zero, mul-zero, mul-suc, add-one, arith, ne_eqb}
+use mathlib.Core.Bool.{and-true, and-false, or-true, or-and_distrib_left}
 use native.Mathlib.Nat.{one-le-pow}
 use lib.Dec.{eqb-suc-zero}
 use Rattle.num.specs.Bytes.{number, part}
@@ -47,7 +47,7 @@ group b used at n h same e = all_join (test b) at n ∙ ap₂ ◌&&◌ e (same �
 -- the groups with one test of a write
 gather : (place none write mask wait cycles low high : Bool)
     → (place && none && (write || mask) && (write || wait || cycles) && (write || low) && (write || high))
-    ≡ (place && (none && (write || (mask && ((wait || cycles) && (low && high))))))
+    ≡ ((place && none) && (write || ((mask && (wait || cycles)) && (low && high))))
 gather false none write mask wait cycles low high = refl
 gather true false write mask wait cycles low high = refl
 gather true true true mask wait cycles low high = refl
@@ -59,9 +59,8 @@ gather true true false true true cycles low high = refl
 -- the spare bytes by numbers: bytes 1 to 4, 5, 6 and 7, 8 to 11, 12 to 15, and 16 to 23
 pub spare-groups : (b : List ℕ) → length b ≡ 24
     → spare_right b
-    ≡ (((leb (kind_of b) 1 || leb 6 (kind_of b)) || zero_at b 1 4)
-    && (eqb (get_or b 5 0) 0
-    && ((eqb (kind_of b) 1 || eqb (kind_of b) 7) || (zero_at b 6 2 && ((eqb (kind_of b) 3 || zero_at b 8 4) && (zero_at b 12 4 && zero_at b 16 8))))))
+    ≡ ((((leb (kind_of b) 1 || leb 6 (kind_of b)) || zero_at b 1 4) && eqb (get_or b 5 0) 0)
+    && ((eqb (kind_of b) 1 || eqb (kind_of b) 7) || ((zero_at b 6 2 && (eqb (kind_of b) 3 || zero_at b 8 4)) && (zero_at b 12 4 && zero_at b 16 8))))
 unfolding spare_right uses_byte all_up_to
 spare-groups b h =
     let access : Bool = leb (kind_of b) 1 || leb 6 (kind_of b) in

@@ -1,12 +1,15 @@
--- `well_formed` meets its contract: each arm is a case of the definition.
-use Rattle.std.proofs.Common.{sym, ap, ◌∙◌}
+-- `well_formed` meets its contract.
+use Rattle.std.specs.Prelude.{◌≡◌, None, Some, Option, is_some}
+use Rattle.std.proofs.Common.{refl, ap, ◌∙◌}
+use Rattle.record.specs.declared.Record.{Record}
 use Rattle.record.specs.Record.{well_formed, is_known}
 use Rattle.record_bytes.proofs.well_formed.Goals as goal
 
-pub returns-in-NoRecord : goal.returns-in-NoRecord
-unfolding well_formed is_known
-returns-in-NoRecord c = sym (ap is_known (sym c.read_record.ensures ∙ c.in-NoRecord.is))
+same : (r : Option Record) → is_some r ≡ is_known r
+unfolding is_known
+same None = refl
+same (Some x) = refl
 
-pub returns-in-Known : goal.returns-in-Known
-unfolding well_formed is_known
-returns-in-Known c = sym (ap is_known (sym c.read_record.ensures ∙ c.in-Known.is))
+pub returns : goal.returns
+unfolding well_formed
+returns c = c.is_some.ensures ∙ same c.read_record.result ∙ ap is_known c.read_record.ensures

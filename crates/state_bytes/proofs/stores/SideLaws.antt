@@ -1,12 +1,12 @@
 -- The banks on the two sides of a bank are its neighbours: what is stored for a PRER is the state after it. Those of an open bank are
 -- closed: so is what is stored for a PRER that an RDA or the retire of a WRA implies.
 -- Assumes nothing.
+use Rattle.std.specs.Prelude.{Some}
 use Prim.Native.Nat.{ℕ, ◌+◌, ◌-◌, ◌^◌, ◌<◌}
 use mathlib.Core.Path.{◌≡◌}
 use mathlib.Core.Bool.{true, false, ◌&&◌, ◌||◌}
 use mathlib.Core.List.{List, ◌∷◌, ◌++◌}
 use mathlib.Core.Logic.{⊎_elim}
-use mathlib.Core.Option.{some}
 use native.Mathlib.Omega.{arith}
 use borrow.Author.Tests.{eq-eqb, eqb-true, ltb-true}
 use lib.Dec.{eqb, ltb}
@@ -103,7 +103,7 @@ module _ (s : Settings) (v : valid s ≡ true) (ch : Channel) (k : channel_valid
   -- the older write w has left, which is a WRA
   pub closing-left : (q : List ℕ) → ch.due ≡ false → (w : Write) (ws : List Write) (t : ℕ) → waiting_of ch.buffer ≡ w ∷ ws
       → implied_stored (shift_stored (retire_stored (channel_bytes ch ++ q) w.bank (t - 3)) (length ws)) w.bank (t + s.offp - 3)
-      ≡ channel_bytes (after_implied (context_of s) (t + s.offp) (some w.bank) (after_retire t (some w) ch)) ++ q
+      ≡ channel_bytes (after_implied (context_of s) (t + s.offp) (Some w.bank) (after_retire t (Some w) ch)) ++ q
   unfolding context_of bank_count write_valid
   closing-left q d w ws t z =
       let l : w.bank < 32 = ltb-true w.bank 32 (and_left (ltb w.bank 32) _ (and_left (write_valid (context_of s) w) _ (rw z at sound.write))) in

@@ -4,7 +4,7 @@ ghost use Rattle.spec_state.specs.Form.Layout.{write_word};
 ghost use Rattle.spec_state.specs.Form.Stores.{col_stored, rd_stored, retire_stored, empty_stored, shift_stored, write_stored, beside_stored, behind_stored, data_stored};
 
 use num::put::{put_u32, put_u64};
-use num::{u64_at, wide32};
+use num::u64_at;
 
 // The last instants of the channel after any COL packet.
 pub fn store_col(b: &mut [u8], t: u64)
@@ -69,7 +69,7 @@ fn word_of(x: u32, column: u32, close: bool, t: u64) -> u64
     requires t_bound { t < 2 ^ 32 }
     ensures { result ≡ write_word x column close t }
 {
-    wide32(x) + 256 * wide32(column) + close_part(close) + 4294967296 * t
+    u64::from(x) + 256 * u64::from(column) + close_part(close) + 4294967296 * t
 }
 
 // One write waits: count is 1, or 257 where its data are due.

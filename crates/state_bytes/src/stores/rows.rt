@@ -24,7 +24,7 @@ pub fn store_act(b: &mut [u8], x: usize, row: u32, t: u64)
 {
     put_u32(b, 4 * x, t);
     put_u32(b, 128 + 4 * x, t);
-    put_u16(b, 640 + 2 * x, num::wide32(row) + 1);
+    put_u16(b, 640 + 2 * x, u64::from(row) + 1);
     store_row(b, t);
 }
 

@@ -1,4 +1,4 @@
--- `encode_by` meets its contract: each arm is a case of the definition.
+-- `encode_by` meets its contract: each way out is a case of the definition.
 use mathlib.Core.Path.{◌∙◌, sym, refl}
 use native.Mathlib.Omega.{arith}
 use Rattle.log_list.specs.Log.{copied, encode_log}
@@ -6,17 +6,14 @@ use Rattle.spec_calls.specs.Settings.{under_settings}
 use Rattle.spec_calls.specs.Logs.{copy_call, log_encode_call}
 use Rattle.calls_list.proofs.logs.encode_by.Goals as goal
 
-pub encode-requires : goal.encode-requires
-encode-requires c = (omega arith, refl)
-
-pub returns-in-Refused : goal.returns-in-Refused
+pub returns-in_default : goal.returns-in_default
 unfolding copied encode_log under_settings copy_call log_encode_call
-returns-in-Refused c =
-    let e = sym c.read_settings.ensures ∙ c.in-Refused.is in
-    (rw e c.copy_answer.ensures, rw e)
+returns-in_default c =
+    let e = sym c.read_settings.ensures ∙ c.in_default.is in
+    (rw e c.from.ensures, rw e)
 
-pub returns-in-Accepted : goal.returns-in-Accepted
+pub returns : goal.returns
 unfolding copied encode_log under_settings copy_call log_encode_call
-returns-in-Accepted c =
-    let e = sym c.read_settings.ensures ∙ c.in-Accepted.is in
-    (rw e (rw c.encode.ensures.0 at c.copy_answer-in-Accepted.ensures), rw e c.encode.ensures.1)
+returns c =
+    let e = sym c.read_settings.ensures ∙ c.in-Some.is in
+    (rw e (rw (c.encode-written.ensures.0, c.plain.ensures.0) at c.from-2.ensures), rw e (rw (c.plain.ensures.0, c.plain.ensures.1) at c.encode-written.ensures.1))

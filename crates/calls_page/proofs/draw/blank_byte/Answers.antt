@@ -29,10 +29,10 @@ pub returns-then-start-k-eq0 : goal.returns-then-start-k-eq0
 unfolding byte_by blank scale
 returns-then-start-k-eq0 c =
     let a = c.args in
-    rw (le-leb 8 (a.i % 73) (omega arith), lt-ltb (a.i % 73) 72 (omega arith), le-ltb (a.i / 73) 3 (omega arith), eq-eqb _ 0 c.if-start-k-eq0.true)
+    rw (le-leb 8 (a.i % 73) (omega arith), lt-ltb (a.i % 73) 72 (omega arith), le-ltb (a.i / 73) 3 (omega arith), eq-eqb _ 0 (rw c.from-start.ensures at c.if-start-k-eq0.true))
 
 pub returns : goal.returns
 unfolding byte_by blank scale
 returns c =
     let a = c.args in
-    rw (le-leb 8 (a.i % 73) (omega arith), lt-ltb (a.i % 73) 72 (omega arith), le-ltb (a.i / 73) 3 (omega arith), ne_eqb _ 0 c.if-start-k-eq0.false)
+    rw (le-leb 8 (a.i % 73) (omega arith), lt-ltb (a.i % 73) 72 (omega arith), le-ltb (a.i / 73) 3 (omega arith), ne_eqb _ 0 (rw c.from-start.ensures at c.if-start-k-eq0.false))

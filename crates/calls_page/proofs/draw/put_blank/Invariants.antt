@@ -1,5 +1,5 @@
 -- `put_blank` meets its contract: after i turns the first i bytes are those of a page without records.
-use Prim.Native.Nat.{ℕ, ◌-◌, ◌≤◌, ◌<◌}
+use Prim.Native.Nat.{ℕ, ◌<◌}
 use mathlib.Core.Path.{◌≡◌}
 use lib.ListN.{length, get_or}
 use Rattle.spec_page.specs.Page.{page_bytes}
@@ -8,7 +8,4 @@ use Rattle.calls_page.specs.Form.Paint.{blank}
 use Rattle.calls_page.proofs.draw.put_blank.Given as goal
 
 abbrev pub invariant-loop-i : goal.invariant-loop-i
-invariant-loop-i l = (l.i ≤ page_bytes) × (length l.out ≡ page_bytes) × ((k : ℕ) → k < l.i → get_or l.out k 0 ≡ byte_by blank l.start k)
-
-abbrev pub decreases-loop-i : goal.decreases-loop-i
-decreases-loop-i l = page_bytes - l.i
+invariant-loop-i l = (length l.out ≡ page_bytes) × ((k : ℕ) → k < l.i → get_or l.out k 0 ≡ byte_by blank l.start k)

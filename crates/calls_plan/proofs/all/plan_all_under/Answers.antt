@@ -5,34 +5,33 @@ use mathlib.Core.Logic.{◌≢◌}
 use lib.ListN.{length}
 use native.Mathlib.Omega.{arith}
 use borrow.Author.Tests.{eq-eqb, ne_eqb}
+use Rattle.state_bytes.proofs.RightLaws.{planner-length-wrong}
 use Rattle.spec_calls.specs.PlanAll.{plan_all_under}
 use Rattle.calls_plan.proofs.all.plan_all_under.Goals as goal
 
-pub returns-then-not-right_state : goal.returns-then-not-right_state
+pub returns-in_default : goal.returns-in_default
 unfolding plan_all_under
-returns-then-not-right_state c =
-    record {
-      value = rw (sym c.right_state.ensures ∙ c.if-not-right_state.true) c.none_planned.ensures;
-      planner_after = rw (sym c.right_state.ensures ∙ c.if-not-right_state.true) refl;
-      room_after = rw (sym c.right_state.ensures ∙ c.if-not-right_state.true) refl;
-    }
+returns-in_default c =
+    let e = planner-length-wrong c.args.s c.args.planner.now c.in_default.ensures.cases in
+    record { value = rw e c.none_planned.ensures; planner_after = rw e refl; room_after = rw e refl }
+
+pub returns-then-not-planner_right : goal.returns-then-not-planner_right
+unfolding plan_all_under
+returns-then-not-planner_right c =
+    let e = sym (rw c.in-Some.ensures.cases.same at c.planner_right.ensures) ∙ c.if-not-planner_right.true in
+    record { value = rw e c.none_planned-then-not-planner_right.ensures; planner_after = rw (c.in-Some.ensures.cases.same, e) refl; room_after = rw e refl }
 
 pub returns-then-requests-ne0 : goal.returns-then-requests-ne0
 unfolding plan_all_under
 returns-then-requests-ne0 c =
     let n = length c.args.requests.now in
     let broken : n % 24 ≢ 0 = λ z. omega (arith, c.if-requests-ne0.true) in
+    let same = c.in-Some.ensures.cases.same in
+    let e = sym (rw same at c.planner_right.ensures) ∙ c.if-not-planner_right.false in
     record {
-      value = rw (sym c.right_state.ensures ∙ c.if-not-right_state.false, ne_eqb (n % 24) 0 broken) c.none_planned-then-requests-ne0.ensures;
-      planner_after = rw (sym c.right_state.ensures ∙ c.if-not-right_state.false, ne_eqb (n % 24) 0 broken) refl;
-      room_after = rw (sym c.right_state.ensures ∙ c.if-not-right_state.false, ne_eqb (n % 24) 0 broken) refl;
-    }
-
-pub plan_each-requires : goal.plan_each-requires
-plan_each-requires c =
-    record {
-      s_value = c.requires;
-      planner_value = sym c.right_state.ensures ∙ c.if-not-right_state.false;
+      value = rw (e, ne_eqb (n % 24) 0 broken) c.none_planned-then-requests-ne0.ensures;
+      planner_after = rw (same, e, ne_eqb (n % 24) 0 broken) refl;
+      room_after = rw (e, ne_eqb (n % 24) 0 broken) refl;
     }
 
 pub returns : goal.returns
@@ -40,8 +39,10 @@ unfolding plan_all_under
 returns c =
     let n = length c.args.requests.now in
     let whole : n % 24 ≡ 0 = omega (arith, c.if-requests-ne0.false) in
+    let same = c.in-Some.ensures.cases.same in
+    let e = sym (rw same at c.planner_right.ensures) ∙ c.if-not-planner_right.false in
     record {
-      value = rw (sym c.right_state.ensures ∙ c.if-not-right_state.false, eq-eqb (n % 24) 0 whole) c.plan_each.ensures.value;
-      planner_after = rw (sym c.right_state.ensures ∙ c.if-not-right_state.false, eq-eqb (n % 24) 0 whole) c.plan_each.ensures.planner_after;
-      room_after = rw (sym c.right_state.ensures ∙ c.if-not-right_state.false, eq-eqb (n % 24) 0 whole) c.plan_each.ensures.room_after;
+      value = rw (e, eq-eqb (n % 24) 0 whole) (rw same at c.plan_each.ensures.value);
+      planner_after = rw (e, eq-eqb (n % 24) 0 whole) (rw same at c.plan_each.ensures.planner_after);
+      room_after = rw (e, eq-eqb (n % 24) 0 whole) (rw same at c.plan_each.ensures.room_after);
     }

@@ -2,10 +2,10 @@
 use Rattle.spec_calls.specs.Plans.{plan_answer}
 use Rattle.calls_plan.proofs.ways.answer.Goals as goal
 
-pub returns-in-Refused : goal.returns-in-Refused
+pub returns-in-Err : goal.returns-in-Err
 unfolding plan_answer
-returns-in-Refused c = rw (c.in-Refused.is, c.answer-a.ensures)
+returns-in-Err c = rw (c.in-Err.is, c.answer-a.ensures)
 
-pub returns-in-Made : goal.returns-in-Made
+pub returns-in-Ok : goal.returns-in-Ok
 unfolding plan_answer
-returns-in-Made c = rw c.in-Made.is
+returns-in-Ok c = rw c.in-Ok.is

@@ -41,7 +41,7 @@ returns-then-quick-room c =
 
 pub granted-requires : goal.granted-requires
 granted-requires c =
-    let e = sym c.read_request.ensures ∙ c.in-Accepted.is in
+    let e = sym c.read_request.ensures ∙ c.in-Ok.is in
     let range = accepted-range c.args.s c.args.request.now _ (λ i l. omega (arith, c.shared_slice_known-1.given i)) e in
     record {
       s_value = c.requires.s_value;
@@ -50,19 +50,19 @@ granted-requires c =
       in_range = range;
     }
 
-pub returns-in-Refused : goal.returns-in-Refused
-returns-in-Refused c =
-    let all = request-refused c.args.s c.args.planner.now c.args.request.now c.args.room.now c.requires.planner_value _ (sym c.read_request.ensures ∙ c.in-Refused.is) _ c.answer.ensures in
+pub returns-in-Err : goal.returns-in-Err
+returns-in-Err c =
+    let all = request-refused c.args.s c.args.planner.now c.args.request.now c.args.room.now c.requires.planner_value _ (sym c.read_request.ensures ∙ c.in-Err.is) _ c.answer.ensures in
     record {
       value = all.0;
       planner_after = all.1.0;
       room_after = all.1.1;
     }
 
-pub returns-in-Accepted : goal.returns-in-Accepted
-returns-in-Accepted c =
+pub returns-in-Ok : goal.returns-in-Ok
+returns-in-Ok c =
     record {
-      value = rw (by-request c.args.s c.args.planner.now c.args.request.now c.args.room.now c.requires.planner_value, sym c.read_request.ensures ∙ c.in-Accepted.is) c.granted.ensures.value;
-      planner_after = rw (by-request c.args.s c.args.planner.now c.args.request.now c.args.room.now c.requires.planner_value, sym c.read_request.ensures ∙ c.in-Accepted.is) c.granted.ensures.planner_after;
-      room_after = rw (by-request c.args.s c.args.planner.now c.args.request.now c.args.room.now c.requires.planner_value, sym c.read_request.ensures ∙ c.in-Accepted.is) c.granted.ensures.room_after;
+      value = rw (by-request c.args.s c.args.planner.now c.args.request.now c.args.room.now c.requires.planner_value, sym c.read_request.ensures ∙ c.in-Ok.is) c.granted.ensures.value;
+      planner_after = rw (by-request c.args.s c.args.planner.now c.args.request.now c.args.room.now c.requires.planner_value, sym c.read_request.ensures ∙ c.in-Ok.is) c.granted.ensures.planner_after;
+      room_after = rw (by-request c.args.s c.args.planner.now c.args.request.now c.args.room.now c.requires.planner_value, sym c.read_request.ensures ∙ c.in-Ok.is) c.granted.ensures.room_after;
     }

@@ -3,16 +3,6 @@ use mathlib.Core.Path.{sym, ◌∙◌}
 use Rattle.calls_plan.proofs.CallLaws.{late, enough, in-time}
 use Rattle.calls_plan.proofs.ways.on_lent.Goals as goal
 
-pub plan-made-requires : goal.plan-made-requires
-plan-made-requires c =
-    record {
-      s_value = c.requires.s_value;
-      planner_value = c.requires.planner_value;
-      in_range = c.requires.granted.0;
-      planner_value_2 = c.requires.granted.1;
-      in_bounds = c.requires.in_bounds;
-    }
-
 pub returns-then-in_time : goal.returns-then-in_time
 returns-then-in_time c =
     let all = in-time c.args.s c.args.planner.now c.args.q c.args.room.now c.requires.planner_value c.requires.granted.1 (enough c.args.s c.args.planner.now c.args.q c.args.room.now c.requires.planner_value c.requires.granted.1 c.args.room.now c.requires.in_bounds) (sym c.in_time.ensures ∙ c.if-in_time.true) _ c.plan-made.ensures.records_value _ c.plan-made.ensures.banks_value _ c.answer.ensures _ _ c.plan-made.ensures.planner_after c.plan-made.ensures.room_after in

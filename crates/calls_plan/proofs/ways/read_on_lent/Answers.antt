@@ -1,7 +1,7 @@
 -- `calls_plan::ways::read_on_lent` meets its contract: a read is not late here, and its records and the next state are put.
 use mathlib.Core.Path.{◌≡◌, refl}
 use mathlib.Core.Bool.{false}
-use native.Mathlib.Omega.{arith}
+use Rattle.std.proofs.Common.{rules}
 use Rattle.record.specs.declared.Request.{Request}
 use Rattle.record.specs.declared.Request.TheVariants.{Read}
 use Rattle.spec_plan.specs.PlannerBytes.{planner_in}
@@ -10,21 +10,12 @@ use Rattle.plan_in_place.proofs.Called.{rested-low, calm-timely}
 use Rattle.calls_plan.proofs.CallLaws.{enough, in-time}
 use Rattle.calls_plan.proofs.ways.read_on_lent.Goals as goal
 
-pub plan_read-made-requires : goal.plan_read-made-requires
-plan_read-made-requires c =
-    record {
-      s_value = c.requires.s_value;
-      planner_value = c.requires.planner_value;
-      in_place = c.requires.in_place;
-      in_bounds = c.requires.in_bounds;
-    }
-
 pub returns : goal.returns
 unfolding unretired
 returns c =
     let q : Request = Read c.args.at false in
     let u : unretired q (planner_in c.args.planner.now) ≡ false = refl in
-    let low = rested-low _ _ c.requires.s_value (λ i l. omega (arith, c.slice_known-1.given i)) c.requires.planner_value 999990000 c.requires.below in
+    let low = rested-low _ _ c.requires.s_value (λ i l. search rules) c.requires.planner_value 999990000 c.requires.below in
     let all = in-time c.args.s c.args.planner.now q c.args.room.now c.requires.planner_value u (enough c.args.s c.args.planner.now q c.args.room.now c.requires.planner_value u c.args.room.now c.requires.in_bounds) (calm-timely _ _ low q tt) _ c.plan_read-made.ensures.records_value _ c.plan_read-made.ensures.banks_value _ c.answer.ensures _ _ c.plan_read-made.ensures.planner_after c.plan_read-made.ensures.room_after in
     record {
       value = all.0;

@@ -13,27 +13,3 @@ on_lent-requires c =
       granted = c.requires.granted;
       in_bounds = leb-true 1024 _ (and_right c.args.quick _ test);
     }
-
-pub returns-then-quick-room : goal.returns-then-quick-room
-returns-then-quick-room c =
-    record {
-      value = c.on_lent.ensures.value;
-      planner_after = c.on_lent.ensures.planner_after;
-      room_after = c.on_lent.ensures.room_after;
-    }
-
-pub beside-requires : goal.beside-requires
-beside-requires c =
-    record {
-      s_value = c.requires.s_value;
-      planner_value = c.requires.planner_value;
-      granted = c.requires.granted;
-    }
-
-pub returns : goal.returns
-returns c =
-    record {
-      value = c.beside.ensures.value;
-      planner_after = c.beside.ensures.planner_after;
-      room_after = c.beside.ensures.room_after;
-    }

@@ -4,4 +4,4 @@ use Rattle.calls_stamp.proofs.checks.check_by.Goals as goal
 
 pub returns : goal.returns
 unfolding stamped_check_call
-returns c = rw c.check_stamped.ensures at c.check_answer.ensures
+returns c = rw c.check_stamped.ensures at c.from.ensures

@@ -10,7 +10,6 @@ use Rattle.calls_stamp.proofs.checks.judge_right.Goals as goal
 pub records_in-requires : goal.records_in-requires
 records_in-requires c =
     record {
-      le_per = fourteen;
       log_value = c.requires.log_value;
     }
 
@@ -22,7 +21,7 @@ judge_all-requires c =
     record {
       n_bound = rw n (omega (arith, log-few 14 fourteen log c.requires.log_value), omega arith, λ h. omega arith);
       by_index = rw n (log-within 14 fourteen log c.requires.log_value);
-      by_index_2 = rw n (log-formed a.s 14 fourteen log c.requires.log_value c.requires.log_value_2);
+      by_index_2 = rw n (log-formed a.s 14 fourteen log c.requires.log_value c.requires.list_value);
     }
 
 pub returns : goal.returns

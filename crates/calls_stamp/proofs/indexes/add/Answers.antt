@@ -14,7 +14,7 @@ pub write_index-requires : goal.write_index-requires
 write_index-requires c =
     let a = c.args in
     let log = a.log.now in
-    let p = added log a.kept a.index.now _ (sym c.add_answer-answer.ensures ∙ c.in-Count.is) in
+    let p = added log a.kept a.index.now _ (sym c.add_answer-answer.ensures ∙ c.in-Ok.is) in
     let w : Bytes log = λ i h. (c.shared_slice_known-1.given i).fits in
     let v : Bytes a.index.now = λ i h. (c.slice_known-1.given i).fits in
     record {
@@ -22,24 +22,16 @@ write_index-requires c =
       kept_value = kept-said (settings_of log) 14 fourteen log a.kept a.index.now w v (made log p.passed) p.same;
     }
 
-pub returns-in-Refused : goal.returns-in-Refused
+pub returns-in-Ok : goal.returns-in-Ok
 unfolding lent_after
-returns-in-Refused c =
-    let e = c.add_answer-answer.ensures in
-    (e, rw (sym e ∙ c.in-Refused.is))
-
-pub returns-in-Differs : goal.returns-in-Differs
-unfolding lent_after
-returns-in-Differs c =
-    let e = c.add_answer-answer.ensures in
-    (e, rw (sym e ∙ c.in-Differs.is))
-
-pub returns-in-Count : goal.returns-in-Count
-unfolding lent_after
-returns-in-Count c =
+returns-in-Ok c =
     let a = c.args in
     let log = a.log.now in
-    let e = sym c.add_answer-answer.ensures ∙ c.in-Count.is in
+    let e = sym c.add_answer-answer.ensures ∙ c.in-Ok.is in
     let p = added log a.kept a.index.now _ e in
     let w : Bytes log = λ i h. (c.shared_slice_known-1.given i).fits in
     (c.add_answer-answer.ensures, rw e (rw (words-said (settings_of log) 14 fourteen log w (made log p.passed)) at c.write_index.ensures))
+
+pub returns-in_default : goal.returns-in_default
+unfolding lent_after
+returns-in_default c = (c.add_answer-answer.ensures, rw (sym c.add_answer-answer.ensures ∙ c.in_default.is))

@@ -4,4 +4,4 @@ use Rattle.calls_stamp.proofs.indexes.add_by.Goals as goal
 
 pub returns : goal.returns
 unfolding stamped_index_call
-returns c = (rw c.add.ensures.0 at c.index_answer.ensures, c.add.ensures.1)
+returns c = (rw c.add.ensures.0 at c.from.ensures, c.add.ensures.1)

@@ -7,23 +7,15 @@ use Rattle.calls_stamp.proofs.indexes.query.Goals as goal
 pub list_found-requires : goal.list_found-requires
 list_found-requires c =
     let a = c.args in
-    let q = query-passed a.log.now a.index.now a.bank _ _ (sym c.query_answer-answer.ensures ∙ c.in-Count.is) in
+    let q = query-passed a.log.now a.index.now a.bank _ _ (sym c.query_answer-answer.ensures ∙ c.in-Ok.is) in
     (q.bank-right, q.room-enough)
 
-pub returns-in-Refused : goal.returns-in-Refused
+pub returns-in-Ok : goal.returns-in-Ok
 unfolding lent_after
-returns-in-Refused c =
+returns-in-Ok c =
     let e = c.query_answer-answer.ensures in
-    (e, rw (sym e ∙ c.in-Refused.is))
+    (e, rw (sym e ∙ c.in-Ok.is) c.list_found.ensures)
 
-pub returns-in-Differs : goal.returns-in-Differs
+pub returns-in_default : goal.returns-in_default
 unfolding lent_after
-returns-in-Differs c =
-    let e = c.query_answer-answer.ensures in
-    (e, rw (sym e ∙ c.in-Differs.is))
-
-pub returns-in-Count : goal.returns-in-Count
-unfolding lent_after
-returns-in-Count c =
-    let e = c.query_answer-answer.ensures in
-    (e, rw (sym e ∙ c.in-Count.is) c.list_found.ensures)
+returns-in_default c = (c.query_answer-answer.ensures, rw (sym c.query_answer-answer.ensures ∙ c.in_default.is))

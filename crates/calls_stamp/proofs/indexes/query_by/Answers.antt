@@ -4,4 +4,4 @@ use Rattle.calls_stamp.proofs.indexes.query_by.Goals as goal
 
 pub returns : goal.returns
 unfolding stamped_query_call
-returns c = (rw c.query.ensures.0 at c.index_answer.ensures, c.query.ensures.1)
+returns c = (rw c.query.ensures.0 at c.from.ensures, c.query.ensures.1)

@@ -4,4 +4,4 @@ use Rattle.calls_stamp.proofs.logs.decode_by.Goals as goal
 
 pub returns : goal.returns
 unfolding stamped_decode_call
-returns c = (rw c.decode.ensures.0 at c.copy_answer.ensures, c.decode.ensures.1)
+returns c = (rw c.decode.ensures.0 at c.from.ensures, c.decode.ensures.1)

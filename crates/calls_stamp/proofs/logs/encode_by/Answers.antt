@@ -1,4 +1,4 @@
--- `encode_by` meets its contract: each arm is a case of the definition.
+-- `encode_by` meets its contract: each way out is a case of the definition.
 use mathlib.Core.Path.{◌∙◌, sym}
 use native.Mathlib.Omega.{arith}
 use Rattle.log_list.specs.Log.{copied, encode_log}
@@ -8,19 +8,17 @@ use Rattle.calls_stamp.specs.Results.{stamped_encode_call}
 use Rattle.calls_stamp.proofs.TripLaws.{accepted-is}
 use Rattle.calls_stamp.proofs.logs.encode_by.Goals as goal
 
-pub encode-requires : goal.encode-requires
-encode-requires c =
-    let l = (accepted-is _ _ (sym c.read_settings.ensures ∙ c.in-Accepted.is)).0 in
-    (omega arith, omega (arith, l))
+pub stamped-requires : goal.stamped-requires
+stamped-requires c = (accepted-is _ _ (sym c.read_settings.ensures ∙ c.in-Some.is)).0
 
-pub returns-in-Refused : goal.returns-in-Refused
+pub returns-in_default : goal.returns-in_default
 unfolding copied under_settings copy_call stamped_encode_call
-returns-in-Refused c =
-    let e = sym c.read_settings.ensures ∙ c.in-Refused.is in
-    (rw e c.copy_answer.ensures, rw e)
+returns-in_default c =
+    let e = sym c.read_settings.ensures ∙ c.in_default.is in
+    (rw e c.from.ensures, rw e)
 
-pub returns-in-Accepted : goal.returns-in-Accepted
+pub returns : goal.returns
 unfolding copied encode_log under_settings copy_call stamped_encode_call
-returns-in-Accepted c =
-    let e = sym c.read_settings.ensures ∙ c.in-Accepted.is in
-    (rw e (rw c.encode.ensures.0 at c.copy_answer-in-Accepted.ensures), rw e c.encode.ensures.1)
+returns c =
+    let e = sym c.read_settings.ensures ∙ c.in-Some.is in
+    (rw e (rw (c.encode.ensures.0, c.stamped.ensures.0) at c.from-2.ensures), rw e (rw (c.stamped.ensures.0, c.stamped.ensures.1) at c.encode.ensures.1))

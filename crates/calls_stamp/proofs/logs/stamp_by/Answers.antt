@@ -1,4 +1,4 @@
--- `stamp_by` meets its contract: each arm is a case of the definition.
+-- `stamp_by` meets its contract: each way out is a case of the definition.
 use mathlib.Core.Path.{◌∙◌, sym}
 use Rattle.log_list.specs.Log.{copied}
 use Rattle.spec_calls.specs.Settings.{under_settings}
@@ -8,16 +8,16 @@ use Rattle.calls_stamp.proofs.TripLaws.{accepted-is}
 use Rattle.calls_stamp.proofs.logs.stamp_by.Goals as goal
 
 pub stamp-requires : goal.stamp-requires
-stamp-requires c = (accepted-is _ _ (sym c.read_settings.ensures ∙ c.in-Accepted.is)).0
+stamp-requires c = (accepted-is _ _ (sym c.read_settings.ensures ∙ c.in-Some.is)).0
 
-pub returns-in-Refused : goal.returns-in-Refused
+pub returns-in_default : goal.returns-in_default
 unfolding copied under_settings copy_call stamp_call
-returns-in-Refused c =
-    let e = sym c.read_settings.ensures ∙ c.in-Refused.is in
-    (rw e c.copy_answer.ensures, rw e)
+returns-in_default c =
+    let e = sym c.read_settings.ensures ∙ c.in_default.is in
+    (rw e c.from.ensures, rw e)
 
-pub returns-in-Accepted : goal.returns-in-Accepted
+pub returns : goal.returns
 unfolding copied under_settings copy_call stamp_call
-returns-in-Accepted c =
-    let e = sym c.read_settings.ensures ∙ c.in-Accepted.is in
-    (rw e (rw c.stamp.ensures.0 at c.copy_answer-in-Accepted.ensures), rw e c.stamp.ensures.1)
+returns c =
+    let e = sym c.read_settings.ensures ∙ c.in-Some.is in
+    (rw e (rw c.stamp.ensures.0 at c.from-2.ensures), rw e c.stamp.ensures.1)

@@ -4,4 +4,4 @@ use Rattle.calls_stamp.proofs.logs.unstamp_by.Goals as goal
 
 pub returns : goal.returns
 unfolding unstamp_call
-returns c = (rw c.unstamp.ensures.0 at c.copy_answer.ensures, c.unstamp.ensures.1)
+returns c = (rw c.unstamp.ensures.0 at c.from.ensures, c.unstamp.ensures.1)

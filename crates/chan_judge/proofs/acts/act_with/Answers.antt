@@ -4,7 +4,7 @@ use Rattle.chan_judge.proofs.acts.act_with.Goals as goal
 pub returns : goal.returns
 returns c =
     rw (
-      c.later.ensures,
+      c.max.ensures,
       c.after_gap.ensures,
       c.act_gap.ensures,
     )

@@ -2,10 +2,10 @@
 use Rattle.chan_judge.specs.Form.Tests.{comes_at}
 use Rattle.chan_judge.proofs.tests.comes_at.Goals as goal
 
-pub returns-in-At : goal.returns-in-At
+pub returns-in-Some : goal.returns-in-Some
 unfolding comes_at
-returns-in-At c = rw c.in-At.is
+returns-in-Some c = rw c.in-Some.is
 
-pub returns-in-Late : goal.returns-in-Late
+pub returns-in-None : goal.returns-in-None
 unfolding comes_at
-returns-in-Late c = rw c.in-Late.is
+returns-in-None c = rw c.in-None.is

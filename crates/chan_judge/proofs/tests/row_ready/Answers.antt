@@ -8,7 +8,7 @@ returns c =
       c.apart.ensures,
       c.keeps-write.ensures,
       c.since_wide.ensures,
-      c.minus-least.ensures,
-      c.wide32-2.ensures.0,
-      c.wide32.ensures.0,
+      c.saturating_sub-least.ensures,
+      c.from-2.ensures,
+      c.from.ensures,
     )

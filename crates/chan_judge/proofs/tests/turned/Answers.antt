@@ -6,8 +6,8 @@ returns c =
     rw (
       c.keeps.ensures,
       c.since_wide.ensures,
-      c.minus-gap.ensures,
-      c.wide32-3.ensures.0,
-      c.wide32-2.ensures.0,
-      c.wide32.ensures.0,
+      c.saturating_sub-gap.ensures,
+      c.from-3.ensures,
+      c.from-2.ensures,
+      c.from.ensures,
     )

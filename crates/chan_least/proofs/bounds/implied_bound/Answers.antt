@@ -6,8 +6,8 @@ pub returns-then-closes : goal.returns-then-closes
 unfolding implied_bound
 returns-then-closes c =
     rw (
-      c.minus.ensures,
-      c.wide32.ensures.0,
+      c.saturating_sub.ensures,
+      c.from.ensures,
       c.prer_bound-bound.ensures,
       c.latest_of-retire.ensures,
       c.latest_of-rd.ensures,

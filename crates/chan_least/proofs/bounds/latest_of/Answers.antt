@@ -2,4 +2,4 @@
 use Rattle.chan_least.proofs.bounds.latest_of.Goals as goal
 
 pub returns : goal.returns
-returns c = rw (c.larger-2.ensures, c.larger.ensures)
+returns c = rw (c.max-2.ensures, c.max.ensures)

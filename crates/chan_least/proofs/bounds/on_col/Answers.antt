@@ -2,4 +2,4 @@
 use Rattle.chan_least.proofs.bounds.on_col.Goals as goal
 
 pub returns : goal.returns
-returns c = rw (c.later-2.ensures, c.later.ensures, c.after_gap.ensures, c.wide32.ensures.0)
+returns c = rw (c.max-2.ensures, c.max.ensures, c.after_gap.ensures, c.from.ensures)

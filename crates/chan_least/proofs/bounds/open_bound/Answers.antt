@@ -4,4 +4,4 @@ use Rattle.chan_least.proofs.bounds.open_bound.Goals as goal
 
 pub returns : goal.returns
 unfolding open_bound
-returns c = rw (c.on_row.ensures, c.later.ensures, c.after_gap.ensures)
+returns c = rw (c.on_row.ensures, c.max.ensures, c.after_gap.ensures)

@@ -4,11 +4,11 @@ use Rattle.chan_least.proofs.bounds.prer_bound.Goals as goal
 pub returns : goal.returns
 returns c =
     rw (
-      c.later-2.ensures,
-      c.later.ensures,
+      c.max-2.ensures,
+      c.max.ensures,
       c.after_gap-4.ensures,
       c.after_gap-3.ensures,
-      c.later-columns.ensures,
+      c.max-columns.ensures,
       c.after_gap-2.ensures,
       c.after_gap.ensures,
     )

@@ -6,8 +6,8 @@ pub returns : goal.returns
 unfolding retire_bound
 returns c =
     rw (
-      c.later.ensures,
+      c.max.ensures,
       c.after_gap.ensures,
-      c.wide32-2.ensures.0,
-      c.wide32.ensures.0,
+      c.from-2.ensures,
+      c.from.ensures,
     )

@@ -7,14 +7,14 @@ unfolding write_bound
 returns c =
     rw (
       c.on_col.ensures,
-      c.later.ensures,
+      c.max.ensures,
       c.since_wide-2.ensures,
       c.since_wide.ensures,
-      c.minus-gap.ensures,
-      c.wide32-5.ensures.0,
-      c.wide32-4.ensures.0,
-      c.wide32-3.ensures.0,
-      c.minus-least.ensures,
-      c.wide32-2.ensures.0,
-      c.wide32.ensures.0,
+      c.saturating_sub-gap.ensures,
+      c.from-5.ensures,
+      c.from-4.ensures,
+      c.from-3.ensures,
+      c.saturating_sub-least.ensures,
+      c.from-2.ensures,
+      c.from.ensures,
     )

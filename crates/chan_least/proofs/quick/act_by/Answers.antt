@@ -2,4 +2,4 @@
 use Rattle.chan_least.proofs.quick.act_by.Goals as goal
 
 pub returns : goal.returns
-returns c = rw (c.later.ensures, c.after_gap-2.ensures, c.after_gap.ensures, c.latest_of-near.ensures)
+returns c = rw (c.max.ensures, c.after_gap-2.ensures, c.after_gap.ensures, c.latest_of-near.ensures)

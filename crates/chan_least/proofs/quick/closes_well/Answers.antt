@@ -6,7 +6,7 @@ pub returns : goal.returns
 unfolding closes_well
 returns c =
     rw (
-      c.wide32.ensures.0,
+      c.from.ensures,
       c.close_bound.ensures,
       c.loses-2.ensures,
       c.loses.ensures,

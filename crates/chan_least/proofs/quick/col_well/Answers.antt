@@ -4,7 +4,7 @@ use Rattle.chan_least.proofs.quick.col_well.Goals as goal
 
 pub returns-in-Nocop : goal.returns-in-Nocop
 unfolding col_well
-returns-in-Nocop c = rw (c.wide32.ensures.0, c.nocop_bound.ensures, c.leaves_well.ensures, c.in-Nocop.is)
+returns-in-Nocop c = rw (c.from.ensures, c.nocop_bound.ensures, c.leaves_well.ensures, c.in-Nocop.is)
 
 pub returns-in-Wr : goal.returns-in-Wr
 unfolding col_well

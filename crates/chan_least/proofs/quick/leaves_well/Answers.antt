@@ -4,7 +4,7 @@ use Rattle.chan_least.proofs.quick.leaves_well.Goals as goal
 
 pub returns-then-out : goal.returns-then-out
 unfolding leaves_well
-returns-then-out c = rw (c.wide32.ensures.0, c.after_gap.ensures, c.is_open.ensures, c.if-out.true)
+returns-then-out c = rw (c.from.ensures, c.after_gap.ensures, c.is_open.ensures, c.if-out.true)
 
 pub returns : goal.returns
 unfolding leaves_well

@@ -4,4 +4,4 @@ use Rattle.chan_least.proofs.quick.opens_well.Goals as goal
 
 pub returns : goal.returns
 unfolding opens_well
-returns c = rw (c.wide32.ensures.0, c.closed_near.ensures, c.open_bound-bound.ensures, c.latest_of.ensures)
+returns c = rw (c.from.ensures, c.closed_near.ensures, c.open_bound-bound.ensures, c.latest_of.ensures)

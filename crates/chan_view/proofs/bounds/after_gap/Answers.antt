@@ -2,4 +2,4 @@
 use Rattle.chan_view.proofs.bounds.after_gap.Goals as goal
 
 pub returns : goal.returns
-returns c = rw c.wide32.ensures.0 at c.since_wide.ensures
+returns c = rw c.from.ensures at c.since_wide.ensures

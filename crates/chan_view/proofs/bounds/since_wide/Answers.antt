@@ -6,4 +6,4 @@ pub returns-then-last-eq0 : goal.returns-then-last-eq0
 returns-then-last-eq0 c = rw (eq-eqb _ _ c.if-last-eq0.true)
 
 pub returns : goal.returns
-returns c = rw (ne_eqb _ _ c.if-last-eq0.false, c.wide32.ensures.0)
+returns c = rw (ne_eqb _ _ c.if-last-eq0.false, c.from.ensures)

@@ -7,8 +7,8 @@ unfolding context_of in_runs
 returns c =
     rw (
       c.in_run.ensures,
-      c.wide32-4.ensures.0,
-      c.wide32-3.ensures.0,
-      c.wide32-2.ensures.0,
-      c.wide32.ensures.0,
+      c.from-4.ensures,
+      c.from-3.ensures,
+      c.from-2.ensures,
+      c.from.ensures,
     )

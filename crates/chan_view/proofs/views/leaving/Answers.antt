@@ -4,7 +4,7 @@ use Rattle.chan_view.proofs.views.leaving.Goals as goal
 pub returns : goal.returns
 returns c =
     rw (
-      c.wide32-3.ensures.0,
-      c.wide32-2.ensures.0,
-      c.wide32.ensures.0,
+      c.from-3.ensures,
+      c.from-2.ensures,
+      c.from.ensures,
     )

@@ -1,10 +1,10 @@
 -- `judge_all` meets its contract: the walk stops at the first record that breaks a rule, since all are records.
+use Rattle.std.specs.Prelude.{Err}
 use mathlib.Core.Path.{sym, ◌∙◌, ap}
 use Rattle.spec_rules.specs.Neighbour.{context_of}
 use Rattle.spec_rules.proofs.NeighbourLaws.{core-neighbours}
 use Rattle.record.specs.declared.Refusal.TheVariants.{Rule}
 use Rattle.check_walk.specs.declared.Stop.{Stop}
-use Rattle.spec_check.specs.declared.Judged.TheVariants.{Refused}
 use Rattle.check_walk.specs.Form.Walk.{stop_of}
 use Rattle.check_list.proofs.StopLaws.{stop-passed, stop-refused}
 use Rattle.check_list.proofs.walked.judge_all.Goals as goal
@@ -22,4 +22,4 @@ returns c =
     let a = c.args in
     let e = c.walk-stop.ensures in
     let at = ap (λ (x : Stop). x.at) e in
-    ap (λ (x : Stop). Refused (Rule x.rule x.at)) e ∙ stop-refused (context_of a.s) a.per a.b.now a.n (core-neighbours a.s) c.requires.by_index_2 (λ z. c.if-at-n.false (at ∙ z))
+    ap (λ (x : Stop). Err (Rule x.rule x.at)) e ∙ stop-refused (context_of a.s) a.per a.b.now a.n (core-neighbours a.s) c.requires.by_index_2 (λ z. c.if-at-n.false (at ∙ z))

@@ -2,4 +2,4 @@
 use Rattle.check_walk.proofs.short.is_after.Goals as goal
 
 pub returns : goal.returns
-returns c = rw (c.wide32-3.ensures.0, c.wide32-2.ensures.0, c.wide32.ensures.0)
+returns c = rw (c.from-3.ensures, c.from-2.ensures, c.from.ensures)

@@ -10,4 +10,4 @@ returns-then-s-ge32 c = λ p. not-both _ p refl
 pub returns : goal.returns
 returns c =
     let a = c.args in
-    read-says a.s a.word c.wide32-device.result c.wide32.result c.if-s-ge32.false c.wide32-device.ensures.0 c.wide32.ensures.0
+    read-says a.s a.word c.from-device.result c.from.result c.if-s-ge32.false c.from-device.ensures c.from.ensures

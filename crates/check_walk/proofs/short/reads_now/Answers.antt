@@ -8,6 +8,6 @@ returns c =
       c.is_after-2.ensures,
       c.is_open.ensures,
       c.is_after.ensures,
-      c.wide32-2.ensures.0,
-      c.wide32.ensures.0,
+      c.from-2.ensures,
+      c.from.ensures,
     )

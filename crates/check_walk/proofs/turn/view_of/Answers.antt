@@ -9,4 +9,4 @@ returns-in-Packet c = rw (sym c.seen_of-seen.ensures, c.in-Packet.is)
 
 pub returns-in-Data : goal.returns-in-Data
 unfolding view_in
-returns-in-Data c = rw (sym c.seen_of-seen.ensures, c.in-Data.is)
+returns-in-Data c = rw (sym c.seen_of-seen.ensures, c.in-Data.is) c.plain_view.ensures

@@ -3,10 +3,10 @@ use mathlib.Core.Path.{◌∙◌, sym}
 use Rattle.spec_check.specs.Check.{known}
 use Rattle.listing_text.proofs.lines.record_at.Goals as goal
 
-pub returns-in-NoRecord : goal.returns-in-NoRecord
+pub returns-in-None : goal.returns-in-None
 unfolding known
-returns-in-NoRecord c = rw (sym c.read_record.ensures ∙ c.in-NoRecord.is)
+returns-in-None c = rw (sym c.read_record.ensures ∙ c.in-None.is)
 
-pub returns-in-Known : goal.returns-in-Known
+pub returns-in-Some : goal.returns-in-Some
 unfolding known
-returns-in-Known c = rw (sym c.read_record.ensures ∙ c.in-Known.is)
+returns-in-Some c = rw (sym c.read_record.ensures ∙ c.in-Some.is)

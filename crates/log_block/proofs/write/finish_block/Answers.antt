@@ -6,9 +6,8 @@ use Rattle.log_block.proofs.write.finish_block.Goals as goal
 pub returns : goal.returns
 returns c =
     let a = c.args in
-    let w = c.wrapping_sub_u32-check.result in
-    let z = rw (c.word_sum-s.ensures, c.write_fields.ensures) at c.wrapping_sub_u32-check.ensures.value in
+    let s = rw c.write_fields.ensures at c.word_sum-s.ensures in
     let recs = take a.n a.b.now in
     let m : length recs ≡ a.n = length-take-le a.n a.b.now (omega arith) in
-    rw (c.put_u32.ensures, c.wide32.ensures.0, c.write_fields.ensures)
-    (check-store a.b.now a.stamp.now a.k recs w (omega arith) (omega arith) (search rules) z)
+    rw (c.put_u32.ensures, c.from.ensures, c.write_fields.ensures)
+    (check-store a.b.now a.stamp.now a.k recs _ (omega arith) (omega arith) (search rules) (omega (arith, s)))

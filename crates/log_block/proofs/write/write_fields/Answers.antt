@@ -10,7 +10,7 @@ returns c =
       c.put_zeros-2.ensures,
       c.put_u32-2.ensures,
       c.put_u32.ensures,
-      c.wide32.ensures.0,
+      c.from.ensures,
       c.put_bytes.ensures,
       c.put_zeros.ensures,
     )

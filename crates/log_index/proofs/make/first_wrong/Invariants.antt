@@ -1,5 +1,5 @@
 -- `first_wrong` meets its contract: the words before word k are right in every turn.
-use Prim.Native.Nat.{ℕ, ◌-◌, ◌<◌, ◌≤◌}
+use Prim.Native.Nat.{ℕ, ◌<◌}
 use mathlib.Core.Path.{◌≡◌}
 use mathlib.Core.Bool.{true}
 use Rattle.spec_index.specs.Index.{word_right}
@@ -7,7 +7,4 @@ use Rattle.log_index.specs.Form.Fields.{fields_word}
 use Rattle.log_index.proofs.make.first_wrong.Given as goal
 
 abbrev pub invariant-loop-k : goal.invariant-loop-k
-invariant-loop-k l = (l.k ≤ l.n) × ((i : ℕ) → i < l.k → word_right fields_word l.log l.index i ≡ true)
-
-abbrev pub decreases-loop-k : goal.decreases-loop-k
-decreases-loop-k l = l.n - l.k
+invariant-loop-k l = (i : ℕ) → i < l.k → word_right fields_word l.log l.index i ≡ true

@@ -5,4 +5,4 @@ pub block_word-w-requires : goal.block_word-w-requires
 block_word-w-requires c = c.requires.k_bound
 
 pub returns : goal.returns
-returns c = rw (c.wide32.ensures.0, c.block_word-w.ensures) at c.put_u32.ensures
+returns c = rw (c.from.ensures, c.block_word-w.ensures) at c.put_u32.ensures

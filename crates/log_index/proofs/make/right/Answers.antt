@@ -6,9 +6,6 @@ use native.Mathlib.Omega.{arith}
 use Rattle.log_index.proofs.make.MakeLaws.{fifteen}
 use Rattle.log_index.proofs.make.right.Goals as goal
 
-pub faults-found-requires : goal.faults-found-requires
-faults-found-requires c = omega arith
-
 pub returns-then-found-n : goal.returns-then-found-n
 returns-then-found-n c =
     let e = c.faults-found.ensures.0 in
@@ -16,10 +13,7 @@ returns-then-found-n c =
 
 pub records_in-requires : goal.records_in-requires
 records_in-requires c =
-    record {
-      le_per = fifteen;
-      log_value = sym c.faults-found.ensures.0 ∙ c.if-found-n.false;
-    }
+    record { log_value = sym c.faults-found.ensures.0 ∙ c.if-found-n.false }
 
 pub returns-then-found-records_in : goal.returns-then-found-records_in
 returns-then-found-records_in c =

@@ -1,5 +1,4 @@
 -- `write_index` meets its contract: after each turn the words of the first k blocks are there.
-use Prim.Native.Nat.{◌-◌, ◌≤◌}
 use mathlib.Core.Path.{◌≡◌}
 use Rattle.num.specs.Bytes.{splice}
 use Rattle.spec_index.specs.Index.{words_up_to}
@@ -7,7 +6,4 @@ use Rattle.log_index.specs.Form.Fields.{fields_word}
 use Rattle.log_index.proofs.make.write_index.Given as goal
 
 abbrev pub invariant-loop-k : goal.invariant-loop-k
-invariant-loop-k l = (l.k ≤ l.n) × (l.index ≡ splice l.initial.index 0 (words_up_to fields_word l.log l.k))
-
-abbrev pub decreases-loop-k : goal.decreases-loop-k
-decreases-loop-k l = l.n - l.k
+invariant-loop-k l = l.index ≡ splice l.initial.index 0 (words_up_to fields_word l.log l.k)

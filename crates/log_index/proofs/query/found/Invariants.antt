@@ -1,12 +1,8 @@
 -- `found` meets its contract: n is the count of the words passed so far.
-use Prim.Native.Nat.{◌-◌, ◌≤◌}
 use mathlib.Core.Path.{◌≡◌}
 use Rattle.num.specs.Marks.{count_up_to}
 use Rattle.spec_index.specs.Query.{has_bit}
 use Rattle.log_index.proofs.query.found.Given as goal
 
 abbrev pub invariant-loop-k : goal.invariant-loop-k
-invariant-loop-k l = (l.k ≤ l.words) × (l.n ≡ count_up_to (has_bit l.index l.bank) l.k)
-
-abbrev pub decreases-loop-k : goal.decreases-loop-k
-decreases-loop-k l = l.words - l.k
+invariant-loop-k l = l.n ≡ count_up_to (has_bit l.index l.bank) l.k

@@ -1,11 +1,7 @@
 -- `records_word` meets its contract: after i turns w is the word of the first i records.
-use Prim.Native.Nat.{◌-◌, ◌≤◌}
 use mathlib.Core.Path.{◌≡◌}
 use Rattle.log_index.specs.Form.Fields.{fields_up_to}
 use Rattle.log_index.proofs.words.records_word.Given as goal
 
 abbrev pub invariant-loop-i : goal.invariant-loop-i
-invariant-loop-i l = (l.i ≤ l.n) × (l.w ≡ fields_up_to l.b l.i)
-
-abbrev pub decreases-loop-i : goal.decreases-loop-i
-decreases-loop-i l = l.n - l.i
+invariant-loop-i l = l.w ≡ fields_up_to l.b l.i

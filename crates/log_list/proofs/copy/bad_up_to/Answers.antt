@@ -10,22 +10,22 @@ use Rattle.log_list.proofs.copy.bad_up_to.Goals as goal
 pub overflow_mul-first : goal.overflow_mul-first
 overflow_mul-first c =
     let a = c.args in
-    let m : a.per * a.k ≤ 15 * a.k = mul-le-mul_right a.k c.requires.2 in
+    let m : a.per.records * a.k ≤ 15 * a.k = mul-le-mul_right a.k a.per.few in
     omega arith
 
 pub overflow_add-result : goal.overflow_add-result
 overflow_add-result c =
     let a = c.args in
     let b = block_at a.log.now a.k in
-    let m : a.per * a.k ≤ 15 * a.k = mul-le-mul_right a.k c.requires.2 in
+    let m : a.per.records * a.k ≤ 15 * a.k = mul-le-mul_right a.k a.per.few in
     omega (arith, bad-most a.s b (used b))
 
 pub returns-then-bad-first : goal.returns-then-bad-first
 returns-then-bad-first c =
     let a = c.args in
-    rw (eq-eqb a.bad (a.per * a.k) c.if-bad-first.true, c.bad_in_block.ensures)
+    rw (eq-eqb a.bad (a.per.records * a.k) c.if-bad-first.true, c.bad_in_block.ensures)
 
 pub returns : goal.returns
 returns c =
     let a = c.args in
-    rw (ne_eqb a.bad (a.per * a.k) c.if-bad-first.false)
+    rw (ne_eqb a.bad (a.per.records * a.k) c.if-bad-first.false)

@@ -3,21 +3,20 @@ use mathlib.Core.Path.{◌∙◌, sym}
 use native.Mathlib.Omega.{arith}
 use Rattle.log_list.specs.Log.{decode_log, copied}
 use Rattle.log_list.proofs.CopyLaws.{decoded}
-use Rattle.log_block.proofs.ListThenLog.{list-whole}
+use Rattle.log_block.proofs.ListThenLog.{whole-records}
 use Rattle.log_list.proofs.copy.decode.Goals as goal
 
 pub read_list-requires : goal.read_list-requires
 read_list-requires c =
-    let p = decoded _ _ _ _ _ (sym c.decode_answer-answer.ensures ∙ c.in-Count.is) in
+    let p = decoded _ _ _ _ _ (sym c.decode_answer-answer.ensures ∙ c.in-Ok.is) in
     record {
-      le_per = c.requires;
       log_value = p.right;
-      log_in_bounds = omega (arith, p.room-enough, list-whole _ c.requires _ p.right);
+      log_in_bounds = omega (arith, p.room-enough, whole-records _ c.args.per.few _ p.right);
     }
 
-pub returns-in-Count : goal.returns-in-Count
+pub returns-in-Ok : goal.returns-in-Ok
 unfolding decode_log copied
-returns-in-Count c = (c.decode_answer-answer.ensures, rw (sym c.decode_answer-answer.ensures ∙ c.in-Count.is) c.read_list.ensures)
+returns-in-Ok c = (c.decode_answer-answer.ensures, rw (sym c.decode_answer-answer.ensures ∙ c.in-Ok.is) c.read_list.ensures)
 
 pub returns-in_default : goal.returns-in_default
 unfolding decode_log copied

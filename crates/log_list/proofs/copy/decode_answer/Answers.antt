@@ -18,16 +18,13 @@ returns-then-found-log c =
 
 pub records_in-n-requires : goal.records_in-n-requires
 records_in-n-requires c =
-    record {
-      le_per = c.requires;
-      log_value = sym c.faults-found.ensures.0 ∙ c.if-found-log.false;
-    }
+    record { log_value = sym c.faults-found.ensures.0 ∙ c.if-found-log.false }
 
 pub returns-then-found-n : goal.returns-then-found-n
 unfolding decode_answer
 returns-then-found-n c =
     let g = sym c.faults-found.ensures.0 ∙ c.if-found-log.false in
-    let e = c.faults-found.ensures.1 ∙ bad-of-all c.args.s c.args.per c.args.log.now g in
+    let e = c.faults-found.ensures.1 ∙ bad-of-all c.args.s c.args.per.records c.args.log.now g in
     rw (eq-eqb _ 0 c.if-log-ne0.false, eq-eqb _ _ g, ne_eqb _ _ (λ z. c.if-found-n.true (e ∙ z ∙ sym c.records_in-n.ensures)), e)
 
 pub returns-then-n-room : goal.returns-then-n-room
@@ -35,7 +32,7 @@ unfolding decode_answer
 returns-then-n-room c =
     let room = c.args.room in
     let g = sym c.faults-found.ensures.0 ∙ c.if-found-log.false in
-    let e = c.faults-found.ensures.1 ∙ bad-of-all c.args.s c.args.per c.args.log.now g in
+    let e = c.faults-found.ensures.1 ∙ bad-of-all c.args.s c.args.per.records c.args.log.now g in
     let n = c.records_in-n.ensures in
     rw (eq-eqb _ 0 c.if-log-ne0.false, eq-eqb _ _ g, eq-eqb _ _ (sym e ∙ c.if-found-n.false ∙ n), ← n, le-leb _ (room / 32) c.if-n-room.true)
 
@@ -44,6 +41,6 @@ unfolding decode_answer
 returns c =
     let room = c.args.room in
     let g = sym c.faults-found.ensures.0 ∙ c.if-found-log.false in
-    let e = c.faults-found.ensures.1 ∙ bad-of-all c.args.s c.args.per c.args.log.now g in
+    let e = c.faults-found.ensures.1 ∙ bad-of-all c.args.s c.args.per.records c.args.log.now g in
     let n = c.records_in-n.ensures in
     rw (eq-eqb _ 0 c.if-log-ne0.false, eq-eqb _ _ g, eq-eqb _ _ (sym e ∙ c.if-found-n.false ∙ n), ← n, lt-leb _ (room / 32) c.if-n-room.false)

@@ -6,16 +6,15 @@ use Rattle.log_list.proofs.copy.encode.Goals as goal
 
 pub write_log-requires : goal.write_log-requires
 write_log-requires c =
-    let p = encoded _ _ _ _ _ (sym c.encode_answer-answer.ensures ∙ c.in-Count.is) in
+    let p = encoded _ _ _ _ _ (sym c.encode_answer-answer.ensures ∙ c.in-Ok.is) in
     record {
-      le_per = c.requires;
       list_in_bounds = p.room-enough;
       list_bound = p.number_fits;
     }
 
-pub returns-in-Count : goal.returns-in-Count
+pub returns-in-Ok : goal.returns-in-Ok
 unfolding encode_log copied
-returns-in-Count c = (c.encode_answer-answer.ensures, rw (sym c.encode_answer-answer.ensures ∙ c.in-Count.is) c.write_log.ensures)
+returns-in-Ok c = (c.encode_answer-answer.ensures, rw (sym c.encode_answer-answer.ensures ∙ c.in-Ok.is) c.write_log.ensures)
 
 pub returns-in_default : goal.returns-in_default
 unfolding encode_log copied

@@ -1,5 +1,5 @@
 -- `faults` meets its contract: the blocks before block k are right in every turn, and the first bad record of theirs is known.
-use Prim.Native.Nat.{◌+◌, ◌-◌}
+use Prim.Native.Nat.{◌+◌}
 use mathlib.Core.Path.{◌≡◌, refl, sym, ◌∙◌}
 use native.Mathlib.Omega.{arith}
 use lib.Dec.{eqb}
@@ -11,36 +11,34 @@ use Rattle.log_block.specs.Block.{blocks_in, block_at, first_bad_block, list_up_
 use Rattle.log_block.proofs.BlockLaws.{right_at}
 use Rattle.log_block.proofs.OneBlock.{right_of}
 use Rattle.log_list.proofs.BadLaws.{bad-next}
-use borrow.Author.Rules.{rules}
 use Rattle.log_list.proofs.copy.faults.Goals as goal
 
 pub loop-k-init : goal.loop-k-init
 unfolding first_bad first_false list_up_to
-loop-k-init c = (search rules, λ i h. absurd (omega arith), refl)
+loop-k-init c = (λ i h. absurd (omega arith), refl)
 
 pub returns-then-not-right_at : goal.returns-then-not-right_at
 unfolding first_bad_block
 returns-then-not-right_at c =
-    let per = c.args.per in
+    let per = c.args.per.records in
     let log = c.args.log.now in
-    let bad = first-at (right_at per log) (blocks_in log) c.loop-k.k c.loop-k.invariant.1 (omega arith) (sym c.right_at.ensures ∙ c.if-not-right_at.true) in
-    (sym bad, rw bad c.loop-k.invariant.2)
+    let bad = first-at (right_at per log) (blocks_in log) c.loop-k.k c.loop-k.invariant.0 (omega arith) (sym c.right_at.ensures ∙ c.if-not-right_at.true) in
+    (sym bad, rw bad c.loop-k.invariant.1)
 
 pub bad_up_to-bad-requires : goal.bad_up_to-bad-requires
 bad_up_to-bad-requires c =
     let log = c.args.log.now in
-    let per = c.args.per in
+    let per = c.args.per.records in
     let k = c.loop-k.k in
     let t = eqb (k + 1) (blocks_in log) in
-    (omega arith, (right_of per k t (block_at log k) (sym c.right_at.ensures ∙ c.if-not-right_at.false)).used-most, c.requires)
+    (omega arith, (right_of per k t (block_at log k) (sym c.right_at.ensures ∙ c.if-not-right_at.false)).used-most)
 
 pub loop-k-preserved : goal.loop-k-preserved
 loop-k-preserved c =
     let a = c.args in
     let k = c.loop-k.k in (
-      search rules,
-      below_more _ _ c.loop-k.invariant.1 (sym c.right_at.ensures ∙ c.if-not-right_at.false),
-      rw (c.bad_up_to-bad.ensures, c.loop-k.invariant.2) (sym (bad-next a.s a.per c.requires a.log.now k c.loop-k.invariant.1 (omega arith))),
+      below_more _ _ c.loop-k.invariant.0 (sym c.right_at.ensures ∙ c.if-not-right_at.false),
+      rw (c.bad_up_to-bad.ensures, c.loop-k.invariant.1) (sym (bad-next a.s a.per.records a.per.few a.log.now k c.loop-k.invariant.0 (omega arith))),
     )
 
 pub returns : goal.returns
@@ -48,5 +46,5 @@ unfolding first_bad_block
 returns c =
     let log = c.args.log.now in
     let e : c.loop-k.k ≡ blocks_in log = omega arith in
-    let good = first-none (right_at c.args.per log) (blocks_in log) (rw e at c.loop-k.invariant.1) in
-    (omega (arith, good), rw (good, ← e) c.loop-k.invariant.2)
+    let good = first-none (right_at c.args.per.records log) (blocks_in log) (rw e at c.loop-k.invariant.0) in
+    (omega (arith, good), rw (good, ← e) c.loop-k.invariant.1)

@@ -1,5 +1,5 @@
 -- `faults` meets its contract: the blocks before block k are right in every turn, and the first bad record of theirs is known.
-use Prim.Native.Nat.{ℕ, ◌-◌, ◌<◌, ◌≤◌}
+use Prim.Native.Nat.{ℕ, ◌<◌}
 use mathlib.Core.Path.{◌≡◌}
 use mathlib.Core.Bool.{true}
 use Rattle.record.specs.Record.{first_bad}
@@ -8,7 +8,4 @@ use Rattle.log_block.proofs.BlockLaws.{right_at}
 use Rattle.log_list.proofs.copy.faults.Given as goal
 
 abbrev pub invariant-loop-k : goal.invariant-loop-k
-invariant-loop-k l = (l.k ≤ l.n) × ((i : ℕ) → i < l.k → right_at l.per l.log i ≡ true) × (l.bad ≡ first_bad l.s (list_up_to l.log l.k))
-
-abbrev pub decreases-loop-k : goal.decreases-loop-k
-decreases-loop-k l = l.n - l.k
+invariant-loop-k l = ((i : ℕ) → i < l.k → right_at l.per.records l.log i ≡ true) × (l.bad ≡ first_bad l.s (list_up_to l.log l.k))

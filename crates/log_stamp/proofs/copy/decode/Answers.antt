@@ -9,16 +9,15 @@ use Rattle.log_stamp.proofs.copy.decode.Goals as goal
 
 pub read_list-requires : goal.read_list-requires
 read_list-requires c =
-    let p = decoded _ _ _ (sym c.decode_answer-answer.ensures ∙ c.in-Count.is) in
+    let p = decoded _ _ _ (sym c.decode_answer-answer.ensures ∙ c.in-Ok.is) in
     record {
-      le_per = fourteen;
       log_value = p.passed.right;
       log_in_bounds = omega (arith, p.room-enough, list-whole 14 fourteen _ p.passed.right);
     }
 
-pub returns-in-Count : goal.returns-in-Count
+pub returns-in-Ok : goal.returns-in-Ok
 unfolding copied
-returns-in-Count c = (c.decode_answer-answer.ensures, rw (sym c.decode_answer-answer.ensures ∙ c.in-Count.is) c.read_list.ensures)
+returns-in-Ok c = (c.decode_answer-answer.ensures, rw (sym c.decode_answer-answer.ensures ∙ c.in-Ok.is) c.read_list.ensures)
 
 pub returns-in_default : goal.returns-in_default
 unfolding copied

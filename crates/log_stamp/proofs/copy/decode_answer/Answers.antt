@@ -1,7 +1,8 @@
 -- `decode_answer` meets its contract: the tests are the definition's, in their order.
+use Rattle.std.proofs.lemmas.Result.{err_from_is_err_and}
+use Rattle.std.specs.Prelude.{Err}
 use mathlib.Core.Path.{◌∙◌, sym}
 use borrow.Author.Tests.{eq-eqb, ne_eqb}
-use Rattle.log_list.specs.declared.Copied.TheVariants.{Refused}
 use Rattle.log_list.specs.Log.{records_or_full}
 use Rattle.log_block.specs.Block.{list_of}
 use Rattle.log_stamp.specs.Copy.{stamped_decode_answer}
@@ -15,22 +16,22 @@ returns-then-log-ne0 c = rw (ne_eqb _ 0 c.if-log-ne0.true)
 pub records_in-requires : goal.records_in-requires
 records_in-requires c =
     record {
-      le_per = fourteen;
-      log_value = (right-passed _ _ (sym c.tested.ensures ∙ c.in-Right.is)).0.right;
+      log_value = (right-passed _ _ (sym c.tested.ensures ∙ c.in_ok-tested.was)).0.right;
     }
 
-pub returns-in-Refused : goal.returns-in-Refused
+pub returns-in_err-tested : goal.returns-in_err-tested
 unfolding stamped_decode_answer
-returns-in-Refused c =
+returns-in_err-tested c =
     let log = c.args.log.now in
     let room = c.args.room in
-    rw (eq-eqb _ 0 c.if-log-ne0.false)
-    (sym (right-refused Refused log _ (λ s. records_or_full (list_of log) room) (sym c.tested.ensures ∙ c.in-Refused.is)))
+    let p = err_from_is_err_and c.from_residual.result c.from_residual.ensures.1 in
+    rw (p.1, p.2, eq-eqb _ 0 c.if-log-ne0.false)
+    (sym (right-refused Err log _ (λ s. records_or_full (list_of log) room) (sym c.tested.ensures ∙ c.in_err-tested.was)))
 
-pub returns-in-Right : goal.returns-in-Right
+pub returns : goal.returns
 unfolding stamped_decode_answer
-returns-in-Right c =
+returns c =
     let log = c.args.log.now in
     let room = c.args.room in
-    let p = (right-passed log _ (sym c.tested.ensures ∙ c.in-Right.is)).0 in
-    rw (eq-eqb _ 0 c.if-log-ne0.false) (rw c.records_in.ensures at c.records_or_full.ensures ∙ sym (right-next Refused log (λ s. records_or_full (list_of log) room) p))
+    let p = (right-passed log _ (sym c.tested.ensures ∙ c.in_ok-tested.was)).0 in
+    rw (eq-eqb _ 0 c.if-log-ne0.false) (rw c.records_in.ensures at c.records_or_full.ensures ∙ sym (right-next Err log (λ s. records_or_full (list_of log) room) p))

@@ -7,16 +7,16 @@ use Rattle.log_stamp.proofs.copy.stamp.Goals as goal
 
 pub write_moved-requires : goal.write_moved-requires
 write_moved-requires c =
-    let p = stamped _ _ _ _ (sym c.stamp_answer-answer.ensures ∙ c.in-Count.is) in
+    let p = stamped _ _ _ _ (sym c.stamp_answer-answer.ensures ∙ c.in-Ok.is) in
     record {
-      le_per = (omega arith, omega arith, omega arith, omega (arith, c.requires));
+      le_per = omega arith;
       log_value = p.right;
-      log_in_bounds = (p.fits.room-enough, p.fits.number_fits);
+      log_in_bounds = rw c.stamped.ensures.0 (p.fits.room-enough, p.fits.number_fits);
     }
 
-pub returns-in-Count : goal.returns-in-Count
+pub returns-in-Ok : goal.returns-in-Ok
 unfolding copied
-returns-in-Count c = (c.stamp_answer-answer.ensures, rw (sym c.stamp_answer-answer.ensures ∙ c.in-Count.is) c.write_moved.ensures)
+returns-in-Ok c = (c.stamp_answer-answer.ensures, rw (sym c.stamp_answer-answer.ensures ∙ c.in-Ok.is) (rw (c.stamped.ensures.0, c.stamped.ensures.1) at c.write_moved.ensures))
 
 pub returns-in_default : goal.returns-in_default
 unfolding copied

@@ -17,11 +17,11 @@ returns c =
     let a = c.args in
     let k = a.k in
     let l = list_of a.log.now in
-    let st = a.stamp.now in
-    let first = a.next * k in
-    let recs = part l (32 * first) (32 * a.next) in
-    let form : Records a.per = (omega arith, omega arith) in
-    let whole = list-whole a.per form a.log.now c.requires.log_value.0 in
+    let st = a.next.stamp.now in
+    let first = a.next.per * k in
+    let recs = part l (32 * first) (32 * a.next.per) in
+    let form : Records a.per.records = (omega arith, a.per.few) in
+    let whole = list-whole a.per.records form a.log.now c.requires.log_value.0 in
     let long : length l ≡ 32 * a.n = omega arith in
-    let e = rw (c.lesser-m.ensures, part-least l first a.next a.n long (omega arith)) at c.move_block.ensures in
-    rw e (part-back a.out.now (512 * k) (512 * k + 512 - 512 * k) (block st k recs) (length-block st k recs (part-fits a.next st l k c.requires.le_per.3) ∙ omega arith))
+    let e = rw (c.min-m.ensures, part-least l first a.next.per a.n long (omega arith)) at c.move_block.ensures in
+    rw e (part-back a.out.now (512 * k) (512 * k + 512 - 512 * k) (block st k recs) (length-block st k recs (part-fits a.next.per st l k a.next.fits) ∙ omega arith))

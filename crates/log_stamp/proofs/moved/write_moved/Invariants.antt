@@ -1,12 +1,8 @@
 -- `write_moved` meets its contract: after k turns the first k blocks are written.
 use mathlib.Core.Path.{◌≡◌}
-use Prim.Native.Nat.{◌-◌, ◌≤◌}
 use Rattle.num.specs.Bytes.{splice}
 use Rattle.log_block.specs.Block.{log_up_to, list_of}
 use Rattle.log_stamp.proofs.moved.write_moved.Given as goal
 
 abbrev pub invariant-loop-k : goal.invariant-loop-k
-invariant-loop-k l = (l.k ≤ l.blocks) × (l.out ≡ splice l.initial.out 0 (log_up_to l.next l.stamp (list_of l.log) l.k))
-
-abbrev pub decreases-loop-k : goal.decreases-loop-k
-decreases-loop-k l = l.blocks - l.k
+invariant-loop-k l = l.out ≡ splice l.initial.out 0 (log_up_to l.next.per l.next.stamp.now (list_of l.log) l.k)

@@ -2,15 +2,10 @@
 use mathlib.Core.Path.{sym, ◌∙◌}
 use Rattle.meter.specs.Answer.{feed_number}
 use Rattle.meter.specs.Calls.{count_answered}
-use borrow.Author.Rules.{rules}
 use Rattle.meter.proofs.counts.count.Goals as goal
 
 pub busy_count-count-requires : goal.busy_count-count-requires
-busy_count-count-requires c =
-    record {
-      marks_len = search rules;
-      newest_value = sym c.right.ensures ∙ c.if-right.true;
-    }
+busy_count-count-requires c = record { newest_value = sym c.right.ensures ∙ c.if-right.true }
 
 pub returns-then-right : goal.returns-then-right
 unfolding count_answered

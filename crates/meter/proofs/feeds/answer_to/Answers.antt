@@ -27,7 +27,7 @@ returns-then-at-gt-HORIZON_WIDE c =
 
 pub overflow_add-newest : goal.overflow_add-newest
 overflow_add-newest c =
-    let v = valid-in (meter_of c.args.marks.now c.args.newest) c.requires (sym c.right.ensures ∙ c.if-not-right.false) in
+    let v = valid-in (meter_of c.args.marks.now c.args.newest) (omega arith) (sym c.right.ensures ∙ c.if-not-right.false) in
     record { fits = omega (arith, v.in-range) }
 
 pub returns-then-at-newest : goal.returns-then-at-newest
@@ -36,8 +36,8 @@ returns-then-at-newest c =
     let at = c.args.at in
     rw (sym c.right.ensures, c.if-not-right.false, le-leb 4 at c.if-at-lt4.false, le-leb at horizon c.if-at-gt-HORIZON_WIDE.false, lt-ltb at (c.args.newest + 4) c.if-at-newest.true)
 
-pub returns-else-at-newest : goal.returns-else-at-newest
+pub returns : goal.returns
 unfolding feed_answer
-returns-else-at-newest c =
+returns c =
     let at = c.args.at in
     rw (sym c.right.ensures, c.if-not-right.false, le-leb 4 at c.if-at-lt4.false, le-leb at horizon c.if-at-gt-HORIZON_WIDE.false, le-ltb at (c.args.newest + 4) c.if-at-newest.false)

@@ -4,4 +4,4 @@ use Rattle.model_next.proofs.cols.leaves_at.Goals as goal
 
 pub returns : goal.returns
 unfolding leaves_at
-returns c = rw (c.wide32-2.ensures.0, c.wide32.ensures.0, c.u32_at.ensures)
+returns c = rw (c.from-2.ensures, c.from.ensures, c.u32_at.ensures)

@@ -8,7 +8,6 @@ pub put_wr-requires : goal.put_wr-requires
 put_wr-requires c =
     let f = wr-in _ _ _ _ _ (rw c.in-Wr.is at c.requires.p_value) in
     record {
-      b_len = c.requires.b_len;
       held_in = c.requires.held_in;
       bank_bound = omega (arith, f.0);
       column_bound = f.1;
@@ -18,7 +17,6 @@ put_wr-requires c =
 pub put_rd-requires : goal.put_rd-requires
 put_rd-requires c =
     record {
-      in_bounds = omega (arith, c.requires.b_len);
       bank_bound = rd-in _ _ _ _ _ (rw c.in-Rd.is at c.requires.p_value);
       t_bound = c.requires.t_bound;
     }

@@ -8,11 +8,11 @@ use Rattle.model_next.proofs.cols.put_data.Goals as goal
 pub returns-then-count-eq2 : goal.returns-then-count-eq2
 unfolding data_next
 returns-then-count-eq2 c =
-    let n = c.wide32-count.ensures.0 ∙ c.wide.ensures.0 in
+    let n = c.from-count.ensures in
     rw (eq-eqb (get_or c.args.b.now 728 0) 2 (sym n ∙ c.if-count-eq2.true), c.put_dualoct.ensures, c.store_data.ensures, n)
 
 pub returns-else-count-eq2 : goal.returns-else-count-eq2
 unfolding data_next
 returns-else-count-eq2 c =
-    let n = c.wide32-count.ensures.0 ∙ c.wide.ensures.0 in
+    let n = c.from-count.ensures in
     rw (ne_eqb (get_or c.args.b.now 728 0) 2 (λ e. c.if-count-eq2.false (n ∙ e)), c.put_dualoct-else-count-eq2.ensures, c.store_data.ensures, n)

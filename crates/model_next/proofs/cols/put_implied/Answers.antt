@@ -2,7 +2,7 @@
 use Rattle.model_next.proofs.cols.put_implied.Goals as goal
 
 pub returns-then-implied : goal.returns-then-implied
-returns-then-implied c = rw (c.if-implied.true, c.store_implied.ensures, c.wide32.ensures.0)
+returns-then-implied c = rw (c.if-implied.true, c.store_implied.ensures, c.from.ensures)
 
 pub returns-else-implied : goal.returns-else-implied
 returns-else-implied c = rw c.if-implied.false

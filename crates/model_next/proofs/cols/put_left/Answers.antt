@@ -21,16 +21,15 @@ unfolding left_next left_count
 returns-then-not-leaves_at c =
     let h = sym c.leaves_at.ensures ∙ c.if-not-leaves_at.true in
     record {
-      value = rw (h, c.wide32-count.ensures.0, c.wide.ensures.0);
+      value = rw (h, c.from-count.ensures);
       b_after = rw h;
     }
 
 pub put_out-requires : goal.put_out-requires
 put_out-requires c =
     let h = waiting c.args.s c.args.b.now c.args.t (sym c.leaves_at.ensures ∙ c.if-not-leaves_at.false) in
-    let n = c.wide32-count.ensures.0 ∙ c.wide.ensures.0 in
+    let n = c.from-count.ensures in
     record {
-      b_len = c.requires.b_len;
       b_bound = c.requires.held_in h;
       le_count = omega (arith, n, eqb-false (get_or c.args.b.now 728 0) 0 h);
       count_value = n;
@@ -40,13 +39,13 @@ put_out-requires c =
 pub overflow_sub-result : goal.overflow_sub-result
 overflow_sub-result c =
     let h = waiting c.args.s c.args.b.now c.args.t (sym c.leaves_at.ensures ∙ c.if-not-leaves_at.false) in
-    omega (arith, c.wide32-count.ensures.0 ∙ c.wide.ensures.0, eqb-false (get_or c.args.b.now 728 0) 0 h)
+    omega (arith, c.from-count.ensures, eqb-false (get_or c.args.b.now 728 0) 0 h)
 
 pub returns : goal.returns
 unfolding left_next left_count
 returns c =
     let h = sym c.leaves_at.ensures ∙ c.if-not-leaves_at.false in
     record {
-      value = rw (h, c.wide32-count.ensures.0, c.wide.ensures.0);
+      value = rw (h, c.from-count.ensures);
       b_after = rw (h, c.put_out.ensures);
     }

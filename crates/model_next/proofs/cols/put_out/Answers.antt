@@ -12,6 +12,6 @@ returns c =
       c.store_retire.ensures,
       c.second_at-data.ensures,
       c.u16_at-closes.ensures.0,
-      c.wide-h.ensures.0,
+      c.from-h.ensures,
       ← c.requires.count_value,
     )

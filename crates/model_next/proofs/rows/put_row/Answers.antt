@@ -25,7 +25,6 @@ pub put_refa-requires : goal.put_refa-requires
 unfolding row_fits
 put_refa-requires c =
     record {
-      b_len = c.requires.b_len;
       bank_bound = ltb-true _ 32 (rw c.in-Refa.is at c.requires.p_value);
       b_bound = c.requires.b_bound;
     }

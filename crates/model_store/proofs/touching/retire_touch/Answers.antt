@@ -1,8 +1,8 @@
 -- `model_store::touching::retire_touch` meets its contract: by the state of the buffer.
+use Rattle.std.specs.Prelude.{None}
 use Prim.Native.Nat.{ℕ}
 use mathlib.Core.Path.{◌≡◌, refl}
 use mathlib.Core.Bool.{Bool, true, false}
-use mathlib.Core.Option.{none}
 use Rattle.spec_rules.specs.declared.Bank.{Bank}
 use Rattle.spec_rules.specs.History.{only_write}
 use Rattle.spec_rules.specs.Channel.{waiting_of}
@@ -11,7 +11,7 @@ use Rattle.model_store.specs.Form.Touch.{retire_touch}
 use Rattle.model_store.proofs.touching.retire_touch.Goals as goal
 
 -- where no write waits, none leaves
-no_write : (leaves : Bool) (held : Bank) (mask : ℕ) → Nothing ≡ retire_touch (only_write leaves none) held mask
+no_write : (leaves : Bool) (held : Bank) (mask : ℕ) → Nothing ≡ retire_touch (only_write leaves None) held mask
 unfolding retire_touch
 no_write true held mask = refl
 no_write false held mask = refl

@@ -9,4 +9,4 @@ returns-then-m-eq1 c = rw (eq-eqb _ _ c.if-m-eq1.true)
 
 pub returns-else-m-eq1 : goal.returns-else-m-eq1
 unfolding mask_said
-returns-else-m-eq1 c = rw (c.wide32.ensures.0, c.wide32-else-m-eq1.ensures.0, ne_eqb _ _ c.if-m-eq1.false)
+returns-else-m-eq1 c = rw (c.from.ensures, c.from-else-m-eq1.ensures, ne_eqb _ _ c.if-m-eq1.false)

@@ -13,6 +13,3 @@ returns-then-unretired c =
       state_value = c.refused.ensures.1 ∙ h.0;
       room_after = h.1;
     }
-
-pub served-requires : goal.served-requires
-served-requires c = (c.requires.0, c.requires.1, sym c.unretired.ensures ∙ c.if-unretired.false)

@@ -24,4 +24,4 @@ returns-in-Flush c = rw c.in-Flush.is
 
 pub returns-in-Close : goal.returns-in-Close
 unfolding unretired
-returns-in-Close c = rw c.in-Close.is c.holds_up.ensures
+returns-in-Close c = rw c.in-Close.is c.waits.ensures

@@ -4,5 +4,5 @@ use Rattle.plan_by_value.proofs.drafts.waited.Goals as goal
 
 pub returns : goal.returns
 returns c s p e k =
-    rw (c.moved.ensures, c.is_late.ensures, c.clipped.ensures, c.wide32.ensures.0, c.wide32-slot.ensures.0)
+    rw (c.moved.ensures, c.is_late.ensures, c.clipped.ensures, c.from.ensures, c.from-slot.ensures)
     (draws-waited s p c.args.d e c.args.cycles k)

@@ -3,8 +3,7 @@ use Prim.Native.Nat.{ℕ, ◌+◌}
 use mathlib.Core.Path.{◌≡◌, refl}
 use mathlib.Core.Bool.{Bool, true, false, not}
 use lib.Dec.{leb, ltb}
-use borrow.Author.Tests.{leb-true, leb-false, lt-leb, lt-ltb, le-ltb}
-use native.Mathlib.Omega.{arith}
+use borrow.Author.Tests.{leb-true, leb-false, lt-ltb, le-ltb}
 use Rattle.plan_by_value.proofs.packets.is_late.Goals as goal
 
 above : (a b : ℕ) → ltb a b ≡ not (leb b a)
@@ -14,8 +13,5 @@ above a b = go (leb b a) refl
     go true e = le-ltb a b (leb-true b a e)
     go false e = lt-ltb a b (leb-false b a e)
 
-pub returns-then-slot-gt-HORIZON_WIDE : goal.returns-then-slot-gt-HORIZON_WIDE
-returns-then-slot-gt-HORIZON_WIDE c = rw (lt-leb (c.args.slot + c.args.delay) 1000000000 (omega (arith, c.if-slot-gt-HORIZON_WIDE.true)))
-
 pub returns : goal.returns
-returns c = rw c.wide32.ensures.0 (above 1000000000 (c.args.slot + c.args.delay))
+returns c = rw c.from.ensures (above 1000000000 (c.args.slot + c.args.delay))

@@ -1,5 +1,4 @@
 -- `plan_by_value::ranges::none_refreshed` meets its contract: no bank before x is under refresh.
-use Prim.Native.Nat.{◌-◌}
 use mathlib.Core.Path.{◌≡◌, refl, sym, ◌∙◌, ap₂}
 use mathlib.Core.Bool.{◌&&◌}
 use native.Mathlib.Omega.{arith}
@@ -10,14 +9,14 @@ use Rattle.plan_by_value.proofs.ranges.none_refreshed.Goals as goal
 
 pub loop-x-init : goal.loop-x-init
 unfolding all_up_to
-loop-x-init c = (omega arith, refl)
+loop-x-init c = refl
 
 pub loop-x-preserved : goal.loop-x-preserved
 loop-x-preserved c =
     let k = c.loop-x in
-    (omega (arith, c.loop-x-test.true), ap₂ ◌&&◌ k.invariant.1 c.not_refresh-right.ensures ∙ sym (all-next _ k.x))
+    ap₂ ◌&&◌ k.invariant c.not_refresh-right.ensures ∙ sym (all-next _ k.x)
 
 pub returns : goal.returns
 unfolding bank_count
 returns c =
-    let all : c.loop-x.x ≡ 32 = omega (arith, c.loop-x-test.false, c.loop-x.invariant.0) in rw all at c.loop-x.invariant.1
+    let all : c.loop-x.x ≡ 32 = omega arith in rw all at c.loop-x.invariant

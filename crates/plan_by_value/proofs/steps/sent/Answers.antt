@@ -18,7 +18,7 @@ returns c p e k =
     rw (
       c.added.ensures,
       c.is_late.ensures,
-      c.longer-delay.ensures,
+      c.max-delay.ensures,
       c.implied_delay.ensures,
       c.record_at-3.ensures,
       c.data_delay.ensures,

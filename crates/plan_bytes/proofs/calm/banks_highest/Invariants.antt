@@ -1,12 +1,9 @@
 -- `plan_bytes::calm::banks_highest` meets its contract.
-use Prim.Native.Nat.{◌*◌, ◌-◌, ◌≤◌}
+use Prim.Native.Nat.{◌*◌}
 use mathlib.Core.Path.{◌≡◌}
 use Rattle.spec_rules.specs.Checks.{max_up_to}
 use Rattle.plan_bytes.specs.Form.Numbers.{word}
 use Rattle.plan_bytes.proofs.calm.banks_highest.Given as goal
 
 abbrev pub invariant-loop-i : goal.invariant-loop-i
-invariant-loop-i l = (l.i ≤ 160) × (l.high ≡ max_up_to (λ k. word l.b (4 * k)) l.i)
-
-abbrev pub decreases-loop-i : goal.decreases-loop-i
-decreases-loop-i l = 160 - l.i
+invariant-loop-i l = l.high ≡ max_up_to (λ k. word l.b (4 * k)) l.i

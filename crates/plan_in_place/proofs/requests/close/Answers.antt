@@ -6,6 +6,5 @@ pub close_all-requires : goal.close_all-requires
 close_all-requires c =
     record {
       rested = c.requires.rested;
-      b_len = c.requires.b_len;
       fits = close-fits _ _ c.requires.rested c.args.room.now c.requires.in_bounds c.requires.b_value;
     }

@@ -9,7 +9,6 @@ pub flush_all-requires : goal.flush_all-requires
 flush_all-requires c =
     record {
       rested = rested-more _ 999999997 1000011000 _ (omega arith) c.requires.rested;
-      b_len = c.requires.b_len;
       fits = emptied-fits _ _ c.requires.rested c.args.room.now c.requires.in_bounds;
     }
 

@@ -1,28 +1,25 @@
 -- `plan_in_place::requests::plan` meets its contract.
 use mathlib.Core.Path.{refl}
-use native.Mathlib.Omega.{arith}
-use Rattle.plan_bytes.proofs.ReadyLaws.{ready-length, ready}
+use Rattle.std.proofs.Common.{rules}
 use Rattle.plan_bytes.proofs.Again.{rested-call}
 use Rattle.plan_in_place.proofs.Called.{called-read, called-write, called-refresh, called-wait, called-flush, close-few, called-close}
 use Rattle.plan_in_place.proofs.requests.plan.Goals as goal
 
 pub read-requires : goal.read-requires
 read-requires c =
-    let r = rested-call _ _ c.requires.s_value (λ i l. omega (arith, c.slice_known-1.given i)) c.requires.planner_value in
+    let r = rested-call _ _ c.requires.s_value (λ i l. search rules) c.requires.planner_value in
     record {
       rested = r;
-      b_len = ready-length _ _ _ (ready _ _ _ r);
       in_place = rw c.in-Read.is at c.requires.in_range;
       in_bounds = c.requires.in_bounds;
     }
 
 pub write-requires : goal.write-requires
 write-requires c =
-    let r = rested-call _ _ c.requires.s_value (λ i l. omega (arith, c.slice_known-1.given i)) c.requires.planner_value in
+    let r = rested-call _ _ c.requires.s_value (λ i l. search rules) c.requires.planner_value in
     let i = rw c.in-Write.is at c.requires.in_range in
     record {
       rested = r;
-      b_len = ready-length _ _ _ (ready _ _ _ r);
       in_place = i.0;
       mask_bound = i.1;
       in_bounds = c.requires.in_bounds;
@@ -30,37 +27,33 @@ write-requires c =
 
 pub refresh-requires : goal.refresh-requires
 refresh-requires c =
-    let r = rested-call _ _ c.requires.s_value (λ i l. omega (arith, c.slice_known-1.given i)) c.requires.planner_value in
+    let r = rested-call _ _ c.requires.s_value (λ i l. search rules) c.requires.planner_value in
     record {
       rested = r;
-      b_len = ready-length _ _ _ (ready _ _ _ r);
       in_bounds = c.requires.in_bounds;
     }
 
 pub wait-requires : goal.wait-requires
 wait-requires c =
-    let r = rested-call _ _ c.requires.s_value (λ i l. omega (arith, c.slice_known-1.given i)) c.requires.planner_value in
+    let r = rested-call _ _ c.requires.s_value (λ i l. search rules) c.requires.planner_value in
     record {
       rested = r;
-      b_len = ready-length _ _ _ (ready _ _ _ r);
     }
 
 pub flush-requires : goal.flush-requires
 flush-requires c =
-    let r = rested-call _ _ c.requires.s_value (λ i l. omega (arith, c.slice_known-1.given i)) c.requires.planner_value in
+    let r = rested-call _ _ c.requires.s_value (λ i l. search rules) c.requires.planner_value in
     record {
       rested = r;
-      b_len = ready-length _ _ _ (ready _ _ _ r);
       in_bounds = c.requires.in_bounds;
     }
 
 pub close-requires : goal.close-requires
 close-requires c =
-    let r = rested-call _ _ c.requires.s_value (λ i l. omega (arith, c.slice_known-1.given i)) c.requires.planner_value in
+    let r = rested-call _ _ c.requires.s_value (λ i l. search rules) c.requires.planner_value in
     record {
       rested = r;
-      b_len = ready-length _ _ _ (ready _ _ _ r);
-      b_value = rw c.in-Close.is at c.requires.planner_value_2;
+      b_value = rw c.in-Close.is at c.requires.retired;
       in_bounds = c.requires.in_bounds;
     }
 
@@ -70,65 +63,65 @@ walk-requires c = close-few _ _ _ _ _ _ _ (c.close.ensures.drawn, c.close.ensure
 pub returns-in-Read : goal.returns-in-Read
 returns-in-Read c =
     let all = called-read _ _ _ _ _ _ _ _ _ c.no_walk.ensures _ _ c.read.ensures in
-    record {
-      planner_after = rw c.in-Read.is all.0;
-      room_after = rw c.in-Read.is all.1.0;
-      records_value = rw c.in-Read.is all.1.1.0;
-      banks_value = rw c.in-Read.is all.1.1.1.0;
-      due_value = rw c.in-Read.is all.1.1.1.1;
-    }
+    rw c.in-Read.is (record {
+      planner_after = all.planner_after;
+      room_after = all.room_after;
+      records_value = all.records_value;
+      banks_value = all.banks_value;
+      due_value = all.due_value;
+    })
 
 pub returns-in-Write : goal.returns-in-Write
 returns-in-Write c =
     let all = called-write _ _ _ _ _ _ _ _ _ _ _ _ _ _ c.loaded.ensures c.write.ensures.due_value c.write.ensures.drawn in
-    record {
-      planner_after = rw c.in-Write.is all.0;
-      room_after = rw c.in-Write.is all.1.0;
-      records_value = rw c.in-Write.is all.1.1.0;
-      banks_value = rw c.in-Write.is all.1.1.1.0;
-      due_value = rw c.in-Write.is all.1.1.1.1;
-    }
+    rw c.in-Write.is (record {
+      planner_after = all.planner_after;
+      room_after = all.room_after;
+      records_value = all.records_value;
+      banks_value = all.banks_value;
+      due_value = all.due_value;
+    })
 
 pub returns-in-Refresh : goal.returns-in-Refresh
 returns-in-Refresh c =
     let all = called-refresh _ _ _ _ _ _ _ _ _ c.no_walk-in-Refresh.ensures c.refresh.ensures in
-    record {
-      planner_after = rw c.in-Refresh.is all.0;
-      room_after = rw c.in-Refresh.is all.1.0;
-      records_value = rw c.in-Refresh.is all.1.1.0;
-      banks_value = rw c.in-Refresh.is all.1.1.1.0;
-      due_value = rw c.in-Refresh.is all.1.1.1.1;
-    }
+    rw c.in-Refresh.is (record {
+      planner_after = all.planner_after;
+      room_after = all.room_after;
+      records_value = all.records_value;
+      banks_value = all.banks_value;
+      due_value = all.due_value;
+    })
 
 pub returns-in-Wait : goal.returns-in-Wait
 returns-in-Wait c =
     let all = called-wait _ _ _ _ _ 0 _ _ _ c.no_walk-in-Wait.ensures _ c.wait.ensures refl refl in
-    record {
-      planner_after = rw c.in-Wait.is all.0;
-      room_after = rw c.in-Wait.is all.1.0;
-      records_value = rw c.in-Wait.is all.1.1.0;
-      banks_value = rw c.in-Wait.is all.1.1.1.0;
-      due_value = rw c.in-Wait.is all.1.1.1.1;
-    }
+    rw c.in-Wait.is (record {
+      planner_after = all.planner_after;
+      room_after = all.room_after;
+      records_value = all.records_value;
+      banks_value = all.banks_value;
+      due_value = all.due_value;
+    })
 
 pub returns-in-Flush : goal.returns-in-Flush
 returns-in-Flush c =
     let all = called-flush _ _ _ _ _ _ _ _ _ c.no_walk-in-Flush.ensures c.flush.ensures in
-    record {
-      planner_after = rw c.in-Flush.is all.0;
-      room_after = rw c.in-Flush.is all.1.0;
-      records_value = rw c.in-Flush.is all.1.1.0;
-      banks_value = rw c.in-Flush.is all.1.1.1.0;
-      due_value = rw c.in-Flush.is all.1.1.1.1;
-    }
+    rw c.in-Flush.is (record {
+      planner_after = all.planner_after;
+      room_after = all.room_after;
+      records_value = all.records_value;
+      banks_value = all.banks_value;
+      due_value = all.due_value;
+    })
 
 pub returns-in-Close : goal.returns-in-Close
 returns-in-Close c =
     let all = called-close _ _ _ _ _ _ _ (c.close.ensures.drawn, c.close.ensures.banks_value) _ _ _ c.walk.ensures in
-    record {
-      planner_after = rw c.in-Close.is all.0;
-      room_after = rw c.in-Close.is all.1.0;
-      records_value = rw c.in-Close.is all.1.1.0;
-      banks_value = rw c.in-Close.is all.1.1.1.0;
-      due_value = rw c.in-Close.is all.1.1.1.1;
-    }
+    rw c.in-Close.is (record {
+      planner_after = all.planner_after;
+      room_after = all.room_after;
+      records_value = all.records_value;
+      banks_value = all.banks_value;
+      due_value = all.due_value;
+    })

@@ -10,7 +10,6 @@ close_near-to-requires c =
     let e = c.u16_at-bank.ensures.0 in
     record {
       rested = c.requires.rested;
-      b_len = c.requires.b_len;
       x_bound = rw e (bank-in _ _ c.requires.rested c.args.room.now c.requires.in_bounds);
       fits = rw e (refresh-first _ _ c.requires.rested c.args.room.now c.requires.in_bounds);
     }
@@ -22,7 +21,6 @@ refresh_bank-next-requires c =
     let a = cleared-after _ _ _ c.requires.rested (omega arith) _ _ w.planner in
     record {
       ready = ready _ _ _ a.ready;
-      b_len = a.size;
       bank_bound = rw e (bank-in _ _ c.requires.rested c.args.room.now c.requires.in_bounds);
       near_shut = rw e (cleared-shut _ _ _ c.requires.rested (omega arith) _ _ a.back);
       to_in_bounds = refresh-room _ _ c.requires.rested _ c.requires.in_bounds _ _ _ w;
@@ -31,4 +29,4 @@ refresh_bank-next-requires c =
 pub returns : goal.returns
 returns c =
     let e = c.u16_at-bank.ensures.0 in
-    refresh-drawn _ _ c.requires.rested _ c.requires.in_bounds _ _ _ (rw e at c.close_near-to.ensures) _ _ _ (rw e at c.refresh_bank-next.ensures) _ (rw (c.wide32.ensures.0, e) at c.put_u16.ensures)
+    refresh-drawn _ _ c.requires.rested _ c.requires.in_bounds _ _ _ (rw e at c.close_near-to.ensures) _ _ _ (rw e at c.refresh_bank-next.ensures) _ (rw (c.from.ensures, e) at c.put_u16.ensures)

@@ -5,6 +5,5 @@ use Rattle.record_bytes.proofs.quick.col_right.Goals as goal
 
 pub returns : goal.returns
 returns c =
-    let y = c.wrapping_sub_u32-sent in
     let a = c.args in
-    col-says a.device a.columns a.lo a.hi (a.device % 32) y.result (omega arith) y.ensures.value
+    col-says a.device a.columns a.lo a.hi (a.device % 32) _ (omega arith) (omega arith)

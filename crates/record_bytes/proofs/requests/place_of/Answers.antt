@@ -2,4 +2,4 @@
 use Rattle.record_bytes.proofs.requests.place_of.Goals as goal
 
 pub returns : goal.returns
-returns c = rw (c.wide-2.ensures.0, c.u16_at.ensures.0, c.wide.ensures.0)
+returns c = rw (c.from-2.ensures, c.u16_at.ensures.0, c.from.ensures)

@@ -31,4 +31,4 @@ returns-then-kind-eq4 c = rw c.if-kind-eq4.true
 
 pub returns : goal.returns
 unfolding request_of
-returns c = rw (last-kind (kind_of c.args.b.now) c.requires.1 c.if-kind.false c.if-kind-2.false c.if-kind-eq2.false c.if-kind-eq3.false c.if-kind-eq4.false)
+returns c = rw (last-kind (kind_of c.args.b.now) c.requires c.if-kind.false c.if-kind-2.false c.if-kind-eq2.false c.if-kind-eq3.false c.if-kind-eq4.false)

@@ -12,7 +12,7 @@ returns-then-sum-le-HORIZON_WIDE c =
     let a = c.args in
     let e : a.t.0 + a.delay ≤ 1000000000 = omega arith in
     record {
-      value = rw (le-leb _ _ e, c.wide32-2.ensures.0, c.wide32.ensures.0) refl;
+      value = rw (le-leb _ _ e, c.from-2.ensures, c.from.ensures) refl;
       result_value = rw (le-leb _ _ e) refl;
     }
 

@@ -1,11 +1,11 @@
 -- `settings::read_settings` meets its contract: the settings are those of the sixteen numbers, and the tests are the definition's.
+use Rattle.std.specs.Prelude.{Some}
 use mathlib.Core.Path.{◌≡◌, sym, ◌∙◌, ap}
 use mathlib.Core.Bool.{Bool, true, false, ◌&&◌}
 use borrow.Author.Tests.{eqb-true}
 use lib.Dec.{eqb}
 use lib.ListN.{length}
 use Rattle.settings.specs.declared.Settings.{Settings}
-use Rattle.settings.specs.declared.SettingsRead.TheVariants.{Accepted}
 use Rattle.settings.specs.Settings.{half, settings_in}
 use Rattle.settings.specs.Form.Numbers.{numbers_right, rest_right}
 use Rattle.settings.proofs.SettingsLaws.{settings_of, settings-same, both_true}
@@ -33,7 +33,7 @@ returns-then-rest_right c =
     let e : settings_of h.result ≡ settings_in b = settings-same h.result b h.ensures in
     let n : eqb (length b) 32 && numbers_right (half b) 15 ≡ true = sym c.numbers_right.ensures ∙ c.if-not-numbers_right.false in
     let r : rest_of (settings_in b) ≡ true = ap rest_of (sym e) ∙ sym c.rest_right.ensures ∙ c.if-rest_right.true in
-    rw (read-numbers b, n, r) (ap Accepted e)
+    rw (read-numbers b, n, r) (ap Some e)
 
 pub returns-else-rest_right : goal.returns-else-rest_right
 returns-else-rest_right c =

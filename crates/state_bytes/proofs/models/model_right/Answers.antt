@@ -11,5 +11,5 @@ returns-then-b-ne-MODEL_BYTES c =
 pub returns : goal.returns
 returns c =
     let a = c.args in
-    rw (c.channel_right.ensures, c.wide32.ensures.0, c.u64_at-refr.ensures)
+    rw (c.channel_right.ensures, c.from.ensures, c.u64_at-refr.ensures)
     (model-tested a.s a.b.now (λ i l. omega (arith, c.shared_slice_known-1.given i)) c.if-b-ne-MODEL_BYTES.false)

@@ -2,4 +2,4 @@
 use Rattle.state_bytes.proofs.reads.write_at.Goals as goal
 
 pub returns : goal.returns
-returns c = rw (c.u16_at.ensures.0, c.instant_at.ensures, c.wide-2.ensures.0, c.wide.ensures.0)
+returns c = rw (c.u16_at.ensures.0, c.instant_at.ensures, c.from-2.ensures, c.from.ensures)

@@ -7,8 +7,8 @@ unfolding write_right
 returns c =
     rw (
       c.u16_at.ensures.0,
-      c.wide.ensures.0,
+      c.from.ensures,
       c.u32_at-at.ensures,
       c.u16_at-tag.ensures.0,
-      c.wide-bank.ensures.0,
+      c.from-bank.ensures,
     )

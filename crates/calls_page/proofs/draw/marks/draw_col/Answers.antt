@@ -8,7 +8,7 @@ returns-in-Nocop c =
     let a = c.args in
     rw c.in-Nocop.is
     (nocop-drawn a.s rs a.start a.out.now _ e a.t _
-    (rw (c.wide32.ensures.0, c.col_letter.ensures, c.in-Nocop.is) at c.put_mark.ensures))
+    (rw (c.from.ensures, c.col_letter.ensures, c.in-Nocop.is) at c.put_mark.ensures))
 
 pub returns-in-Wr : goal.returns-in-Wr
 returns-in-Wr c =
@@ -16,7 +16,7 @@ returns-in-Wr c =
     let a = c.args in
     rw c.in-Wr.is
     (write-drawn a.s rs a.start a.out.now _ e a.t _ _ _ _
-    (rw (c.wide32.ensures.0, c.col_letter.ensures, c.in-Wr.is) at c.put_mark.ensures))
+    (rw (c.from.ensures, c.col_letter.ensures, c.in-Wr.is) at c.put_mark.ensures))
 
 pub returns-in-Rd : goal.returns-in-Rd
 returns-in-Rd c =
@@ -25,5 +25,5 @@ returns-in-Rd c =
     let told = c.in-Rd.is in
     rw told
     (read-drawn a.s rs a.start a.out.now _ e a.t _ _ _ _ _
-    (rw (c.wide32.ensures.0, c.col_letter.ensures, told) at c.put_mark.ensures)
-    (rw (c.wide32-in-Rd.ensures.0, c.wide32-in-Rd-2.ensures.0) at c.put_mark-in-Rd.ensures))
+    (rw (c.from.ensures, c.col_letter.ensures, told) at c.put_mark.ensures)
+    (rw (c.from-in-Rd.ensures, c.from-in-Rd-2.ensures) at c.put_mark-in-Rd.ensures))

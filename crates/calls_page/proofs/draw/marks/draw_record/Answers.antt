@@ -7,7 +7,7 @@ returns-in-RowAt c =
     λ rs e.
     let a = c.args in
     rw c.in-RowAt.is
-    (row-drawn a.s rs a.start a.out.now _ e _ _ (rw (c.wide32.ensures.0, c.row_letter.ensures) at c.put_mark.ensures))
+    (row-drawn a.s rs a.start a.out.now _ e _ _ (rw (c.from.ensures, c.row_letter.ensures) at c.put_mark.ensures))
 
 pub returns-in-ColAt : goal.returns-in-ColAt
 returns-in-ColAt c = λ rs e. rw c.in-ColAt.is (c.draw_col.ensures rs e)
@@ -17,4 +17,4 @@ returns-in-DataOf c =
     λ rs e.
     let a = c.args in
     rw c.in-DataOf.is
-    (data-drawn a.s rs a.start a.out.now _ e _ _ (rw c.wide32-in-DataOf.ensures.0 at c.put_mark-in-DataOf.ensures))
+    (data-drawn a.s rs a.start a.out.now _ e _ _ (rw c.from-in-DataOf.ensures at c.put_mark-in-DataOf.ensures))

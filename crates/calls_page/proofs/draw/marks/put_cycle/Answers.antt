@@ -12,7 +12,7 @@ returns-then-t-start c =
 pub returns-then-k-lt64 : goal.returns-then-k-lt64
 returns-then-k-lt64 c =
     let a = c.args in
-    paint-one a.line a.start a.t a.letter a.out.now (73 * a.line + 8 + (a.t - (a.start + 4))) (omega arith) (omega arith) (omega arith) (omega arith) (omega arith)
+    paint-one a.line a.start a.t a.letter a.out.now (73 * a.line + 8 + (a.t - (c.from-start.result + 4))) (omega arith) (omega arith) (omega arith) (omega arith) (omega arith)
 
 pub returns-else-k-lt64 : goal.returns-else-k-lt64
 returns-else-k-lt64 c =

@@ -1,5 +1,5 @@
 -- `latest_start` meets its contract. The loop's invariant: no start after i has the property; and where the flag says so, the run after i
--- is refused before record j. The measure is i.
+-- is refused before record j.
 use Prim.Native.Nat.{ℕ, ◌<◌}
 use mathlib.Core.Path.{◌≡◌, refl, sym, ap, ◌∙◌}
 use mathlib.Core.Bool.{Bool, true, false}
@@ -20,12 +20,12 @@ use Rattle.check_list.proofs.shortest.starts.latest_start.Goals.{then-to_try+els
 
 pub loop-i-init : goal.loop-i-init
 unfolding shortest_start
-loop-i-init c = (omega arith, (refl, λ e. not-both false e refl))
+loop-i-init c = (refl, λ e. not-both false e refl)
 
 pub try_from-t-requires : goal.try_from-t-requires
 try_from-t-requires c =
     record {
-      i_le_j = (c.loop-i.invariant.0, c.requires.j_bound);
+      i_le_j = (c.loop-i.auto.i, c.requires.j_bound);
       list_value = c.requires.list_value;
     }
 
@@ -36,7 +36,7 @@ returns-then-t c =
     let a = c.args in
     let f : ℕ → Bool = still_breaks (context_of a.s) (records_of a.s a.list.now) a.rule a.j in
     let e : f k.i ≡ true = ap (λ (t : Tried). t.found) (sym c.try_from-t.ensures) ∙ c.if-t.true in
-    sym (k.invariant.1.0 ∙ last-here f k.i (omega arith) e)
+    sym (k.invariant.0 ∙ last-here f k.i (omega arith) e)
 
 pub loop-i-preserved : goal.loop-i-preserved
 loop-i-preserved c =
@@ -45,17 +45,15 @@ loop-i-preserved c =
     let cx : Context = context_of a.s in
     let rs : List Record = records_of a.s a.list.now in
     let m : ℕ = shortest_start cx rs a.rule a.j in
-    let in_list : a.j < length rs = rw (length-records a.s a.list.now) c.requires.j_bound in (
-      omega arith,
-      elim c.if-to_try.branch [
-        | then-to_try+else-t w ↦ rw w.early-is (turn-tried cx rs a.rule a.j m k.i k.early w.try_from-t.result c.loop-i-test.true k.invariant.1 w.try_from-t.ensures w.if-t.false)
-        | else-to_try w ↦ rw w.early-is (turn-skipped cx rs a.rule a.j m k.i k.early c.loop-i-test.true in_list k.invariant.1 (sym c.to_try.ensures ∙ w.if-to_try.false))
-      ],
-    )
+    let in_list : a.j < length rs = rw (length-records a.s a.list.now) c.requires.j_bound in
+    elim c.if-to_try.branch [
+      | then-to_try+else-t w ↦ rw w.early-is (turn-tried cx rs a.rule a.j m k.i k.early w.try_from-t.result c.loop-i-test.true k.invariant w.try_from-t.ensures w.if-t.false)
+      | else-to_try w ↦ rw w.early-is (turn-skipped cx rs a.rule a.j m k.i k.early c.loop-i-test.true in_list k.invariant (sym c.to_try.ensures ∙ w.if-to_try.false))
+    ]
 
 pub returns : goal.returns
 unfolding last_true
 returns c =
     let k = c.loop-i in
     let z : k.i ≡ 0 = omega arith in
-    sym (k.invariant.1.0 ∙ rw z refl)
+    sym (k.invariant.0 ∙ rw z refl)

@@ -5,12 +5,12 @@ use Rattle.spec_check.specs.Check.{known}
 use Rattle.check_list.proofs.shortest.RunLaws.{record-known}
 use Rattle.check_list.proofs.shortest.starts.opens_at.Goals as goal
 
-pub returns-in-NoRecord : goal.returns-in-NoRecord
+pub returns-in-None : goal.returns-in-None
 unfolding traits known
-returns-in-NoRecord c =
+returns-in-None c =
     let a = c.args in
-    rw (record-known a.s a.list.now a.i c.requires, sym c.read_record-read.ensures ∙ c.in-NoRecord.is)
+    rw (record-known a.s a.list.now a.i c.requires, sym c.read_record-read.ensures ∙ c.in-None.is)
 
-pub returns-in-Known : goal.returns-in-Known
+pub returns-in-Some : goal.returns-in-Some
 unfolding known
-returns-in-Known c = rw (record-known c.args.s c.args.list.now c.args.i c.requires, sym c.read_record-read.ensures ∙ c.in-Known.is) c.opens.ensures
+returns-in-Some c = rw (record-known c.args.s c.args.list.now c.args.i c.requires, sym c.read_record-read.ensures ∙ c.in-Some.is) c.opens.ensures

@@ -4,4 +4,4 @@ use Rattle.state_bytes.proofs.stores.rows.store_act.Goals as goal
 
 pub returns : goal.returns
 unfolding act_stored
-returns c = rw (c.store_row.ensures, c.put_u16.ensures, c.wide32.ensures.0, c.put_u32-2.ensures, c.put_u32.ensures)
+returns c = rw (c.store_row.ensures, c.put_u16.ensures, c.from.ensures, c.put_u32-2.ensures, c.put_u32.ensures)

@@ -1,7 +1,0 @@
--- `no_word` meets its contract: the number is the refusal's.
-use Rattle.calls_word.specs.Words.{no_word_answer}
-use Rattle.calls_word.proofs.no_word.Goals as goal
-
-pub returns : goal.returns
-unfolding no_word_answer
-returns c = rw c.answer.ensures
