@@ -11,6 +11,7 @@ import sys
 import calls
 
 REGISTERS = 16  # answers of up to so many bytes come in registers on x86-64
+WIDTH = {"i8": 1, "i32": 4, "float": 4, "i64": 8, "ptr": 8}  # on x86-64
 
 
 def expected(parameters, answer, structs):
@@ -63,6 +64,16 @@ def core(name, given, words, bits):
                   "  store i64 %r0, ptr %out, align 4", "  store i64 %r1, ptr %next, align 4"]
     lines.append("  ret void")
     return "define hidden void @%s_core(%s) nounwind {\n%s\n}\n" % (name, ", ".join(taken), "\n".join(lines))
+
+
+def by_parts(load):
+    """A pair loaded by its parts. The module stores them where x86-64 has them, and in a pair of another target they may stand elsewhere:
+    after a byte a pointer of 32 bits stands at 4."""
+    pair, first, second, place = load.groups()
+    at = -(-WIDTH[first] // WIDTH[second]) * WIDTH[second]
+    return ("  {0}.first = load {1}, ptr {3}\n  {0}.place = getelementptr i8, ptr {3}, i64 {4}\n  {0}.second = load {2}, ptr {0}.place\n"
+            "  {0}.half = insertvalue {{ {1}, {2} }} poison, {1} {0}.first, 0\n"
+            "  {0} = insertvalue {{ {1}, {2} }} {0}.half, {2} {0}.second, 1\n").format(pair, first, second, place, at)
 
 
 def c_names(parameters, header):
@@ -120,6 +131,9 @@ def main(module, bits, out):
     text, structs, found = open(module, encoding="utf-8").read(), calls.structs(), calls.calls()
     text = re.sub(r"^target (datalayout|triple) = .*\n", "", text, flags=re.M)
     text = re.sub(r'"probe-stack"="inline-asm"|"target-cpu"="[^"]*"', "", text)
+    text = re.sub(r"^  (%r\d+) = load \{ (\w+), (\w+) \}, ptr (%r\d+), align \d+\n", by_parts, text, flags=re.M)
+    if re.search(r"(load|store) \{|\{ \w+, \w+ \}, ptr", text):
+        raise SystemExit("shim.py: a pair is loaded or stored in another form")
     names = header_names(found, structs)
     cores, shims = [], ["/* Made by host/boards/shim.py. */\n#include \"rdram.h\"\n"]
     exported = set(re.findall(r"^define (?!internal)[^@\n]*@([\w.$]+)\(", text, re.M))
