@@ -56,7 +56,7 @@ module _ (cx : Context) (b : List ℕ) (w : Bytes b) (h : model_right cx b ≡ t
 
   -- no broken rule: what the store was asked for, and the next state unless that is refused
   module _ (t : Touch) (k : Asks cx m r t) (e : judged cx m.channel r ≡ 0) where
-    passed : (room : ℕ) → touch_answer t room ≡ record_answer cx m r room
+    pub passed : (room : ℕ) → touch_answer t room ≡ record_answer cx m r room
     unfolding record_answer
     passed room = rw e (sym (k.answer room))
 
@@ -68,7 +68,7 @@ module _ (cx : Context) (b : List ℕ) (w : Bytes b) (h : model_right cx b ≡ t
         go true = refl
         go false = back
 
-    took-store : (store : List ℕ) (room : ℕ) → touch_store cx t m.bytes store ≡ take_store cx m r store room
+    pub took-store : (store : List ℕ) (room : ℕ) → touch_store cx t m.bytes store ≡ take_store cx m r store room
     unfolding take_store
     took-store store room = rw (← passed room) (go (is_taken (touch_answer t room)) refl)
       where
@@ -76,7 +76,7 @@ module _ (cx : Context) (b : List ℕ) (w : Bytes b) (h : model_right cx b ≡ t
         go true f = sym (k.stored store)
         go false f = refused-store cx t m.bytes store room f
 
-    took-room : (store room : List ℕ) → splice room 0 (touch_bytes cx t store (length room)) ≡ take_room cx m r store room
+    pub took-room : (store room : List ℕ) → splice room 0 (touch_bytes cx t store (length room)) ≡ take_room cx m r store room
     unfolding take_room
     took-room store room =
         let x : touch_bytes cx t store (length room) ≡ cond (is_taken (record_answer cx m r (length room))) (bytes_read (read_of cx m.channel r) store) [] =

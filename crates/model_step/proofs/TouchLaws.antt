@@ -122,7 +122,7 @@ right-sound cx b r =
     let v = and_right (channel_spare b && zero_part b 754 6) _ (and_right (eqb (length b) model_length) _ r) in
     valid-sound cx (model_in b).channel (and_left (channel_valid cx (model_in b).channel) _ v)
 
-asks : (cx : Context) → valid cx.settings ≡ true → (b : List ℕ) → model_right cx b ≡ true → (r : Record) → record_fits cx.settings r ≡ true
+pub asks : (cx : Context) → valid cx.settings ≡ true → (b : List ℕ) → model_right cx b ≡ true → (r : Record) → record_fits cx.settings r ≡ true
     → Asks cx (model_in b) r (touch_for cx (model_in b).channel r)
 unfolding touch_for
 asks cx v b h r f =

@@ -65,7 +65,7 @@ get_d_set l k j v h = go (eqb j k) refl
     go false e = get_or-set_other l k j v 0 (eqb-false j k e)
 
 module _ (store : List ℕ) (at mask : ℕ) (new : List ℕ) where
-  length-up-to : (n : ℕ) → length (masked_up_to store at mask new n) ≡ length store
+  pub length-up-to : (n : ℕ) → length (masked_up_to store at mask new n) ≡ length store
   unfolding masked_up_to
   length-up-to zero = refl
   length-up-to (suc n) = go (governs mask n) (length-up-to n)
@@ -95,7 +95,7 @@ module _ (store : List ℕ) (at mask : ℕ) (new : List ℕ) where
   and_yes true x y = refl
   and_yes false x y = refl
 
-  get_or-outside : (n j : ℕ) → at + n ≤ length store → (j < at ⊎ at + n ≤ j) → get_or (masked_up_to store at mask new n) j 0 ≡ get_or store j 0
+  pub get_or-outside : (n j : ℕ) → at + n ≤ length store → (j < at ⊎ at + n ≤ j) → get_or (masked_up_to store at mask new n) j 0 ≡ get_or store j 0
   unfolding masked_up_to
   get_or-outside zero j h o = refl
   get_or-outside (suc n) j h o =
@@ -103,7 +103,7 @@ module _ (store : List ℕ) (at mask : ℕ) (new : List ℕ) where
       get_or-next n j (omega arith) ∙ rw (ne_eqb j (at + n) ne) (and_no (governs mask n) _ _)
       ∙ get_or-outside n j (omega arith) (⊎_elim (λ (l : j < at). inl l) (λ (l : at + suc n ≤ j). inr (omega arith)) o)
 
-  get_or-inside : (n i : ℕ) → at + n ≤ length store → i < n
+  pub get_or-inside : (n i : ℕ) → at + n ≤ length store → i < n
       → get_or (masked_up_to store at mask new n) (at + i) 0 ≡ cond (governs mask i) (get_or new i 0) (get_or store (at + i) 0)
   get_or-inside zero i h l = absurd (omega arith)
   get_or-inside (suc n) i h l = get_or-next n (at + i) (omega arith) ∙ go (eqb (at + i) (at + n)) refl (λ m. get_or-inside n i (omega arith) m)

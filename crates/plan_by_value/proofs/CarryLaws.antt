@@ -2,8 +2,9 @@
 -- Assumes nothing.
 use Rattle.std.specs.Prelude.{Option, None, Some}
 use Prim.Native.Nat.{ℕ}
-use mathlib.Core.Path.{◌≡◌, refl, ◌∙◌}
-use mathlib.Core.Bool.{Bool, true, false, ◌&&◌, cond}
+use mathlib.Core.Path.{◌≡◌, refl, sym, ap, ◌∙◌}
+use mathlib.Core.Bool.{Bool, true, false, ◌&&◌, ◌||◌, cond, and-false}
+use mathlib.Core.List.{List, [], ◌∷◌}
 use native.Mathlib.Omega.{arith}
 use Rattle.settings.specs.declared.Settings.{Settings}
 use Rattle.settings.specs.declared.DataAt.{DataAt}
@@ -14,7 +15,7 @@ use Rattle.spec_rules.specs.declared.Buffer.{Buffer}
 use Rattle.spec_rules.specs.declared.Buffer.TheVariants.{Empty, One, Two}
 use Rattle.spec_rules.specs.Neighbour.{context_of}
 use Rattle.spec_rules.specs.Packets.{traits}
-use Rattle.spec_rules.specs.History.{only_write, first, leaving, retire_implies, only, has}
+use Rattle.spec_rules.specs.History.{only_write, first, leaving, retire_implies, any_write, only, has}
 use Rattle.spec_rules.specs.Rules.{implied_delay}
 use Rattle.spec_rules.specs.Channel.{waiting_of, leaving_of}
 use Rattle.spec_plan.specs.declared.PlannerState.{PlannerState}
@@ -102,3 +103,16 @@ module _ (s : Settings) (p : PlannerState) (q : Record) where
       go : (x : Seen) → seen_of q ≡ x → cond (retires_by s held x && held.close) s.offp 0 ≡ implied_delay (context_of s) (leaving_of (context_of s) p.channel q)
       go (Packet v) e = rw (leaving-is s p.channel.buffer p.channel.due q v (seen-shows q v e)) (oldest p.channel.buffer v)
       go (Data t) e = rw (data-keeps s p q t e)
+
+-- ---- waiting writes that pass one of two tests
+
+any-either : (f g : Write → Bool) (c : Bool) (ws : List Write) → any_write (λ w. f w || (c && g w)) ws ≡ any_write f ws || (c && any_write g ws)
+any-either f g c [] = sym (and-false c)
+any-either f g c (w ∷ ws) = ap (λ (b : Bool). (f w || (c && g w)) || b) (any-either f g c ws) ∙ go (f w) (g w) c (any_write f ws) (any_write g ws)
+  where
+    go : (a b c x y : Bool) → (a || (c && b)) || (x || (c && y)) ≡ (a || x) || (c && (b || y))
+    go true b c x y = refl
+    go false b false x y = refl
+    go false true true true y = refl
+    go false true true false y = refl
+    go false false true x y = refl

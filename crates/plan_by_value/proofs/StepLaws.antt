@@ -139,6 +139,13 @@ module _ (s : Settings) (from : PlannerState) where
           → (packet_at d.planner (clip t) r ≡ (sent cx r e).planner) × ((sent cx r e).records ≡ e.records ++ (placed_by s d.planner (clip t) r ∷ []))
       same q h = rw (clip-in t _ h, q) (refl, refl)
 
+  -- NOCOPs by the same test
+  pub while-ext : (test other : List Write → Bool) → ((ws : List Write) → test ws ≡ other ws) → (e : Draft) → flushed_while cx test e ≡ flushed_while cx other e
+  unfolding flushed_while
+  while-ext test other same e =
+      let z : Draft = when (other (waiting e)) (flushed cx) e in
+      rw (same (waiting e), same (waiting z))
+
   -- ---- no step undoes lateness
 
   flushed-grows : (e : Draft) → Grows s from e (flushed cx e)

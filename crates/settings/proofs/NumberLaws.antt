@@ -1,21 +1,31 @@
 -- The tests of numbers in two tables are those of the settings.
 -- Assumes nothing.
 use Rattle.std.specs.Prelude.{None, Some}
-use Prim.Native.Nat.{ℕ}
+use Prim.Native.Nat.{ℕ, ◌<◌}
 use mathlib.Core.Path.{◌≡◌, refl, ◌∙◌}
 use mathlib.Core.Bool.{Bool, true, false, cond, ◌&&◌, and_assoc, and-true}
 use mathlib.Core.List.{List}
 use native.Mathlib.Omega.{arith}
-use borrow.Author.Tests.{le-leb}
+use borrow.Author.Tests.{le-leb, ltb-true}
 use lib.Dec.{eqb, leb, ltb}
 use lib.ListN.{length, get_or}
 use Rattle.num.specs.Bytes.{Bytes}
 use Rattle.num.specs.Search.{all_up_to}
-use Rattle.num.proofs.SearchLaws.{all-next}
+use Rattle.num.proofs.SearchLaws.{all-at, all-next}
 use Rattle.num.proofs.PartLaws.{number_fits}
 use Rattle.settings.specs.declared.Settings.{Settings}
 use Rattle.settings.specs.Settings.{timings, lows, highs, between, timings_right, valid, half, settings_in, settings_read}
 use Rattle.settings.specs.Form.Numbers.{leasts, mosts, number_right, numbers_right, figures, rest_right}
+
+-- ---- the tables
+
+pub least_fits : (i : ℕ) → i < 16 → get_or leasts i 0 < 0x10000
+unfolding all_up_to leasts lows
+least_fits i l = ltb-true _ _ (all-at (λ k. ltb (get_or leasts k 0) 0x10000) 16 i refl l)
+
+pub most-fits : (i : ℕ) → i < 16 → get_or mosts i 0 < 0x10000
+unfolding all_up_to mosts highs
+most-fits i l = ltb-true _ _ (all-at (λ k. ltb (get_or mosts k 0) 0x10000) 16 i refl l)
 
 -- ---- the tests
 

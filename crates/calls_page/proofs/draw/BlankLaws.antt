@@ -7,14 +7,25 @@ use mathlib.Core.Bool.{Bool, true, false, cond}
 use mathlib.Core.List.{List, []}
 use native.Mathlib.Omega.{arith}
 use lib.Dec.{eqb, ltb}
-use lib.ListN.{length, get_or}
-use lib.Seq.{ext_get_or}
-use borrow.Author.Tests.{eqb-false, ne_eqb, ltb-true, ltb-false}
+use lib.ListN.{length, get_or, set}
+use lib.Seq.{ext_get_or, get_or-set_same, get_or-set_other}
+use borrow.Author.Tests.{eqb-true, eqb-false, ne_eqb, ltb-true, ltb-false}
 use Rattle.settings.specs.declared.Settings.{Settings}
 use Rattle.spec_page.specs.Page.{cell, scale, page, page_bytes}
 use Rattle.spec_page.specs.Form.Bytes.{byte_by, characters}
 use Rattle.spec_page.proofs.PageLaws.{length-page, page-byte}
 use Rattle.calls_page.specs.Form.Paint.{blank}
+
+-- one byte more
+pub below_next : (f : ℕ → ℕ) (l : List ℕ) (i x : ℕ) → i < length l → ((k : ℕ) → k < i → get_or l k 0 ≡ f k) → x ≡ f i
+    → (k : ℕ) → k < i + 1 → get_or (set l i x) k 0 ≡ f k
+below_next f l i x h below e k m = go (eqb k i) refl
+  where
+    go : (b : Bool) → eqb k i ≡ b → get_or (set l i x) k 0 ≡ f k
+    go true q = let z : k ≡ i = eqb-true k i q in rw z (get_or-set_same l i x 0 h ∙ e)
+    go false q =
+        let z : k ≡ i → ⊥ = eqb-false k i q in
+        get_or-set_other l i k x 0 z ∙ below k (omega arith)
 
 blank-characters : (s : Settings) (n c : ℕ) → blank n c ≡ characters s [] n c
 unfolding blank characters cell
